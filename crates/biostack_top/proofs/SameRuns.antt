@@ -14,7 +14,7 @@ use Rattle.decl_text.specs.Accepting.{Means}
 use Rattle.decl_text.specs.Known.{Known}
 use Rattle.run_machine.specs.declared.event.Event.{Event}
 use Rattle.run_machine.specs.Events.{pool_of}
-use Rattle.run_machine.specs.Lines.{rests}
+use Rattle.run_machine.specs.Submissions.{rests}
 use Rattle.run_machine.specs.Opened.{Scenario, at, duties, keepers, most_writers, no_task, objects, places_of, scene, script_at, setup, start, tasks, todos_of, writers}
 use Rattle.run_machine.specs.Runs.{State, IsRun}
 use Rattle.run_machine.specs.Scene.{Scene, Setup, is_disk}

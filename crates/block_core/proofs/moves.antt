@@ -5,7 +5,7 @@ pub mod Listed
 pub mod Deltas
 pub mod BookMaps
 pub mod StepsTold
-pub mod LineSteps
+pub mod SubmissionSteps
 pub mod WriterSteps
 pub mod CompleterSteps
 pub mod StepMoves

@@ -3,7 +3,7 @@ pub mod SumParts
 pub mod Outs
 pub mod Counts
 pub mod Owns
-pub mod TaskLines
+pub mod TaskSubmissions
 pub mod FactsKept
 pub mod DoneOnce
 pub mod Runs

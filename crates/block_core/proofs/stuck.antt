@@ -1,7 +1,7 @@
 pub mod NothingWaits
 pub mod WaitersBelow
 pub mod FreeEvents
-pub mod LinesFree
+pub mod SubmissionsFree
 pub mod CompletersFree
 pub mod Frees
 pub mod Stuck

@@ -4,7 +4,7 @@ use Rattle.stack_base.specs.declared.ids.DevId.{DevId}
 use Rattle.bio_records.specs.declared.bio.Pad.{Pad}
 use Rattle.bio_records.specs.Items.{Item}
 use Rattle.run_machine.specs.Scene.{Scene}
-use Rattle.run_machine.specs.Lines.{Doing, Rests, Drives, Copies, Breaks, Line}
+use Rattle.run_machine.specs.Submissions.{Doing, Rests, Drives, Copies, Breaks, Submission}
 use Rattle.run_machine.specs.Tasks.{Carried, Empty, Brings, Carries, Fails, TaskState, Writer, Rescuer, Completer, Keeper}
 use Rattle.run_machine.specs.Runs.{State}
 
@@ -15,8 +15,8 @@ DoingHolds item (Drives bio ask) = bio ≡ item
 DoingHolds item (Copies bio master leg want) = ⊥
 DoingHolds item (Breaks breach kept) = ⊥
 
-abbrev pub LineHolds : Item Pad → Line → Type 0
-LineHolds item line = DoingHolds item line.doing ⊎ Contains line.lists.list0 item ⊎ Contains line.lists.list1 item
+abbrev pub SubmissionHolds : Item Pad → Submission → Type 0
+SubmissionHolds item submission = DoingHolds item submission.doing ⊎ Contains submission.lists.list0 item ⊎ Contains submission.lists.list1 item
 
 abbrev pub CarriedHolds : Item Pad → Carried → Type 0
 CarriedHolds item Empty = ⊥
@@ -24,15 +24,15 @@ CarriedHolds item (Brings bio status) = bio ≡ item
 CarriedHolds item (Carries writer closed) = ⊥
 CarriedHolds item (Fails breach kept) = ⊥
 
--- this is the line of a task
-abbrev pub LineOf : TaskState → Line → Type 0
-LineOf (Writer number todo taken line) other = line ≡ other
-LineOf (Rescuer dev line) other = line ≡ other
-LineOf (Completer disk carried) other = ⊥
-LineOf (Keeper keeping) other = ⊥
+-- this is the submission of a task
+abbrev pub SubmissionOf : TaskState → Submission → Type 0
+SubmissionOf (Writer number todo taken submission) other = submission ≡ other
+SubmissionOf (Rescuer dev submission) other = submission ≡ other
+SubmissionOf (Completer disk carried) other = ⊥
+SubmissionOf (Keeper keeping) other = ⊥
 
-abbrev pub IsInLine : Scene → State → Item Pad → Type 0
-IsInLine scene state item = (place : ℕ) × (line : Line) × (place < scene.tasks) × LineOf (state.task place) line × LineHolds item line
+abbrev pub IsInSubmission : Scene → State → Item Pad → Type 0
+IsInSubmission scene state item = (place : ℕ) × (submission : Submission) × (place < scene.tasks) × SubmissionOf (state.task place) submission × SubmissionHolds item submission
 
 abbrev pub IsBrought : Scene → State → Item Pad → Type 0
 IsBrought scene state item =
@@ -47,4 +47,4 @@ IsInDisk scene state item = (dev : ℕ) × (dev < scene.setup.count) × Contains
 
 -- anywhere of these
 abbrev pub IsAtWork : Scene → State → Item Pad → Type 0
-IsAtWork scene state item = IsInLine scene state item ⊎ IsBrought scene state item ⊎ IsRescued scene state item ⊎ IsInDisk scene state item
+IsAtWork scene state item = IsInSubmission scene state item ⊎ IsBrought scene state item ⊎ IsRescued scene state item ⊎ IsInDisk scene state item

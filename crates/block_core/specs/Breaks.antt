@@ -8,7 +8,7 @@ use Rattle.bio_books.specs.Drops.{Ended}
 use Rattle.bio_books.specs.Drops as end
 use Rattle.run_machine.specs.declared.event.Event.{Event}
 use Rattle.run_machine.specs.Scene.{Scene}
-use Rattle.run_machine.specs.Lines.{Doing, Rests, Drives, Copies, Breaks}
+use Rattle.run_machine.specs.Submissions.{Doing, Rests, Drives, Copies, Breaks}
 use Rattle.run_machine.specs.Requests.{Reply, LinkedTo, DroppedTo, Spent}
 use Rattle.run_machine.specs.Tasks.{TaskState, Writer, Rescuer, Completer, Keeper, Carried, Empty, Brings, Carries, Fails, Keeping, Keeps, Stops, Duty, Resizes, request, look_of}
 use Rattle.run_machine.specs.Objects.{Objects, Serves}
@@ -57,8 +57,8 @@ stopped (Keeps duties) = false
 stopped (Stops breach) = true
 
 abbrev pub is_broken : TaskState → Bool
-is_broken (Writer number todo taken line) = broke_in line.doing
-is_broken (Rescuer dev line) = broke_in line.doing
+is_broken (Writer number todo taken submission) = broke_in submission.doing
+is_broken (Rescuer dev submission) = broke_in submission.doing
 is_broken (Completer disk carried) = failed carried
 is_broken (Keeper keeping) = stopped keeping
 

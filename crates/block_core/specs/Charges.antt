@@ -15,7 +15,7 @@ use Rattle.bio_records.specs.Items.{Item}
 use Rattle.bio_books.specs.Books.{VectorItem, SlipItem, Holding, parent_of}
 use Rattle.run_machine.specs.declared.event.Event.{Event}
 use Rattle.run_machine.specs.Scene.{Setup, Scene, tree_at}
-use Rattle.run_machine.specs.Lines.{Want, Takes, Punts, Links, ToPush, ToCut, ToRecord, ToMaster, Doing, Rests, Drives, Copies, Breaks}
+use Rattle.run_machine.specs.Submissions.{Want, Takes, Punts, Links, ToPush, ToCut, ToRecord, ToMaster, Doing, Rests, Drives, Copies, Breaks}
 use Rattle.run_machine.specs.Tasks.{Todo, Gathered, NoBio, HasBio, HasBoth, Duty, Resizes, Starts, Keeps, Stops, TaskState, Writer, Rescuer, Completer, Keeper, needs_vector}
 use Rattle.run_machine.specs.Opened.{Scenario, scene, start}
 use Rattle.run_machine.specs.Runs.{State, IsRun}
@@ -132,15 +132,15 @@ doing_spent price (Copies bio master leg want) = want_spent price want
 doing_spent price (Breaks breach kept) = 0
 
 abbrev pub task_spent : (Paid → ℕ) → TaskState → ℕ
-task_spent price (Writer number todo taken line) = doing_spent price line.doing
-task_spent price (Rescuer dev line) = doing_spent price line.doing
+task_spent price (Writer number todo taken submission) = doing_spent price submission.doing
+task_spent price (Rescuer dev submission) = doing_spent price submission.doing
 task_spent price (Completer disk carried) = 0
 task_spent price (Keeper keeping) = 0
 
 -- what the keeper has still to do, and what that costs
 abbrev pub task_duties : TaskState → ℕ
-task_duties (Writer number todo taken line) = 0
-task_duties (Rescuer dev line) = 0
+task_duties (Writer number todo taken submission) = 0
+task_duties (Rescuer dev submission) = 0
 task_duties (Completer disk carried) = 0
 task_duties (Keeper (Keeps duties)) = length duties
 task_duties (Keeper (Stops breach)) = 0
@@ -153,8 +153,8 @@ duty_charge price (Resizes pool min later) = cost price ReserveChange
 duty_charge price (Starts round later) = cost price LaterRound
 
 abbrev pub task_charge : (Paid → ℕ) → TaskState → ℕ
-task_charge price (Writer number todo taken line) = 0
-task_charge price (Rescuer dev line) = 0
+task_charge price (Writer number todo taken submission) = 0
+task_charge price (Rescuer dev submission) = 0
 task_charge price (Completer disk carried) = 0
 task_charge price (Keeper (Keeps duties)) = sum_by (duty_charge price) duties
 task_charge price (Keeper (Stops breach)) = 0

@@ -13,7 +13,7 @@ use Rattle.bio_records.specs.Runs.{place_number}
 use Rattle.run_machine.specs.declared.event.Event.{Event}
 use Rattle.run_machine.specs.Scene.{Setup, Scene, tree_at}
 use Rattle.run_machine.specs.Requests.{Reply, Completed}
-use Rattle.run_machine.specs.Lines.{rests}
+use Rattle.run_machine.specs.Submissions.{rests}
 use Rattle.run_machine.specs.Tasks.{Todo, TaskState, Writer, Rescuer, Completer, Keeper}
 use Rattle.run_machine.specs.Opened.{Scenario, scene, start, setup, todos}
 use Rattle.run_machine.specs.Runs.{State, IsRun, HasEnded}
@@ -42,7 +42,7 @@ leg_fragments (Mirrored number sizes members) bio leg = leaves (plan (members le
 abbrev pub todo_fragments : Setup → Todo → List Fragment
 todo_fragments setup todo = leaves (plan (tree_at setup todo.write.dev) todo.number 0 todo.write.start todo.write.count)
 
--- What is still to come, where each fragment counts as `value` says: all of a bio in a line or in a rescue list, the one that a pending bio
+-- What is still to come, where each fragment counts as `value` says: all of a bio in a submission or in a rescue list, the one that a pending bio
 -- is, all of the legs that are still to be made, and all of the writes that are still to begin. A bio that its disk is done with has none.
 abbrev pub bio_comes : Setup → (Fragment → ℕ) → Spot → Item Pad → ℕ
 bio_comes setup value (Lined limit) item = sum_by value (fragments_of setup item.bio)
@@ -107,8 +107,8 @@ NoOtherIsCompleted = (s : Scenario) (ledger : ℕ → LedgerId) (events : List E
 
 -- a task with nothing to submit, and no bio in any list or disk
 abbrev pub HasNone : TaskState → Type 0
-HasNone (Writer number todos taken line) = (todos ≡ []) × (line ≡ rests)
-HasNone (Rescuer dev line) = line ≡ rests
+HasNone (Writer number todos taken submission) = (todos ≡ []) × (submission ≡ rests)
+HasNone (Rescuer dev submission) = submission ≡ rests
 HasNone (Completer disk carried) = Unit {0}
 HasNone (Keeper keeping) = Unit {0}
 
@@ -125,8 +125,8 @@ EachIsCompletedOnce = (s : Scenario) (ledger : ℕ → LedgerId) (events : List 
 
 -- no element is out of any pool, and no writer has a write that is still to begin
 abbrev pub HasBegun : TaskState → Type 0
-HasBegun (Writer number todos taken line) = todos ≡ []
-HasBegun (Rescuer dev line) = Unit {0}
+HasBegun (Writer number todos taken submission) = todos ≡ []
+HasBegun (Rescuer dev submission) = Unit {0}
 HasBegun (Completer disk carried) = Unit {0}
 HasBegun (Keeper keeping) = Unit {0}
 

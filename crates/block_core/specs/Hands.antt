@@ -7,17 +7,17 @@ use Rattle.stack_base.specs.PoolId.{pool_number}
 use Rattle.stack_base.specs.Tree.{Tree, Leaf, Split, Mirrored}
 use Rattle.layout_model.specs.declared.fragment.Fragment.{Fragment}
 use Rattle.run_machine.specs.Scene.{Setup, Scene, tree_at}
-use Rattle.run_machine.specs.Lines.{Want, Takes, Punts, Links, Ask, ToPush, ToCut, ToRecord, ToMaster, Doing, Rests, Drives, Copies, Breaks, Line, rests, legs_of}
+use Rattle.run_machine.specs.Submissions.{Want, Takes, Punts, Links, Ask, ToPush, ToCut, ToRecord, ToMaster, Doing, Rests, Drives, Copies, Breaks, Submission, rests, legs_of}
 use Rattle.run_machine.specs.Tasks.{Gathered, NoBio, HasBio, HasBoth, Carried, Empty, Brings, Carries, Fails, TaskState, Writer, Rescuer, Completer, Keeper}
 use Rattle.run_machine.specs.Runs.{State}
 use Rattle.block_core.specs.Fragments.{fragment_of}
 use Rattle.block_core.specs.Levels.{HoldsOneLevel}
 
 -- a writer that has something in hand for its next write has it of the writers' pools, and submits nothing
-abbrev pub GatheredIsRight : Gathered → Line → Type 0
-GatheredIsRight NoBio line = Unit {0}
-GatheredIsRight (HasBio bio) line = (bio.share.no ≡ pool_number FsBios) × (line ≡ rests)
-GatheredIsRight (HasBoth bio vector) line = (bio.share.no ≡ pool_number FsBios) × (vector.share.no ≡ pool_number FsVecs) × (line ≡ rests)
+abbrev pub GatheredIsRight : Gathered → Submission → Type 0
+GatheredIsRight NoBio submission = Unit {0}
+GatheredIsRight (HasBio bio) submission = (bio.share.no ≡ pool_number FsBios) × (submission ≡ rests)
+GatheredIsRight (HasBoth bio vector) submission = (bio.share.no ≡ pool_number FsBios) × (vector.share.no ≡ pool_number FsVecs) × (submission ≡ rests)
 
 -- a driver with a bio in hand has it of its device's set
 abbrev pub WantIsRight : DevId → Want → Type 0
@@ -49,8 +49,8 @@ CarriedIsRight ends disk (Carries writer closed) = HoldsOneLevel closed.held
 CarriedIsRight ends disk (Fails breach kept) = ⊥
 
 abbrev pub HandIsRight : Setup → (Fragment → Status) → TaskState → Type 0
-HandIsRight setup ends (Writer number todo taken line) = GatheredIsRight taken line × DoingIsRight setup line.doing
-HandIsRight setup ends (Rescuer dev line) = DoingIsRight setup line.doing
+HandIsRight setup ends (Writer number todo taken submission) = GatheredIsRight taken submission × DoingIsRight setup submission.doing
+HandIsRight setup ends (Rescuer dev submission) = DoingIsRight setup submission.doing
 HandIsRight setup ends (Completer disk carried) = CarriedIsRight ends disk carried
 HandIsRight setup ends (Keeper keeping) = Unit {0}
 

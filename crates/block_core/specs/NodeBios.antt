@@ -11,7 +11,7 @@ use Rattle.bio_split.specs.Split.{split_front}
 use Rattle.run_machine.specs.declared.event.Event.{Event}
 use Rattle.run_machine.specs.Maps.{upd}
 use Rattle.run_machine.specs.Scene.{Setup, Scene, tree_at}
-use Rattle.run_machine.specs.Lines.{Links, ToCut, ToMaster, Doing, Rests, Drives, Copies, first_length, mapped, leg_at}
+use Rattle.run_machine.specs.Submissions.{Links, ToCut, ToMaster, Doing, Rests, Drives, Copies, first_length, mapped, leg_at}
 use Rattle.run_machine.specs.Tasks.{Todo, TaskState, Writer, Rescuer, Completer, Keeper, first_bio}
 use Rattle.run_machine.specs.Runs.{State, IsRun}
 use Rattle.block_core.specs.Touches.{Touch, Opens, Shuts, Passes, touch_of}
@@ -24,20 +24,20 @@ first_piece bio hand node (Split number kind sizes members) =
     mapped (slot kind sizes bio.bio.range.start) members (split_front bio hand (first_length kind sizes bio.bio.range) (Of bio.bio.dev) node).bio
 first_piece bio hand node (Mirrored number sizes members) = bio.bio
 
-abbrev pub line_opens : Setup → Doing → ℕ → Bio
-line_opens setup (Drives bio (ToCut (Links hand))) node = first_piece bio hand node (tree_at setup bio.bio.dev)
-line_opens setup (Drives bio (ToMaster slip)) node = bio.bio
-line_opens setup (Copies bio master leg (Links hand)) node = (leg_at bio hand leg node (tree_at setup bio.dev)).bio
-line_opens setup doing node = no_bio
+abbrev pub submission_opens : Setup → Doing → ℕ → Bio
+submission_opens setup (Drives bio (ToCut (Links hand))) node = first_piece bio hand node (tree_at setup bio.bio.dev)
+submission_opens setup (Drives bio (ToMaster slip)) node = bio.bio
+submission_opens setup (Copies bio master leg (Links hand)) node = (leg_at bio hand leg node (tree_at setup bio.dev)).bio
+submission_opens setup doing node = no_bio
 
 abbrev pub writer_opens : Setup → ℕ → Doing → List Todo → ℕ → Bio
 writer_opens setup number Rests [] node = no_bio
 writer_opens setup number Rests (todo ∷ later) node = first_bio number todo node
-writer_opens setup number doing todo node = line_opens setup doing node
+writer_opens setup number doing todo node = submission_opens setup doing node
 
 abbrev pub opened_for : Setup → TaskState → ℕ → Bio
-opened_for setup (Writer number todo taken line) node = writer_opens setup number line.doing todo node
-opened_for setup (Rescuer dev line) node = line_opens setup line.doing node
+opened_for setup (Writer number todo taken submission) node = writer_opens setup number submission.doing todo node
+opened_for setup (Rescuer dev submission) node = submission_opens setup submission.doing node
 opened_for setup (Completer disk carried) node = no_bio
 opened_for setup (Keeper keeping) node = no_bio
 

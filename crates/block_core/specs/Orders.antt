@@ -9,7 +9,7 @@ use Rattle.bio_lists.specs.Submission.{no_lists}
 use Rattle.bio_books.specs.declared.node.Role.TheVariants as role
 use Rattle.bio_books.specs.Books.{Node, node_at}
 use Rattle.run_machine.specs.Scene.{Scene}
-use Rattle.run_machine.specs.Lines.{Doing, Rests, Drives, Copies, Breaks}
+use Rattle.run_machine.specs.Submissions.{Doing, Rests, Drives, Copies, Breaks}
 use Rattle.run_machine.specs.Tasks.{TaskState, Writer, Rescuer, Completer, Keeper}
 use Rattle.run_machine.specs.Runs.{State}
 
@@ -61,9 +61,9 @@ abbrev pub AreBelow : ℕ → List (Item Pad) → Type 0
 AreBelow dev items = All (λ (item : Item Pad). item.bio.dev.0 < dev) items
 
 abbrev pub TaskInOrder : State → TaskState → Type 0
-TaskInOrder state (Writer number todo taken line) = DoingInOrder state line.doing line.lists
-TaskInOrder state (Rescuer dev line) =
-    DoingInOrder state line.doing line.lists × DoingBelow dev.0 line.doing × AreBelow dev.0 line.lists.list0 × AreBelow dev.0 line.lists.list1
+TaskInOrder state (Writer number todo taken submission) = DoingInOrder state submission.doing submission.lists
+TaskInOrder state (Rescuer dev submission) =
+    DoingInOrder state submission.doing submission.lists × DoingBelow dev.0 submission.doing × AreBelow dev.0 submission.lists.list0 × AreBelow dev.0 submission.lists.list1
 TaskInOrder state (Completer disk carried) = Unit {0}
 TaskInOrder state (Keeper keeping) = Unit {0}
 

@@ -7,7 +7,7 @@ use Rattle.bio_records.specs.Items.{Item}
 use Rattle.bio_books.specs.Books.{Node, node_at}
 use Rattle.run_machine.specs.declared.event.Event.{Event}
 use Rattle.run_machine.specs.Scene.{Scene}
-use Rattle.run_machine.specs.Lines.{Doing, Rests, Drives, Copies, Breaks, Line}
+use Rattle.run_machine.specs.Submissions.{Doing, Rests, Drives, Copies, Breaks, Submission}
 use Rattle.run_machine.specs.Tasks.{Carried, Empty, Brings, Carries, Fails, TaskState, Writer, Rescuer, Completer, Keeper}
 use Rattle.run_machine.specs.Opened.{Scenario, scene, start}
 use Rattle.run_machine.specs.Runs.{State, IsRun}
@@ -23,8 +23,8 @@ DoingIs IsSuch (Drives bio ask) = IsSuch bio.bio.write
 DoingIs IsSuch (Copies bio master leg want) = IsSuch bio.write
 DoingIs IsSuch (Breaks breach kept) = Unit {0}
 
-abbrev pub LineIs : (ℕ → Type 0) → Line → Type 0
-LineIs IsSuch line = DoingIs IsSuch line.doing × AreSuch IsSuch line.lists.list0 × AreSuch IsSuch line.lists.list1
+abbrev pub SubmissionIs : (ℕ → Type 0) → Submission → Type 0
+SubmissionIs IsSuch submission = DoingIs IsSuch submission.doing × AreSuch IsSuch submission.lists.list0 × AreSuch IsSuch submission.lists.list1
 
 abbrev pub CarriedIs : (ℕ → Type 0) → Carried → Type 0
 CarriedIs IsSuch Empty = Unit {0}
@@ -33,8 +33,8 @@ CarriedIs IsSuch (Carries writer closed) = IsSuch closed.write
 CarriedIs IsSuch (Fails breach kept) = Unit {0}
 
 abbrev pub TaskIs : (ℕ → Type 0) → TaskState → Type 0
-TaskIs IsSuch (Writer number todo taken line) = LineIs IsSuch line
-TaskIs IsSuch (Rescuer dev line) = LineIs IsSuch line
+TaskIs IsSuch (Writer number todo taken submission) = SubmissionIs IsSuch submission
+TaskIs IsSuch (Rescuer dev submission) = SubmissionIs IsSuch submission
 TaskIs IsSuch (Completer disk carried) = CarriedIs IsSuch carried
 TaskIs IsSuch (Keeper keeping) = Unit {0}
 

@@ -16,11 +16,11 @@ use Rattle.bio_books.specs.Books.{Node, node_at, parent_of}
 use Rattle.bio_books.specs.Drops.{Closed}
 use Rattle.run_machine.specs.declared.event.Event.{Event}
 use Rattle.run_machine.specs.Scene.{Setup, Scene, tree_at}
-use Rattle.run_machine.specs.Lines.{Want, Copies, Line, legs_of}
+use Rattle.run_machine.specs.Submissions.{Want, Copies, Submission, legs_of}
 use Rattle.run_machine.specs.Tasks.{Todo, Gathered, Carries, Writer, Completer}
 use Rattle.run_machine.specs.Opened.{Scenario, scene, start}
 use Rattle.run_machine.specs.Runs.{State, IsRun}
-use Rattle.block_core.specs.AtWork.{LineOf, IsBrought, IsInDisk, IsAtWork}
+use Rattle.block_core.specs.AtWork.{SubmissionOf, IsBrought, IsInDisk, IsAtWork}
 use Rattle.block_core.specs.DoneWrites.{IsGiven}
 use Rattle.block_core.specs.Fragments.{offset_of, fragment_of}
 use Rattle.block_core.specs.NodeBios.{node_bios, no_bios}
@@ -59,8 +59,8 @@ BioComes scene ends state w k Is =
 -- a leg that is still to be made of it,
 abbrev pub LegComes : Scene → (Fragment → Status) → State → (w k : ℕ) → ((Status → Type 0) → Type 0) → Type 0
 LegComes scene ends state w k Is =
-    (place : ℕ) × (line : Line) × (bio : Bio) × (next : ℕ) × (want : Want) × (leg : ℕ) × (place < scene.tasks) × LineOf (state.task place) line
-    × (line.doing ≡ Copies bio k next want) × (bio.writer ≡ w) × (next ≤ leg) × (leg < legs_of (tree_at scene.setup bio.dev))
+    (place : ℕ) × (submission : Submission) × (bio : Bio) × (next : ℕ) × (want : Want) × (leg : ℕ) × (place < scene.tasks) × SubmissionOf (state.task place) submission
+    × (submission.doing ≡ Copies bio k next want) × (bio.writer ≡ w) × (next ≤ leg) × (leg < legs_of (tree_at scene.setup bio.dev))
     × Is (LegMayEnd ends (tree_at scene.setup bio.dev) bio leg)
 
 -- an open node right under it,
@@ -110,7 +110,7 @@ pub record IsValued (s : Scenario) (scene : Scene) (bios : ℕ → ℕ → Bio) 
   -- what is left of a top node has an end of its write, and a write that is to begin may end only so
   pub carried : (place : ℕ) (disk : DevId) (writer : ℕ) (closed : Closed) → place < scene.tasks → state.task place ≡ Completer disk (Carries writer closed)
       → closed.parent ≡ None → IsGiven s closed.write closed.status
-  pub begins : (place writer : ℕ) (todos : List Todo) (taken : Gathered) (line : Line) → place < scene.tasks → state.task place ≡ Writer writer todos taken line
+  pub begins : (place writer : ℕ) (todos : List Todo) (taken : Gathered) (submission : Submission) → place < scene.tasks → state.task place ≡ Writer writer todos taken submission
       → All (λ (todo : Todo). (end : Status) → TodoMayEnd scene.setup (fault_of s.stack) todo end → IsGiven s todo.number end) todos
 
 -- after every event of every run of every scenario

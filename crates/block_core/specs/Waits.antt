@@ -6,7 +6,7 @@ use Rattle.stack_base.specs.Stack.{HasRescuers}
 use Rattle.bio_records.specs.declared.tasks.TaskLists.{TaskLists}
 use Rattle.run_machine.specs.declared.event.Event.{Event}
 use Rattle.run_machine.specs.Scene.{Setup, Scene}
-use Rattle.run_machine.specs.Lines.{Want, Takes, Punts, Links, ToPush, ToCut, ToRecord, ToMaster, Doing, Rests, Drives, Copies, Breaks, is_of}
+use Rattle.run_machine.specs.Submissions.{Want, Takes, Punts, Links, ToPush, ToCut, ToRecord, ToMaster, Doing, Rests, Drives, Copies, Breaks, is_of}
 use Rattle.run_machine.specs.Tasks.{TaskState, Writer, Rescuer, Completer, Keeper}
 use Rattle.run_machine.specs.Opened.{Scenario, scene, start}
 use Rattle.run_machine.specs.Runs.{State, IsRun}
@@ -30,8 +30,8 @@ DoesNotWaitForItself setup (Copies bio master leg want) lists = NoneBehind setup
 DoesNotWaitForItself setup (Breaks breach kept) lists = Unit {0}
 
 abbrev pub TaskDoesNotWait : Setup → TaskState → Type 0
-TaskDoesNotWait setup (Writer number todo taken line) = DoesNotWaitForItself setup line.doing line.lists
-TaskDoesNotWait setup (Rescuer dev line) = DoesNotWaitForItself setup line.doing line.lists
+TaskDoesNotWait setup (Writer number todo taken submission) = DoesNotWaitForItself setup submission.doing submission.lists
+TaskDoesNotWait setup (Rescuer dev submission) = DoesNotWaitForItself setup submission.doing submission.lists
 TaskDoesNotWait setup (Completer disk carried) = Unit {0}
 TaskDoesNotWait setup (Keeper keeping) = Unit {0}
 

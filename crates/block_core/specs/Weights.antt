@@ -7,7 +7,7 @@ use Rattle.bio_books.specs.Books.{Node, BookState, VectorItem, SlipItem, Holding
 use Rattle.bio_books.specs.Drops.{Closed}
 use Rattle.model_disks.specs.Disks.{DiskState}
 use Rattle.run_machine.specs.Scene.{Setup, Scene, tree_at}
-use Rattle.run_machine.specs.Lines.{Want, Takes, Punts, Links, Ask, ToPush, ToCut, ToRecord, ToMaster, Doing, Rests, Drives, Copies, Breaks, Line, legs_of}
+use Rattle.run_machine.specs.Submissions.{Want, Takes, Punts, Links, Ask, ToPush, ToCut, ToRecord, ToMaster, Doing, Rests, Drives, Copies, Breaks, Submission, legs_of}
 use Rattle.run_machine.specs.Tasks.{Todo, Gathered, NoBio, HasBio, HasBoth, Carried, Empty, Brings, Carries, Fails, TaskState, Writer, Rescuer, Completer, Keeper}
 use Rattle.run_machine.specs.Runs.{State}
 
@@ -28,7 +28,7 @@ abbrev pub weigh_option : {X : Type 0} → (X → ℕ) → Option X → ℕ
 weigh_option w None = 0
 weigh_option w (Some x) = w x
 
--- where a bio is: in the line of a task of this limit, in a rescue list, pending, or in a completer's hand
+-- where a bio is: in the submission of a task of this limit, in a rescue list, pending, or in a completer's hand
 pub data Spot : Type 0 where
   Lined : (limit : ℕ) → Spot
   Rescued : Spot
@@ -78,9 +78,9 @@ doing_weight w limit (Drives bio ask) = w.bio (Lined limit) bio + ask_weight w a
 doing_weight w limit (Copies bio master leg want) = w.copy bio master leg + want_weight w want
 doing_weight w limit (Breaks breach kept) = 0
 
-abbrev pub line_weight : Weight → ℕ → Line → ℕ
-line_weight w limit line =
-    doing_weight w limit line.doing + sum_by (w.bio (Lined limit)) line.lists.list0 + sum_by (w.bio (Lined limit)) line.lists.list1
+abbrev pub submission_weight : Weight → ℕ → Submission → ℕ
+submission_weight w limit submission =
+    doing_weight w limit submission.doing + sum_by (w.bio (Lined limit)) submission.lists.list0 + sum_by (w.bio (Lined limit)) submission.lists.list1
 
 abbrev pub gathered_weight : Weight → Gathered → ℕ
 gathered_weight w NoBio = 0
@@ -95,8 +95,8 @@ carried_weight w task (Fails breach kept) = 0
 
 -- a writer submits at any device, of which there are at most 32, and the rescuer of a device's set below that device
 abbrev pub task_weight : Weight → ℕ → TaskState → ℕ
-task_weight w place (Writer number todo taken line) = w.todo number todo taken + gathered_weight w taken + line_weight w 32 line
-task_weight w place (Rescuer dev line) = line_weight w dev.0 line
+task_weight w place (Writer number todo taken submission) = w.todo number todo taken + gathered_weight w taken + submission_weight w 32 submission
+task_weight w place (Rescuer dev submission) = submission_weight w dev.0 submission
 task_weight w place (Completer disk carried) = carried_weight w place carried
 task_weight w place (Keeper keeping) = 0
 

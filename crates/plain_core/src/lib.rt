@@ -20,5 +20,6 @@ pub use objects::part::{Data, Hand, Part, Slip, Vector};
 pub use objects::pool::Pool;
 pub use state::Core;
 pub use steps::task::{
-    Ask, Carried, Completer, Copying, Doing, Gathered, Keeper, Line, Rescuer, Task, Want, Writer,
+    Ask, Carried, Completer, Copying, Doing, Gathered, Keeper, Rescuer, Submission, Task, Want,
+    Writer,
 };

@@ -8,8 +8,8 @@ pub(crate) mod asks;
 pub(crate) mod completer;
 pub(crate) mod free;
 pub(crate) mod keeper;
-pub(crate) mod line;
 pub(crate) mod need;
+pub(crate) mod submission;
 pub(crate) mod task;
 pub(crate) mod writer;
 
@@ -17,7 +17,7 @@ use crate::fault::CoreFault;
 use crate::objects::Objects;
 use crate::steps::completer::completer_step;
 use crate::steps::keeper::keeper_step;
-use crate::steps::line::line_step;
+use crate::steps::submission::submission_step;
 use crate::steps::task::{Completer, Keeper, Rescuer, Task, Writer};
 use crate::steps::writer::{start, writer_step};
 use task_core::{Routes, What};
@@ -36,14 +36,14 @@ pub fn rescuer_step(
     requires fits { TaskFits routes.now.stack (rescuer_of rescuer.old) }
     ensures { TaskMoves routes.now objects.old (rescuer_of rescuer.old) what.now result objects.new (rescuer_of rescuer.new) }
 {
-    if !rescuer.line.rests() {
-        return line_step(routes, objects, &mut rescuer.line, what);
+    if !rescuer.submission.rests() {
+        return submission_step(routes, objects, &mut rescuer.submission, what);
     }
     objects.known();
     match asks::pop(objects, rescuer.dev, what) {
         Err(fault) => Err(fault),
         Ok(part) => {
-            start(routes, part, &mut rescuer.line);
+            start(routes, part, &mut rescuer.submission);
             Ok(())
         }
     }

@@ -13,7 +13,7 @@ use Rattle.bio_books.specs.Books.{VectorItem, SlipItem}
 use Rattle.bio_books.specs.Drops.{Closed}
 use Rattle.run_machine.specs.Maps.{upd}
 use Rattle.run_machine.specs.Scene.{Setup}
-use Rattle.run_machine.specs.Lines.{Takes, Punts, Links, ToPush, ToCut, ToRecord, ToMaster, Doing, Rests, Drives, Copies, Breaks, Line, line_request, line_answered}
+use Rattle.run_machine.specs.Submissions.{Takes, Punts, Links, ToPush, ToCut, ToRecord, ToMaster, Doing, Rests, Drives, Copies, Breaks, Submission, submission_request, submission_answered}
 use Rattle.run_machine.specs.Requests as requests
 use Rattle.run_machine.specs.Requests.{Request, Reply}
 use Rattle.run_machine.specs.Tasks.{TaskState, Writer, Rescuer, Completer, Keeper, Keeps, Stops, Duty, Resizes, Starts, Todo, Gathered, NoBio, HasBio, HasBoth, Empty, Brings, Carries, Fails, request, answered, with_bio, needs_vector, closed_request}
@@ -58,32 +58,32 @@ same_pool objects new number none is = is ∙ ap (λ (pools : ℕ → PoolState)
 
 -- a task that found nothing stays as it is
 module _ (setup : Setup) where
-  line_stays : (doing : Doing) (lists : TaskLists) (reply : Reply) → IsIdle (line_request setup doing lists) reply
-      → line_answered setup doing lists reply ≡ record { doing = doing; lists = lists }
-  line_stays Rests lists reply idle = absurd idle
-  line_stays (Breaks breach kept) lists reply idle = absurd idle
-  line_stays (Drives bio ToPush) lists reply idle = absurd idle
-  line_stays (Drives bio (ToCut (Takes true))) lists (requests.Missed used) idle = refl
-  line_stays (Drives bio (ToCut (Takes true))) lists _ idle = absurd idle
-  line_stays (Drives bio (ToCut (Takes false))) lists (requests.Missed used) idle = absurd idle
-  line_stays (Drives bio (ToCut (Takes false))) lists _ idle = absurd idle
-  line_stays (Drives bio (ToCut Punts)) lists reply idle = absurd idle
-  line_stays (Drives bio (ToCut (Links hand))) lists reply idle = absurd idle
-  line_stays (Drives bio ToRecord) lists (requests.Missed used) idle = refl
-  line_stays (Drives bio ToRecord) lists _ idle = absurd idle
-  line_stays (Drives bio (ToMaster slip)) lists reply idle = absurd idle
-  line_stays (Copies bio master leg (Takes true)) lists (requests.Missed used) idle = refl
-  line_stays (Copies bio master leg (Takes true)) lists _ idle = absurd idle
-  line_stays (Copies bio master leg (Takes false)) lists (requests.Missed used) idle = absurd idle
-  line_stays (Copies bio master leg (Takes false)) lists _ idle = absurd idle
-  line_stays (Copies bio master leg Punts) lists reply idle = absurd idle
-  line_stays (Copies bio master leg (Links hand)) lists reply idle = absurd idle
+  submission_stays : (doing : Doing) (lists : TaskLists) (reply : Reply) → IsIdle (submission_request setup doing lists) reply
+      → submission_answered setup doing lists reply ≡ record { doing = doing; lists = lists }
+  submission_stays Rests lists reply idle = absurd idle
+  submission_stays (Breaks breach kept) lists reply idle = absurd idle
+  submission_stays (Drives bio ToPush) lists reply idle = absurd idle
+  submission_stays (Drives bio (ToCut (Takes true))) lists (requests.Missed used) idle = refl
+  submission_stays (Drives bio (ToCut (Takes true))) lists _ idle = absurd idle
+  submission_stays (Drives bio (ToCut (Takes false))) lists (requests.Missed used) idle = absurd idle
+  submission_stays (Drives bio (ToCut (Takes false))) lists _ idle = absurd idle
+  submission_stays (Drives bio (ToCut Punts)) lists reply idle = absurd idle
+  submission_stays (Drives bio (ToCut (Links hand))) lists reply idle = absurd idle
+  submission_stays (Drives bio ToRecord) lists (requests.Missed used) idle = refl
+  submission_stays (Drives bio ToRecord) lists _ idle = absurd idle
+  submission_stays (Drives bio (ToMaster slip)) lists reply idle = absurd idle
+  submission_stays (Copies bio master leg (Takes true)) lists (requests.Missed used) idle = refl
+  submission_stays (Copies bio master leg (Takes true)) lists _ idle = absurd idle
+  submission_stays (Copies bio master leg (Takes false)) lists (requests.Missed used) idle = absurd idle
+  submission_stays (Copies bio master leg (Takes false)) lists _ idle = absurd idle
+  submission_stays (Copies bio master leg Punts) lists reply idle = absurd idle
+  submission_stays (Copies bio master leg (Links hand)) lists reply idle = absurd idle
 
-  bio_stays : (b : Bool) (number : ℕ) (todo : Todo) (later : List Todo) (bio : Item Pad) (line : Line) (reply : Reply) → line.doing ≡ Rests → IsIdle (with_bio number b todo) reply
-      → answered setup (Writer number (todo ∷ later) (HasBio bio) (record line { doing = Rests })) reply ≡ Writer number (todo ∷ later) (HasBio bio) (record line { doing = Rests })
-  bio_stays true number todo later bio line (requests.Missed used) rests idle = refl
-  bio_stays true number todo later bio line _ rests idle = absurd idle
-  bio_stays false number todo later bio line reply rests idle = absurd idle
+  bio_stays : (b : Bool) (number : ℕ) (todo : Todo) (later : List Todo) (bio : Item Pad) (submission : Submission) (reply : Reply) → submission.doing ≡ Rests → IsIdle (with_bio number b todo) reply
+      → answered setup (Writer number (todo ∷ later) (HasBio bio) (record submission { doing = Rests })) reply ≡ Writer number (todo ∷ later) (HasBio bio) (record submission { doing = Rests })
+  bio_stays true number todo later bio submission (requests.Missed used) rests idle = refl
+  bio_stays true number todo later bio submission _ rests idle = absurd idle
+  bio_stays false number todo later bio submission reply rests idle = absurd idle
 
   writer_stays : (number : ℕ) (todos : List Todo) (taken : Gathered) (doing : Doing) (lists : TaskLists) (reply : Reply)
       → IsIdle (request setup (Writer number todos taken (record { doing = doing; lists = lists }))) reply
@@ -94,16 +94,16 @@ module _ (setup : Setup) where
   writer_stays number (todo ∷ later) (HasBio bio) Rests lists reply idle =
       bio_stays (needs_vector todo.write) number todo later bio (record { doing = Rests; lists = lists }) reply refl idle
   writer_stays number (todo ∷ later) (HasBoth bio vector) Rests lists reply idle = absurd idle
-  writer_stays number todos taken (Drives bio ask) lists reply idle = ap (Writer number todos taken) (line_stays (Drives bio ask) lists reply idle)
-  writer_stays number todos taken (Copies bio master leg want) lists reply idle = ap (Writer number todos taken) (line_stays (Copies bio master leg want) lists reply idle)
+  writer_stays number todos taken (Drives bio ask) lists reply idle = ap (Writer number todos taken) (submission_stays (Drives bio ask) lists reply idle)
+  writer_stays number todos taken (Copies bio master leg want) lists reply idle = ap (Writer number todos taken) (submission_stays (Copies bio master leg want) lists reply idle)
   writer_stays number todos taken (Breaks breach kept) lists reply idle = absurd idle
 
   rescuer_stays : (dev : DevId) (doing : Doing) (lists : TaskLists) (reply : Reply) → IsIdle (request setup (Rescuer dev (record { doing = doing; lists = lists }))) reply
       → answered setup (Rescuer dev (record { doing = doing; lists = lists })) reply ≡ Rescuer dev (record { doing = doing; lists = lists })
   rescuer_stays dev Rests lists requests.Nothing idle = refl
   rescuer_stays dev Rests lists _ idle = absurd idle
-  rescuer_stays dev (Drives bio ask) lists reply idle = ap (Rescuer dev) (line_stays (Drives bio ask) lists reply idle)
-  rescuer_stays dev (Copies bio master leg want) lists reply idle = ap (Rescuer dev) (line_stays (Copies bio master leg want) lists reply idle)
+  rescuer_stays dev (Drives bio ask) lists reply idle = ap (Rescuer dev) (submission_stays (Drives bio ask) lists reply idle)
+  rescuer_stays dev (Copies bio master leg want) lists reply idle = ap (Rescuer dev) (submission_stays (Copies bio master leg want) lists reply idle)
   rescuer_stays dev (Breaks breach kept) lists reply idle = absurd idle
 
   held_moves : (writer : ℕ) (closed : Closed) (vector : Option VectorItem) (bio : Option (Item Pad)) (slip : Option SlipItem) (parent : Option ℕ) (reply : Reply)
@@ -115,8 +115,8 @@ module _ (setup : Setup) where
   held_moves writer closed None None None None reply idle = idle
 
   pub task_stays : (x : TaskState) (reply : Reply) → IsIdle (request setup x) reply → answered setup x reply ≡ x
-  task_stays (Writer number todos taken line) reply idle = writer_stays number todos taken line.doing line.lists reply idle
-  task_stays (Rescuer dev line) reply idle = rescuer_stays dev line.doing line.lists reply idle
+  task_stays (Writer number todos taken submission) reply idle = writer_stays number todos taken submission.doing submission.lists reply idle
+  task_stays (Rescuer dev submission) reply idle = rescuer_stays dev submission.doing submission.lists reply idle
   task_stays (Completer disk Empty) requests.Nothing idle = refl
   task_stays (Completer disk Empty) _ idle = absurd idle
   task_stays (Completer disk (Brings bio status)) reply idle = absurd idle
@@ -129,18 +129,18 @@ module _ (setup : Setup) where
   task_stays (Keeper (Stops breach)) reply idle = absurd idle
 
   -- what a task asks for is fair
-  fair_line : (objects : Objects) (doing : Doing) (lists : TaskLists) → IsFair objects (line_request setup doing lists)
-  fair_line objects Rests lists = tt
-  fair_line objects (Breaks breach kept) lists = tt
-  fair_line objects (Drives bio ToPush) lists = tt
-  fair_line objects (Drives bio (ToCut (Takes waits))) lists = tt
-  fair_line objects (Drives bio (ToCut Punts)) lists = tt
-  fair_line objects (Drives bio (ToCut (Links hand))) lists = tt
-  fair_line objects (Drives bio ToRecord) lists = tt
-  fair_line objects (Drives bio (ToMaster slip)) lists = tt
-  fair_line objects (Copies bio master leg (Takes waits)) lists = tt
-  fair_line objects (Copies bio master leg Punts) lists = tt
-  fair_line objects (Copies bio master leg (Links hand)) lists = tt
+  fair_submission : (objects : Objects) (doing : Doing) (lists : TaskLists) → IsFair objects (submission_request setup doing lists)
+  fair_submission objects Rests lists = tt
+  fair_submission objects (Breaks breach kept) lists = tt
+  fair_submission objects (Drives bio ToPush) lists = tt
+  fair_submission objects (Drives bio (ToCut (Takes waits))) lists = tt
+  fair_submission objects (Drives bio (ToCut Punts)) lists = tt
+  fair_submission objects (Drives bio (ToCut (Links hand))) lists = tt
+  fair_submission objects (Drives bio ToRecord) lists = tt
+  fair_submission objects (Drives bio (ToMaster slip)) lists = tt
+  fair_submission objects (Copies bio master leg (Takes waits)) lists = tt
+  fair_submission objects (Copies bio master leg Punts) lists = tt
+  fair_submission objects (Copies bio master leg (Links hand)) lists = tt
 
   fair_bio : (objects : Objects) (b : Bool) (number : ℕ) (todo : Todo) → IsFair objects (with_bio number b todo)
   fair_bio objects true number todo = tt
@@ -152,14 +152,14 @@ module _ (setup : Setup) where
   fair_writer objects number (todo ∷ later) NoBio Rests lists = tt
   fair_writer objects number (todo ∷ later) (HasBio bio) Rests lists = fair_bio objects (needs_vector todo.write) number todo
   fair_writer objects number (todo ∷ later) (HasBoth bio vector) Rests lists = tt
-  fair_writer objects number todos taken (Drives bio ask) lists = fair_line objects (Drives bio ask) lists
-  fair_writer objects number todos taken (Copies bio master leg want) lists = fair_line objects (Copies bio master leg want) lists
+  fair_writer objects number todos taken (Drives bio ask) lists = fair_submission objects (Drives bio ask) lists
+  fair_writer objects number todos taken (Copies bio master leg want) lists = fair_submission objects (Copies bio master leg want) lists
   fair_writer objects number todos taken (Breaks breach kept) lists = tt
 
   fair_rescuer : (objects : Objects) (dev : DevId) (doing : Doing) (lists : TaskLists) → IsFair objects (request setup (Rescuer dev (record { doing = doing; lists = lists })))
   fair_rescuer objects dev Rests lists = tt
-  fair_rescuer objects dev (Drives bio ask) lists = fair_line objects (Drives bio ask) lists
-  fair_rescuer objects dev (Copies bio master leg want) lists = fair_line objects (Copies bio master leg want) lists
+  fair_rescuer objects dev (Drives bio ask) lists = fair_submission objects (Drives bio ask) lists
+  fair_rescuer objects dev (Copies bio master leg want) lists = fair_submission objects (Copies bio master leg want) lists
   fair_rescuer objects dev (Breaks breach kept) lists = tt
 
   fair_held : (objects : Objects) (writer : ℕ) (closed : Closed) (vector : Option VectorItem) (bio : Option (Item Pad)) (slip : Option SlipItem) (parent : Option ℕ)
@@ -172,8 +172,8 @@ module _ (setup : Setup) where
 
   pub fair_task : (objects : Objects) (x : TaskState) → ((pool : PoolId) (min later : ℕ) (duties : List Duty) → x ≡ Keeper (Keeps (Resizes pool min later ∷ duties))
       → (objects.pool (pool_number pool)).facts.out ≡ 0) → IsFair objects (request setup x)
-  fair_task objects (Writer number todos taken line) home = fair_writer objects number todos taken line.doing line.lists
-  fair_task objects (Rescuer dev line) home = fair_rescuer objects dev line.doing line.lists
+  fair_task objects (Writer number todos taken submission) home = fair_writer objects number todos taken submission.doing submission.lists
+  fair_task objects (Rescuer dev submission) home = fair_rescuer objects dev submission.doing submission.lists
   fair_task objects (Completer disk Empty) home = tt
   fair_task objects (Completer disk (Brings bio status)) home = tt
   fair_task objects (Completer disk (Carries writer closed)) home = fair_held objects writer closed closed.held.vector closed.held.bio closed.held.slip closed.parent

@@ -7,7 +7,7 @@ use Rattle.bio_books.specs.Links.{Linked, Made, NoRoom, Stray}
 use Rattle.run_machine.specs.declared.event.Event.{Event}
 use Rattle.run_machine.specs.Maps.{upd}
 use Rattle.run_machine.specs.Scene.{Scene, Setup}
-use Rattle.run_machine.specs.Lines.{Doing, Rests, Line}
+use Rattle.run_machine.specs.Submissions.{Doing, Rests, Submission}
 use Rattle.run_machine.specs.Tasks.{TaskState, Writer, Rescuer, Completer, Keeper, Todo, Gathered, NoBio, HasBio, HasBoth, request, begins, write_answered, writer_answered, rescuer_answered, answered}
 use Rattle.run_machine.specs.Requests.{Reply, HadBio, HadVec, Popped, LinkedTo, Spent}
 use Rattle.run_machine.specs.Objects.{Serves}
@@ -20,35 +20,35 @@ use Rattle.run_machine.proofs.Frames.{upd_same, upd_other}
 use Rattle.run_machine.proofs.Answered.{one_reply, one_served}
 
 -- a task stays what it is
-begins_id : (setup : Setup) (writer : ℕ) (later : List Todo) (bio : ℕ → Item Pad) (taken : Gathered) (todo : Todo) (line : Line) (answer : Linked)
-    → id_of (begins setup writer later bio taken todo line answer) ≡ id.Writer writer
-begins_id setup writer later bio taken todo line (Made node) = refl
-begins_id setup writer later bio taken todo line (NoRoom back) = refl
-begins_id setup writer later bio taken todo line (Stray back) = refl
+begins_id : (setup : Setup) (writer : ℕ) (later : List Todo) (bio : ℕ → Item Pad) (taken : Gathered) (todo : Todo) (submission : Submission) (answer : Linked)
+    → id_of (begins setup writer later bio taken todo submission answer) ≡ id.Writer writer
+begins_id setup writer later bio taken todo submission (Made node) = refl
+begins_id setup writer later bio taken todo submission (NoRoom back) = refl
+begins_id setup writer later bio taken todo submission (Stray back) = refl
 
-write_id : (setup : Setup) (writer : ℕ) (todos : List Todo) (taken : Gathered) (line : Line) (reply : Reply)
-    → id_of (write_answered setup writer todos taken line reply) ≡ id.Writer writer
-write_id setup writer todos taken line Spent = refl
-write_id setup writer (todo ∷ later) NoBio line (HadBio from bio) = refl
-write_id setup writer (todo ∷ later) (HasBio bio) line (HadVec from vector) = refl
-write_id setup writer (todo ∷ later) (HasBio bio) line (LinkedTo answer) = begins_id setup writer later _ (HasBio bio) todo line answer
-write_id setup writer (todo ∷ later) (HasBoth bio vector) line (LinkedTo answer) = begins_id setup writer later _ (HasBoth bio vector) todo line answer
-write_id setup writer todos taken line _ = refl
+write_id : (setup : Setup) (writer : ℕ) (todos : List Todo) (taken : Gathered) (submission : Submission) (reply : Reply)
+    → id_of (write_answered setup writer todos taken submission reply) ≡ id.Writer writer
+write_id setup writer todos taken submission Spent = refl
+write_id setup writer (todo ∷ later) NoBio submission (HadBio from bio) = refl
+write_id setup writer (todo ∷ later) (HasBio bio) submission (HadVec from vector) = refl
+write_id setup writer (todo ∷ later) (HasBio bio) submission (LinkedTo answer) = begins_id setup writer later _ (HasBio bio) todo submission answer
+write_id setup writer (todo ∷ later) (HasBoth bio vector) submission (LinkedTo answer) = begins_id setup writer later _ (HasBoth bio vector) todo submission answer
+write_id setup writer todos taken submission _ = refl
 
-writer_id : (setup : Setup) (writer : ℕ) (todos : List Todo) (taken : Gathered) (doing : Doing) (line : Line) (reply : Reply)
-    → id_of (writer_answered setup writer todos taken doing line reply) ≡ id.Writer writer
-writer_id setup writer todos taken Rests line reply = write_id setup writer todos taken line reply
-writer_id setup writer todos taken doing line reply = refl
+writer_id : (setup : Setup) (writer : ℕ) (todos : List Todo) (taken : Gathered) (doing : Doing) (submission : Submission) (reply : Reply)
+    → id_of (writer_answered setup writer todos taken doing submission reply) ≡ id.Writer writer
+writer_id setup writer todos taken Rests submission reply = write_id setup writer todos taken submission reply
+writer_id setup writer todos taken doing submission reply = refl
 
-rescuer_id : (setup : Setup) (dev : DevId) (doing : Doing) (line : Line) (reply : Reply) → id_of (rescuer_answered setup dev doing line reply) ≡ id.Rescuer dev
-rescuer_id setup dev Rests line (Popped bio) = refl
-rescuer_id setup dev Rests line Spent = refl
-rescuer_id setup dev Rests line _ = refl
-rescuer_id setup dev doing line reply = refl
+rescuer_id : (setup : Setup) (dev : DevId) (doing : Doing) (submission : Submission) (reply : Reply) → id_of (rescuer_answered setup dev doing submission reply) ≡ id.Rescuer dev
+rescuer_id setup dev Rests submission (Popped bio) = refl
+rescuer_id setup dev Rests submission Spent = refl
+rescuer_id setup dev Rests submission _ = refl
+rescuer_id setup dev doing submission reply = refl
 
 pub id_stays : (setup : Setup) (task : TaskState) (reply : Reply) → id_of (answered setup task reply) ≡ id_of task
-id_stays setup (Writer number todo taken line) reply = writer_id setup number todo taken line.doing line reply
-id_stays setup (Rescuer dev line) reply = rescuer_id setup dev line.doing line reply
+id_stays setup (Writer number todo taken submission) reply = writer_id setup number todo taken submission.doing submission reply
+id_stays setup (Rescuer dev submission) reply = rescuer_id setup dev submission.doing submission reply
 id_stays setup (Completer disk carried) reply = refl
 id_stays setup (Keeper keeping) reply = refl
 

@@ -55,7 +55,7 @@ module _ (memory : Global) where
 
 -- a `resize` line as a change of a reserve
 abbrev pub change : Resized → Change
-change line = record { round = line.round; pool = line.pool; min = line.min }
+change submission = record { round = submission.round; pool = submission.pool; min = submission.min }
 
 -- No line of the text is refused, and they say this scenario.
 pub record Says (text : List ℕ) (s : Scenario) : Type 0 where

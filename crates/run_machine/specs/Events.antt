@@ -20,8 +20,8 @@ use Rattle.run_machine.specs.Tasks.{TaskState, Writer, Rescuer, Completer, Keepe
 use Rattle.run_machine.specs.Requests.{Request, Reply, Opening, Write, Chain, Master, Leg, TakeBio, TakeVec, TakeSlip, GiveBio, GiveVec, GiveSlip, Punt, Pop, Push, Complete, Link, Drop, Done, Resize, NextRound, HadBio, HadVec, HadSlip, Missed, Did, Popped, Completed, LinkedTo, DroppedTo, OutIs}
 
 abbrev pub id_of : TaskState → TaskId
-id_of (Writer number todo taken line) = id.Writer number
-id_of (Rescuer dev line) = id.Rescuer dev
+id_of (Writer number todo taken submission) = id.Writer number
+id_of (Rescuer dev submission) = id.Rescuer dev
 id_of (Completer disk carried) = id.Completer disk
 id_of (Keeper keeping) = id.Keeper
 

@@ -2,7 +2,7 @@ pub mod Maps
 pub mod Scene
 pub mod Requests
 pub mod Kept
-pub mod Lines
+pub mod Submissions
 pub mod Tasks
 pub mod Objects
 pub mod Events

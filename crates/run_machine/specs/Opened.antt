@@ -20,7 +20,7 @@ use Rattle.layout_model.specs.NeedCounts.{nodes}
 use Rattle.mempool_core.specs.Move.{opened}
 use Rattle.model_disks.specs.Moves as disk
 use Rattle.run_machine.specs.Scene.{Setup, Scene, setup_of, is_disk}
-use Rattle.run_machine.specs.Lines.{rests}
+use Rattle.run_machine.specs.Submissions.{rests}
 use Rattle.run_machine.specs.Tasks.{Todo, NoBio, Empty, Duty, Resizes, Starts, Keeps, TaskState, Writer, Rescuer, Completer, Keeper}
 use Rattle.run_machine.specs.Objects.{Objects}
 use Rattle.run_machine.specs.Events.{pool_of}

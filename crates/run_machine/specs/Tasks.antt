@@ -17,7 +17,7 @@ use Rattle.run_machine.specs.declared.event.Breach.{Breach}
 use Rattle.run_machine.specs.declared.event.Breach.TheVariants as breach
 use Rattle.run_machine.specs.Scene.{Setup}
 use Rattle.run_machine.specs.Kept.{Kept, KeptBio, KeptVec, bio_kept, holding_kept}
-use Rattle.run_machine.specs.Lines.{Doing, Rests, Breaks, Line, settled, refused, line_request, line_answered}
+use Rattle.run_machine.specs.Submissions.{Doing, Rests, Breaks, Submission, settled, refused, submission_request, submission_answered}
 use Rattle.run_machine.specs.Requests.{Request, Reply, TakeBio, TakeVec, GiveBio, GiveVec, GiveSlip, Pop, Complete, Link, Drop, Done, Resize, NextRound, LookRound, LookLeft, Rest, Write, HadBio, HadVec, Did, Popped, Completed, LinkedTo, DroppedTo, OutIs, Present, LeftOver, Spent}
 
 -- a write that a writer has still to begin, by its number, with its round
@@ -54,8 +54,8 @@ pub data Keeping : Type 0 where
 -- a writer, with the writes that it has still to begin, what it has taken for the first of them, and its submission; the rescuer of a
 -- device's set, with its submission; the completer of a disk; and the keeper of the rounds
 pub data TaskState : Type 0 where
-  Writer : (number : ℕ) (todo : List Todo) → Gathered → Line → TaskState
-  Rescuer : DevId → Line → TaskState
+  Writer : (number : ℕ) (todo : List Todo) → Gathered → Submission → TaskState
+  Rescuer : DevId → Submission → TaskState
   Completer : DevId → Carried → TaskState
   Keeper : Keeping → TaskState
 
@@ -102,13 +102,13 @@ write_request writer (todo ∷ later) NoBio = TakeBio Fs true
 write_request writer (todo ∷ later) (HasBio bio) = with_bio writer (needs_vector todo.write) todo
 write_request writer (todo ∷ later) (HasBoth bio vector) = Link writer (Write todo.number (Some (filled_vector todo vector)))
 
-abbrev pub writer_request : Setup → ℕ → List Todo → Gathered → Doing → Line → Request
-writer_request setup writer todo taken Rests line = write_request writer todo taken
-writer_request setup writer todo taken doing line = line_request setup doing line.lists
+abbrev pub writer_request : Setup → ℕ → List Todo → Gathered → Doing → Submission → Request
+writer_request setup writer todo taken Rests submission = write_request writer todo taken
+writer_request setup writer todo taken doing submission = submission_request setup doing submission.lists
 
-abbrev pub rescuer_request : Setup → DevId → Doing → Line → Request
-rescuer_request setup dev Rests line = Pop dev
-rescuer_request setup dev doing line = line_request setup doing line.lists
+abbrev pub rescuer_request : Setup → DevId → Doing → Submission → Request
+rescuer_request setup dev Rests submission = Pop dev
+rescuer_request setup dev doing submission = submission_request setup doing submission.lists
 
 -- what a closed node still holds goes back first, vector, bio or record (`bio_free`, block/bio.c, and `free_r1bio`, drivers/md/raid1.c);
 -- then its parent is told of its end, or its write is done
@@ -137,8 +137,8 @@ keeper_request (Stops breach) = Rest
 
 -- what a task asks for next
 abbrev pub request : Setup → TaskState → Request
-request setup (Writer number todo taken line) = writer_request setup number todo taken line.doing line
-request setup (Rescuer dev line) = rescuer_request setup dev line.doing line
+request setup (Writer number todo taken submission) = writer_request setup number todo taken submission.doing submission
+request setup (Rescuer dev submission) = rescuer_request setup dev submission.doing submission
 request setup (Completer disk carried) = carried_request disk carried
 request setup (Keeper keeping) = keeper_request keeping
 
@@ -149,8 +149,8 @@ writer_look (todo ∷ later) NoBio Rests = Some LookRound
 writer_look todo taken doing = None
 
 abbrev pub look_of : TaskState → Option Request
-look_of (Writer number todo taken line) = writer_look todo taken line.doing
-look_of (Rescuer dev line) = None
+look_of (Writer number todo taken submission) = writer_look todo taken submission.doing
+look_of (Rescuer dev submission) = None
 look_of (Completer disk carried) = None
 look_of (Keeper (Keeps (duty ∷ duties))) = Some LookLeft
 look_of (Keeper keeping) = None
@@ -162,7 +162,7 @@ later_of (Starts round later) = later
 -- whether what it saw lets it ask: the round of a writer's next write has come, and every write of the rounds before the keeper's next one
 -- is done
 abbrev pub lets : TaskState → Reply → Bool
-lets (Writer number (todo ∷ later) taken line) (Present round) = nat_le todo.round round
+lets (Writer number (todo ∷ later) taken submission) (Present round) = nat_le todo.round round
 lets (Keeper (Keeps (duty ∷ duties))) (LeftOver count) = count == later_of duty
 lets task reply = false
 
@@ -183,34 +183,34 @@ handed_vector todo (HasBio bio) = []
 handed_vector todo (HasBoth bio vector) = KeptVec (vector_for todo vector) ∷ []
 
 -- the top node of a write is open, and its bio is submitted; where it was refused, what was handed over for it comes back
-abbrev pub begins : Setup → ℕ → List Todo → (ℕ → Item Pad) → Gathered → Todo → Line → Linked → TaskState
-begins setup writer later bio taken todo line (Made node) = Writer writer later NoBio (settled setup (bio node ∷ []))
-begins setup writer later bio taken todo line (NoRoom back) =
-    Writer writer (todo ∷ later) (besides taken) (record line { doing = refused setup writer 0 [] (NoRoom back) })
-begins setup writer later bio taken todo line (Stray back) =
-    Writer writer (todo ∷ later) (besides taken) (record line { doing = refused setup writer 0 [] (Stray back) })
+abbrev pub begins : Setup → ℕ → List Todo → (ℕ → Item Pad) → Gathered → Todo → Submission → Linked → TaskState
+begins setup writer later bio taken todo submission (Made node) = Writer writer later NoBio (settled setup (bio node ∷ []))
+begins setup writer later bio taken todo submission (NoRoom back) =
+    Writer writer (todo ∷ later) (besides taken) (record submission { doing = refused setup writer 0 [] (NoRoom back) })
+begins setup writer later bio taken todo submission (Stray back) =
+    Writer writer (todo ∷ later) (besides taken) (record submission { doing = refused setup writer 0 [] (Stray back) })
 
 -- how a writer goes on outside of a submission
-abbrev pub write_answered : Setup → ℕ → List Todo → Gathered → Line → Reply → TaskState
-write_answered setup writer todo taken line Spent =
-    Writer writer todo (besides taken) (record line { doing = Breaks breach.Spent (handed_vector todo taken) })
-write_answered setup writer (todo ∷ later) NoBio line (HadBio got bio) = Writer writer (todo ∷ later) (HasBio bio) line
-write_answered setup writer (todo ∷ later) (HasBio bio) line (HadVec got vector) = Writer writer (todo ∷ later) (HasBoth bio vector) line
-write_answered setup writer (todo ∷ later) (HasBio bio) line (LinkedTo answer) =
-    begins setup writer later (λ node. filled_short writer todo node bio) (HasBio bio) todo line answer
-write_answered setup writer (todo ∷ later) (HasBoth bio vector) line (LinkedTo answer) =
-    begins setup writer later (λ node. filled writer todo node bio) (HasBoth bio vector) todo line answer
-write_answered setup writer todo taken line _ = Writer writer todo taken line
+abbrev pub write_answered : Setup → ℕ → List Todo → Gathered → Submission → Reply → TaskState
+write_answered setup writer todo taken submission Spent =
+    Writer writer todo (besides taken) (record submission { doing = Breaks breach.Spent (handed_vector todo taken) })
+write_answered setup writer (todo ∷ later) NoBio submission (HadBio got bio) = Writer writer (todo ∷ later) (HasBio bio) submission
+write_answered setup writer (todo ∷ later) (HasBio bio) submission (HadVec got vector) = Writer writer (todo ∷ later) (HasBoth bio vector) submission
+write_answered setup writer (todo ∷ later) (HasBio bio) submission (LinkedTo answer) =
+    begins setup writer later (λ node. filled_short writer todo node bio) (HasBio bio) todo submission answer
+write_answered setup writer (todo ∷ later) (HasBoth bio vector) submission (LinkedTo answer) =
+    begins setup writer later (λ node. filled writer todo node bio) (HasBoth bio vector) todo submission answer
+write_answered setup writer todo taken submission _ = Writer writer todo taken submission
 
-abbrev pub writer_answered : Setup → ℕ → List Todo → Gathered → Doing → Line → Reply → TaskState
-writer_answered setup writer todo taken Rests line reply = write_answered setup writer todo taken line reply
-writer_answered setup writer todo taken doing line reply = Writer writer todo taken (line_answered setup doing line.lists reply)
+abbrev pub writer_answered : Setup → ℕ → List Todo → Gathered → Doing → Submission → Reply → TaskState
+writer_answered setup writer todo taken Rests submission reply = write_answered setup writer todo taken submission reply
+writer_answered setup writer todo taken doing submission reply = Writer writer todo taken (submission_answered setup doing submission.lists reply)
 
-abbrev pub rescuer_answered : Setup → DevId → Doing → Line → Reply → TaskState
-rescuer_answered setup dev Rests line (Popped bio) = Rescuer dev (settled setup (bio ∷ []))
-rescuer_answered setup dev Rests line Spent = Rescuer dev (record line { doing = Breaks breach.Spent [] })
-rescuer_answered setup dev Rests line _ = Rescuer dev line
-rescuer_answered setup dev doing line reply = Rescuer dev (line_answered setup doing line.lists reply)
+abbrev pub rescuer_answered : Setup → DevId → Doing → Submission → Reply → TaskState
+rescuer_answered setup dev Rests submission (Popped bio) = Rescuer dev (settled setup (bio ∷ []))
+rescuer_answered setup dev Rests submission Spent = Rescuer dev (record submission { doing = Breaks breach.Spent [] })
+rescuer_answered setup dev Rests submission _ = Rescuer dev submission
+rescuer_answered setup dev doing submission reply = Rescuer dev (submission_answered setup doing submission.lists reply)
 
 -- what is carried once the first was given of what a closed node holds, or its write is done
 abbrev pub given : ℕ → Closed → Option VectorItem → Option (Item Pad) → Option SlipItem → Carried
@@ -258,7 +258,7 @@ keeper_answered keeping _ = keeping
 
 -- how a task goes on with a reply
 abbrev pub answered : Setup → TaskState → Reply → TaskState
-answered setup (Writer number todo taken line) reply = writer_answered setup number todo taken line.doing line reply
-answered setup (Rescuer dev line) reply = rescuer_answered setup dev line.doing line reply
+answered setup (Writer number todo taken submission) reply = writer_answered setup number todo taken submission.doing submission reply
+answered setup (Rescuer dev submission) reply = rescuer_answered setup dev submission.doing submission reply
 answered setup (Completer disk carried) reply = Completer disk (carried_answered carried reply)
 answered setup (Keeper keeping) reply = Keeper (keeper_answered keeping reply)

@@ -4,7 +4,7 @@ use Rattle.std.specs.List.{list_any}
 use Rattle.elem_ledger.specs.Ledger.{LedgerId}
 use Rattle.run_machine.specs.declared.event.Event.{Event}
 use Rattle.run_machine.specs.Laws.{Object}
-use Rattle.run_machine.specs.Lines.{Doing, Rests}
+use Rattle.run_machine.specs.Submissions.{Doing, Rests}
 use Rattle.run_machine.specs.Opened.{Scenario, scene, start, setup}
 use Rattle.run_machine.specs.Requests.{Request, Done, Resize, NextRound}
 use Rattle.run_machine.specs.Runs.{State, IsRun}
@@ -64,7 +64,7 @@ RoundHasCome (todo ∷ later) NoBio Rests before = todo.round ≤ rounds_started
 RoundHasCome todo taken doing before = Unit {0}
 
 abbrev pub MayBegin : TaskState → List Entry → Type 0
-MayBegin (Writer number todo taken line) before = RoundHasCome todo taken line.doing before
+MayBegin (Writer number todo taken submission) before = RoundHasCome todo taken submission.doing before
 MayBegin task before = Unit {0}
 
 -- at each entry of a list, and all before it

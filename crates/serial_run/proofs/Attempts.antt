@@ -114,8 +114,8 @@ module _ (plain : Plain) (tasks : List TaskOf) (stream after : Lcg) where
 
   picks : (task : TaskState) (event : Event) → (IsNoCompleter task → is_complete event.what ≡ false)
       → ChosenBy task Chooses (Picks plain) stream (Stepped event) after → PicksByWord (run_state plain tasks) event.what stream after
-  picks (Writer number todo taken line) event none chosen = picks_none (run_state plain tasks) event.what stream after (none tt) chosen
-  picks (Rescuer dev line) event none chosen = picks_none (run_state plain tasks) event.what stream after (none tt) chosen
+  picks (Writer number todo taken submission) event none chosen = picks_none (run_state plain tasks) event.what stream after (none tt) chosen
+  picks (Rescuer dev submission) event none chosen = picks_none (run_state plain tasks) event.what stream after (none tt) chosen
   picks (Completer disk carried) event none chosen = picks_chosen disk event chosen
   picks (Keeper keeping) event none chosen = picks_none (run_state plain tasks) event.what stream after (none tt) chosen
 
@@ -125,8 +125,8 @@ module _ (plain : Plain) (tasks : List TaskOf) (stream after : Lcg) where
   stayed own (inr (pending, place, chooses, none)) = absurd none
 
   stays_still : (task : TaskState) (step : Step) → IsStill step → ChosenBy task Chooses (Picks plain) stream step after → after ≡ stream
-  stays_still (Writer number todo taken line) step still chosen = chosen
-  stays_still (Rescuer dev line) step still chosen = chosen
+  stays_still (Writer number todo taken submission) step still chosen = chosen
+  stays_still (Rescuer dev submission) step still chosen = chosen
   stays_still (Completer disk carried) step still chosen = by_step step still chosen
     where
       by_step : (step : Step) → IsStill step → Chosen Chooses (Picks plain) disk stream step after → after ≡ stream

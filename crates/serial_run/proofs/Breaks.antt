@@ -12,7 +12,7 @@ use Rattle.task_core.specs.declared.plain.Plain.{Plain}
 use Rattle.task_steps.specs.declared.step.Step.{Step}
 use Rattle.task_steps.specs.declared.step.Step.TheVariants.{Ended, Waiting, Broken}
 use Rattle.run_machine.specs.Events.{id_of, resize_of}
-use Rattle.run_machine.specs.Lines.{Doing, Rests, Drives, Copies, Breaks}
+use Rattle.run_machine.specs.Submissions.{Doing, Rests, Drives, Copies, Breaks}
 use Rattle.run_machine.specs.Objects.{Objects, Serves}
 use Rattle.task_core.specs.Plains.{objects_of, stage_of, PlainServes}
 use Rattle.task_core.specs.PlainSteps.{HasRound, TakesStep, scene_of_objects, state_of_objects}
@@ -100,14 +100,14 @@ module _ (setup : Setup) (task : TaskId) (old new : Objects) (ledger : ℕ → L
 
 -- a task that did not break off rests as one that has ended
 whole : (task : TaskState) → is_broken task ≡ false → breach_of task ≡ None
-whole (Writer number todo taken line) fine = by_doing line.doing fine
+whole (Writer number todo taken submission) fine = by_doing submission.doing fine
   where
     by_doing : (doing : Doing) → broke_in doing ≡ false → doing_breach doing ≡ None
     by_doing Rests fine = refl
     by_doing (Drives bio ask) fine = refl
     by_doing (Copies bio master leg want) fine = refl
     by_doing (Breaks breach kept) fine = absurd (true≢false fine)
-whole (Rescuer dev line) fine = by_doing line.doing fine
+whole (Rescuer dev submission) fine = by_doing submission.doing fine
   where
     by_doing : (doing : Doing) → broke_in doing ≡ false → doing_breach doing ≡ None
     by_doing Rests fine = refl

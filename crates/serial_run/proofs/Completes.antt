@@ -8,7 +8,7 @@ use Rattle.bio_records.specs.declared.tasks.TaskLists.{TaskLists}
 use Rattle.run_machine.specs.declared.event.What.{What}
 use Rattle.run_machine.specs.declared.event.What.TheVariants as what
 use Rattle.run_machine.specs.Events.{what_of, resize_of}
-use Rattle.run_machine.specs.Lines.{Doing, Rests, Drives, Copies, Breaks, Takes, Punts, Links, ToPush, ToCut, ToRecord, ToMaster, Line, line_request}
+use Rattle.run_machine.specs.Submissions.{Doing, Rests, Drives, Copies, Breaks, Takes, Punts, Links, ToPush, ToCut, ToRecord, ToMaster, Submission, submission_request}
 use Rattle.run_machine.specs.Objects.{Objects}
 use Rattle.task_core.specs.PlainSteps.{HasRound}
 use Rattle.run_machine.specs.Requests.{Request, Reply}
@@ -29,8 +29,8 @@ completes (requests.Complete disk) = true
 completes request = false
 
 abbrev pub IsNoCompleter : TaskState → Type 0
-IsNoCompleter (Writer number todo taken line) = Unit {0}
-IsNoCompleter (Rescuer dev line) = Unit {0}
+IsNoCompleter (Writer number todo taken submission) = Unit {0}
+IsNoCompleter (Rescuer dev submission) = Unit {0}
 IsNoCompleter (Completer disk carried) = ⊥
 IsNoCompleter (Keeper keeping) = Unit {0}
 
@@ -102,43 +102,43 @@ other_has_round objects _ other = tt
 
 module _ (setup : Setup) where
   -- writers and rescuers ask for nothing else
-  line_asks : (doing : Doing) (lists : TaskLists) → is_other (line_request setup doing lists) ≡ true
-  line_asks Rests lists = refl
-  line_asks (Breaks breach kept) lists = refl
-  line_asks (Drives bio ToPush) lists = refl
-  line_asks (Drives bio (ToCut (Takes waits))) lists = refl
-  line_asks (Drives bio (ToCut Punts)) lists = refl
-  line_asks (Drives bio (ToCut (Links hand))) lists = refl
-  line_asks (Drives bio ToRecord) lists = refl
-  line_asks (Drives bio (ToMaster slip)) lists = refl
-  line_asks (Copies bio master leg (Takes waits)) lists = refl
-  line_asks (Copies bio master leg Punts) lists = refl
-  line_asks (Copies bio master leg (Links hand)) lists = refl
+  submission_asks : (doing : Doing) (lists : TaskLists) → is_other (submission_request setup doing lists) ≡ true
+  submission_asks Rests lists = refl
+  submission_asks (Breaks breach kept) lists = refl
+  submission_asks (Drives bio ToPush) lists = refl
+  submission_asks (Drives bio (ToCut (Takes waits))) lists = refl
+  submission_asks (Drives bio (ToCut Punts)) lists = refl
+  submission_asks (Drives bio (ToCut (Links hand))) lists = refl
+  submission_asks (Drives bio ToRecord) lists = refl
+  submission_asks (Drives bio (ToMaster slip)) lists = refl
+  submission_asks (Copies bio master leg (Takes waits)) lists = refl
+  submission_asks (Copies bio master leg Punts) lists = refl
+  submission_asks (Copies bio master leg (Links hand)) lists = refl
 
   bio_asks : (b : Bool) (writer : ℕ) (todo : Todo) → is_other (with_bio writer b todo) ≡ true
   bio_asks true writer todo = refl
   bio_asks false writer todo = refl
 
-  writer_asks : (writer : ℕ) (todos : List Todo) (taken : Gathered) (doing : Doing) (line : Line)
-      → is_other (writer_request setup writer todos taken doing line) ≡ true
-  writer_asks writer [] taken Rests line = refl
-  writer_asks writer (todo ∷ later) NoBio Rests line = refl
-  writer_asks writer (todo ∷ later) (HasBio bio) Rests line = bio_asks (needs_vector todo.write) writer todo
-  writer_asks writer (todo ∷ later) (HasBoth bio vector) Rests line = refl
-  writer_asks writer todos taken (Drives bio ask) line = line_asks (Drives bio ask) line.lists
-  writer_asks writer todos taken (Copies bio master leg want) line = line_asks (Copies bio master leg want) line.lists
-  writer_asks writer todos taken (Breaks breach kept) line = refl
+  writer_asks : (writer : ℕ) (todos : List Todo) (taken : Gathered) (doing : Doing) (submission : Submission)
+      → is_other (writer_request setup writer todos taken doing submission) ≡ true
+  writer_asks writer [] taken Rests submission = refl
+  writer_asks writer (todo ∷ later) NoBio Rests submission = refl
+  writer_asks writer (todo ∷ later) (HasBio bio) Rests submission = bio_asks (needs_vector todo.write) writer todo
+  writer_asks writer (todo ∷ later) (HasBoth bio vector) Rests submission = refl
+  writer_asks writer todos taken (Drives bio ask) submission = submission_asks (Drives bio ask) submission.lists
+  writer_asks writer todos taken (Copies bio master leg want) submission = submission_asks (Copies bio master leg want) submission.lists
+  writer_asks writer todos taken (Breaks breach kept) submission = refl
 
-  rescuer_asks : (dev : DevId) (doing : Doing) (line : Line) → is_other (rescuer_request setup dev doing line) ≡ true
-  rescuer_asks dev Rests line = refl
-  rescuer_asks dev (Drives bio ask) line = line_asks (Drives bio ask) line.lists
-  rescuer_asks dev (Copies bio master leg want) line = line_asks (Copies bio master leg want) line.lists
-  rescuer_asks dev (Breaks breach kept) line = refl
+  rescuer_asks : (dev : DevId) (doing : Doing) (submission : Submission) → is_other (rescuer_request setup dev doing submission) ≡ true
+  rescuer_asks dev Rests submission = refl
+  rescuer_asks dev (Drives bio ask) submission = submission_asks (Drives bio ask) submission.lists
+  rescuer_asks dev (Copies bio master leg want) submission = submission_asks (Copies bio master leg want) submission.lists
+  rescuer_asks dev (Breaks breach kept) submission = refl
 
   asks_other : (task : TaskState) → IsNoCompleter task → completes (request setup task) ≡ false
-  asks_other (Writer number todos taken line) none =
-      other_completes (writer_request setup number todos taken line.doing line) (writer_asks number todos taken line.doing line)
-  asks_other (Rescuer dev line) none = other_completes (rescuer_request setup dev line.doing line) (rescuer_asks dev line.doing line)
+  asks_other (Writer number todos taken submission) none =
+      other_completes (writer_request setup number todos taken submission.doing submission) (writer_asks number todos taken submission.doing submission)
+  asks_other (Rescuer dev submission) none = other_completes (rescuer_request setup dev submission.doing submission) (rescuer_asks dev submission.doing submission)
   asks_other (Completer disk carried) none = absurd none
   asks_other (Keeper (Keeps [])) none = refl
   asks_other (Keeper (Keeps (Resizes pool min later ∷ duties))) none = refl
@@ -153,9 +153,9 @@ module _ (setup : Setup) where
   pub has_round : (objects : Objects) (task : TaskState)
       → ((round later : ℕ) (duties : List Duty) → task ≡ Keeper (Keeps (Starts round later ∷ duties)) → objects.tally.round + 1 < length objects.tally.left)
       → HasRound objects (request setup task)
-  has_round objects (Writer number todos taken line) ahead =
-      other_has_round objects (writer_request setup number todos taken line.doing line) (writer_asks number todos taken line.doing line)
-  has_round objects (Rescuer dev line) ahead = other_has_round objects (rescuer_request setup dev line.doing line) (rescuer_asks dev line.doing line)
+  has_round objects (Writer number todos taken submission) ahead =
+      other_has_round objects (writer_request setup number todos taken submission.doing submission) (writer_asks number todos taken submission.doing submission)
+  has_round objects (Rescuer dev submission) ahead = other_has_round objects (rescuer_request setup dev submission.doing submission) (rescuer_asks dev submission.doing submission)
   has_round objects (Completer disk Empty) ahead = tt
   has_round objects (Completer disk (Brings bio status)) ahead = tt
   has_round objects (Completer disk (Carries writer closed)) ahead = by_held closed.held.vector closed.held.bio closed.held.slip closed.parent

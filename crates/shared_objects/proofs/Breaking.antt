@@ -11,7 +11,7 @@ use Rattle.bio_books.specs.Drops.{Closed}
 use Rattle.bio_books.specs.Drops as end
 use Rattle.bio_books.specs.Links.{Made, NoRoom, Stray}
 use Rattle.run_machine.specs.Kept.{Kept}
-use Rattle.run_machine.specs.Lines.{Doing, Rests, Drives, Copies, Breaks, Ask, ToPush, ToCut, ToRecord, ToMaster, Want, Takes, Punts, Links, Line, spent, at_hand, punts_of, line_request, line_answered}
+use Rattle.run_machine.specs.Submissions.{Doing, Rests, Drives, Copies, Breaks, Ask, ToPush, ToCut, ToRecord, ToMaster, Want, Takes, Punts, Links, Submission, spent, at_hand, punts_of, submission_request, submission_answered}
 use Rattle.run_machine.specs.Requests.{Request, Reply, Rest, LinkedTo, DroppedTo, OutIs, Spent}
 use Rattle.run_machine.specs.Scene.{Setup}
 use Rattle.run_machine.specs.Tasks.{Todo, Gathered, NoBio, HasBio, HasBoth, Carried, Empty, Brings, Carries, Fails, Duty, Resizes, Starts, Keeping, Keeps, Stops, TaskState, Writer, Rescuer, Completer, Keeper, needs_vector, with_bio, write_request, writer_request, rescuer_request, closed_request, carried_request, keeper_request, request, write_answered, writer_answered, rescuer_answered, carried_answered, after_resize, keeper_answered, answered}
@@ -20,16 +20,16 @@ use Rattle.shared_objects.specs.Logs.{is_stop}
 
 -- a task that broke off asks for nothing more
 pub broken_rests : (setup : Setup) (task : TaskState) → is_some (breach_of task) ≡ true → request setup task ≡ Rest
-broken_rests setup (Writer number todo taken line) is = by_doing line.doing is
+broken_rests setup (Writer number todo taken submission) is = by_doing submission.doing is
   where
-    by_doing : (doing : Doing) → is_some (doing_breach doing) ≡ true → request setup (Writer number todo taken (record line { doing = doing })) ≡ Rest
+    by_doing : (doing : Doing) → is_some (doing_breach doing) ≡ true → request setup (Writer number todo taken (record submission { doing = doing })) ≡ Rest
     by_doing Rests is = absurd (cc is)
     by_doing (Drives bio ask) is = absurd (cc is)
     by_doing (Copies bio master leg want) is = absurd (cc is)
     by_doing (Breaks breach kept) is = refl
-broken_rests setup (Rescuer dev line) is = by_doing line.doing is
+broken_rests setup (Rescuer dev submission) is = by_doing submission.doing is
   where
-    by_doing : (doing : Doing) → is_some (doing_breach doing) ≡ true → request setup (Rescuer dev (record line { doing = doing })) ≡ Rest
+    by_doing : (doing : Doing) → is_some (doing_breach doing) ≡ true → request setup (Rescuer dev (record submission { doing = doing })) ≡ Rest
     by_doing Rests is = absurd (cc is)
     by_doing (Drives bio ask) is = absurd (cc is)
     by_doing (Copies bio master leg want) is = absurd (cc is)
@@ -43,60 +43,60 @@ spent_breaks : (kept : List Kept) (lists : TaskLists) (dev : Option DevId) → i
 spent_breaks kept lists None = refl
 spent_breaks kept lists (Some dev) = refl
 
-line_breaks : (setup : Setup) (doing : Doing) (lists : TaskLists) (reply : Reply) → is_stop (line_request setup doing lists) reply ≡ true
-    → is_some (doing_breach (line_answered setup doing lists reply).doing) ≡ true
-line_breaks setup doing lists Spent is = spent_breaks (at_hand doing) lists (punts_of doing)
-line_breaks setup (Drives bio (ToCut (Links hand))) lists (LinkedTo (Made node)) is = absurd (cc is)
-line_breaks setup (Drives bio (ToCut (Links hand))) lists (LinkedTo (NoRoom back)) is = refl
-line_breaks setup (Drives bio (ToCut (Links hand))) lists (LinkedTo (Stray back)) is = refl
-line_breaks setup (Drives bio (ToMaster slip)) lists (LinkedTo (Made node)) is = absurd (cc is)
-line_breaks setup (Drives bio (ToMaster slip)) lists (LinkedTo (NoRoom back)) is = refl
-line_breaks setup (Drives bio (ToMaster slip)) lists (LinkedTo (Stray back)) is = refl
-line_breaks setup (Copies bio master leg (Links hand)) lists (LinkedTo (Made node)) is = absurd (cc is)
-line_breaks setup (Copies bio master leg (Links hand)) lists (LinkedTo (NoRoom back)) is = refl
-line_breaks setup (Copies bio master leg (Links hand)) lists (LinkedTo (Stray back)) is = refl
-line_breaks setup Rests lists reply is = absurd (cc is)
-line_breaks setup (Drives bio ToPush) lists reply is = absurd (cc is)
-line_breaks setup (Drives bio (ToCut (Takes waits))) lists reply is = absurd (cc is)
-line_breaks setup (Drives bio (ToCut Punts)) lists reply is = absurd (cc is)
-line_breaks setup (Drives bio (ToCut (Links hand))) lists reply is = absurd (cc is)
-line_breaks setup (Drives bio ToRecord) lists reply is = absurd (cc is)
-line_breaks setup (Drives bio (ToMaster slip)) lists reply is = absurd (cc is)
-line_breaks setup (Copies bio master leg (Takes waits)) lists reply is = absurd (cc is)
-line_breaks setup (Copies bio master leg Punts) lists reply is = absurd (cc is)
-line_breaks setup (Copies bio master leg (Links hand)) lists reply is = absurd (cc is)
-line_breaks setup (Breaks breach kept) lists reply is = absurd (cc is)
+submission_breaks : (setup : Setup) (doing : Doing) (lists : TaskLists) (reply : Reply) → is_stop (submission_request setup doing lists) reply ≡ true
+    → is_some (doing_breach (submission_answered setup doing lists reply).doing) ≡ true
+submission_breaks setup doing lists Spent is = spent_breaks (at_hand doing) lists (punts_of doing)
+submission_breaks setup (Drives bio (ToCut (Links hand))) lists (LinkedTo (Made node)) is = absurd (cc is)
+submission_breaks setup (Drives bio (ToCut (Links hand))) lists (LinkedTo (NoRoom back)) is = refl
+submission_breaks setup (Drives bio (ToCut (Links hand))) lists (LinkedTo (Stray back)) is = refl
+submission_breaks setup (Drives bio (ToMaster slip)) lists (LinkedTo (Made node)) is = absurd (cc is)
+submission_breaks setup (Drives bio (ToMaster slip)) lists (LinkedTo (NoRoom back)) is = refl
+submission_breaks setup (Drives bio (ToMaster slip)) lists (LinkedTo (Stray back)) is = refl
+submission_breaks setup (Copies bio master leg (Links hand)) lists (LinkedTo (Made node)) is = absurd (cc is)
+submission_breaks setup (Copies bio master leg (Links hand)) lists (LinkedTo (NoRoom back)) is = refl
+submission_breaks setup (Copies bio master leg (Links hand)) lists (LinkedTo (Stray back)) is = refl
+submission_breaks setup Rests lists reply is = absurd (cc is)
+submission_breaks setup (Drives bio ToPush) lists reply is = absurd (cc is)
+submission_breaks setup (Drives bio (ToCut (Takes waits))) lists reply is = absurd (cc is)
+submission_breaks setup (Drives bio (ToCut Punts)) lists reply is = absurd (cc is)
+submission_breaks setup (Drives bio (ToCut (Links hand))) lists reply is = absurd (cc is)
+submission_breaks setup (Drives bio ToRecord) lists reply is = absurd (cc is)
+submission_breaks setup (Drives bio (ToMaster slip)) lists reply is = absurd (cc is)
+submission_breaks setup (Copies bio master leg (Takes waits)) lists reply is = absurd (cc is)
+submission_breaks setup (Copies bio master leg Punts) lists reply is = absurd (cc is)
+submission_breaks setup (Copies bio master leg (Links hand)) lists reply is = absurd (cc is)
+submission_breaks setup (Breaks breach kept) lists reply is = absurd (cc is)
 
-with_breaks : (setup : Setup) (writer : ℕ) (needs : Bool) (todo : Todo) (later : List Todo) (bio : Item Pad) (line : Line) (reply : Reply)
-    → is_stop (with_bio writer needs todo) reply ≡ true → is_some (breach_of (write_answered setup writer (todo ∷ later) (HasBio bio) line reply)) ≡ true
-with_breaks setup writer needs todo later bio line Spent is = refl
-with_breaks setup writer false todo later bio line (LinkedTo (Made node)) is = absurd (cc is)
-with_breaks setup writer false todo later bio line (LinkedTo (NoRoom back)) is = refl
-with_breaks setup writer false todo later bio line (LinkedTo (Stray back)) is = refl
-with_breaks setup writer true todo later bio line reply is = absurd (cc is)
-with_breaks setup writer false todo later bio line reply is = absurd (cc is)
+with_breaks : (setup : Setup) (writer : ℕ) (needs : Bool) (todo : Todo) (later : List Todo) (bio : Item Pad) (submission : Submission) (reply : Reply)
+    → is_stop (with_bio writer needs todo) reply ≡ true → is_some (breach_of (write_answered setup writer (todo ∷ later) (HasBio bio) submission reply)) ≡ true
+with_breaks setup writer needs todo later bio submission Spent is = refl
+with_breaks setup writer false todo later bio submission (LinkedTo (Made node)) is = absurd (cc is)
+with_breaks setup writer false todo later bio submission (LinkedTo (NoRoom back)) is = refl
+with_breaks setup writer false todo later bio submission (LinkedTo (Stray back)) is = refl
+with_breaks setup writer true todo later bio submission reply is = absurd (cc is)
+with_breaks setup writer false todo later bio submission reply is = absurd (cc is)
 
-write_breaks : (setup : Setup) (writer : ℕ) (todo : List Todo) (taken : Gathered) (line : Line) (reply : Reply) → is_stop (write_request writer todo taken) reply ≡ true
-    → is_some (breach_of (write_answered setup writer todo taken line reply)) ≡ true
-write_breaks setup writer todo taken line Spent is = refl
-write_breaks setup writer (todo ∷ later) (HasBio bio) line reply is = with_breaks setup writer (needs_vector todo.write) todo later bio line reply is
-write_breaks setup writer (todo ∷ later) (HasBoth bio vector) line (LinkedTo (Made node)) is = absurd (cc is)
-write_breaks setup writer (todo ∷ later) (HasBoth bio vector) line (LinkedTo (NoRoom back)) is = refl
-write_breaks setup writer (todo ∷ later) (HasBoth bio vector) line (LinkedTo (Stray back)) is = refl
-write_breaks setup writer [] taken line reply is = absurd (cc is)
-write_breaks setup writer (todo ∷ later) NoBio line reply is = absurd (cc is)
-write_breaks setup writer (todo ∷ later) (HasBoth bio vector) line reply is = absurd (cc is)
+write_breaks : (setup : Setup) (writer : ℕ) (todo : List Todo) (taken : Gathered) (submission : Submission) (reply : Reply) → is_stop (write_request writer todo taken) reply ≡ true
+    → is_some (breach_of (write_answered setup writer todo taken submission reply)) ≡ true
+write_breaks setup writer todo taken submission Spent is = refl
+write_breaks setup writer (todo ∷ later) (HasBio bio) submission reply is = with_breaks setup writer (needs_vector todo.write) todo later bio submission reply is
+write_breaks setup writer (todo ∷ later) (HasBoth bio vector) submission (LinkedTo (Made node)) is = absurd (cc is)
+write_breaks setup writer (todo ∷ later) (HasBoth bio vector) submission (LinkedTo (NoRoom back)) is = refl
+write_breaks setup writer (todo ∷ later) (HasBoth bio vector) submission (LinkedTo (Stray back)) is = refl
+write_breaks setup writer [] taken submission reply is = absurd (cc is)
+write_breaks setup writer (todo ∷ later) NoBio submission reply is = absurd (cc is)
+write_breaks setup writer (todo ∷ later) (HasBoth bio vector) submission reply is = absurd (cc is)
 
-writer_breaks : (setup : Setup) (writer : ℕ) (todo : List Todo) (taken : Gathered) (doing : Doing) (line : Line) (reply : Reply)
-    → is_stop (writer_request setup writer todo taken doing line) reply ≡ true → is_some (breach_of (writer_answered setup writer todo taken doing line reply)) ≡ true
-writer_breaks setup writer todo taken Rests line reply is = write_breaks setup writer todo taken line reply is
-writer_breaks setup writer todo taken doing line reply is = line_breaks setup doing line.lists reply is
+writer_breaks : (setup : Setup) (writer : ℕ) (todo : List Todo) (taken : Gathered) (doing : Doing) (submission : Submission) (reply : Reply)
+    → is_stop (writer_request setup writer todo taken doing submission) reply ≡ true → is_some (breach_of (writer_answered setup writer todo taken doing submission reply)) ≡ true
+writer_breaks setup writer todo taken Rests submission reply is = write_breaks setup writer todo taken submission reply is
+writer_breaks setup writer todo taken doing submission reply is = submission_breaks setup doing submission.lists reply is
 
-rescuer_breaks : (setup : Setup) (dev : DevId) (doing : Doing) (line : Line) (reply : Reply)
-    → is_stop (rescuer_request setup dev doing line) reply ≡ true → is_some (breach_of (rescuer_answered setup dev doing line reply)) ≡ true
-rescuer_breaks setup dev Rests line Spent is = refl
-rescuer_breaks setup dev Rests line reply is = absurd (cc is)
-rescuer_breaks setup dev doing line reply is = line_breaks setup doing line.lists reply is
+rescuer_breaks : (setup : Setup) (dev : DevId) (doing : Doing) (submission : Submission) (reply : Reply)
+    → is_stop (rescuer_request setup dev doing submission) reply ≡ true → is_some (breach_of (rescuer_answered setup dev doing submission reply)) ≡ true
+rescuer_breaks setup dev Rests submission Spent is = refl
+rescuer_breaks setup dev Rests submission reply is = absurd (cc is)
+rescuer_breaks setup dev doing submission reply is = submission_breaks setup doing submission.lists reply is
 
 closed_breaks : (writer : ℕ) (closed : Closed) (vector : Option VectorItem) (bio : Option (Item Pad)) (slip : Option SlipItem) (parent : Option ℕ) (reply : Reply)
     → is_stop (closed_request writer closed vector bio slip parent) reply ≡ true → is_some (carried_breach (carried_answered (Carries writer closed) reply)) ≡ true
@@ -134,23 +134,23 @@ keeper_breaks (Stops breach) reply asks is = refl
 -- a task breaks off with a reply that stops it
 pub stop_breaks : (setup : Setup) (task : TaskState) (reply : Reply) → (request setup task ≡ Rest → ⊥) → is_stop (request setup task) reply ≡ true
     → is_some (breach_of (answered setup task reply)) ≡ true
-stop_breaks setup (Writer number todo taken line) reply asks is = writer_breaks setup number todo taken line.doing line reply is
-stop_breaks setup (Rescuer dev line) reply asks is = rescuer_breaks setup dev line.doing line reply is
+stop_breaks setup (Writer number todo taken submission) reply asks is = writer_breaks setup number todo taken submission.doing submission reply is
+stop_breaks setup (Rescuer dev submission) reply asks is = rescuer_breaks setup dev submission.doing submission reply is
 stop_breaks setup (Completer disk carried) reply asks is = carried_breaks disk carried reply is
 stop_breaks setup (Keeper keeping) reply asks is = keeper_breaks keeping reply asks is
 
 -- and with none at all it does where there was no ticket
 pub spent_breaks_off : (setup : Setup) (task : TaskState) → (request setup task ≡ Rest → ⊥) → is_some (breach_of (answered setup task Spent)) ≡ true
-spent_breaks_off setup (Writer number todo taken line) asks = by_doing line.doing
+spent_breaks_off setup (Writer number todo taken submission) asks = by_doing submission.doing
   where
-    by_doing : (doing : Doing) → is_some (breach_of (writer_answered setup number todo taken doing line Spent)) ≡ true
+    by_doing : (doing : Doing) → is_some (breach_of (writer_answered setup number todo taken doing submission Spent)) ≡ true
     by_doing Rests = refl
-    by_doing doing = spent_breaks (at_hand doing) line.lists (punts_of doing)
-spent_breaks_off setup (Rescuer dev line) asks = by_doing line.doing
+    by_doing doing = spent_breaks (at_hand doing) submission.lists (punts_of doing)
+spent_breaks_off setup (Rescuer dev submission) asks = by_doing submission.doing
   where
-    by_doing : (doing : Doing) → is_some (breach_of (rescuer_answered setup dev doing line Spent)) ≡ true
+    by_doing : (doing : Doing) → is_some (breach_of (rescuer_answered setup dev doing submission Spent)) ≡ true
     by_doing Rests = refl
-    by_doing doing = spent_breaks (at_hand doing) line.lists (punts_of doing)
+    by_doing doing = spent_breaks (at_hand doing) submission.lists (punts_of doing)
 spent_breaks_off setup (Completer disk carried) asks = refl
 spent_breaks_off setup (Keeper (Keeps [])) asks = absurd (asks refl)
 spent_breaks_off setup (Keeper (Keeps (Resizes pool min later ∷ duties))) asks = refl

@@ -14,7 +14,7 @@ use Rattle.layout_model.proofs.ByShape.{cuts_is, copies_is}
 use Rattle.decl_text.specs.Accepting.{what_of}
 use Rattle.decl_text.specs.Fit.{HasReserves, IsFitStack}
 use Rattle.decl_text.proofs.Fits.{accepted_fit}
-use Rattle.run_machine.specs.Lines.{rests}
+use Rattle.run_machine.specs.Submissions.{rests}
 use Rattle.run_machine.specs.Opened.{Scenario, at, duties, is_by, keepers, most_writers, setup, tasks, todos, todos_of, writers}
 use Rattle.run_machine.specs.Scene.{is_device, is_disk, keeps_data, rescuer_at}
 use Rattle.run_machine.specs.Tasks.{NoBio, Empty, Duty, Writer, Rescuer, Completer}

@@ -30,7 +30,7 @@ use Rattle.task_steps.specs.contracts.submission.DriverAsk as driver_ask
 use Rattle.task_steps.specs.contracts.submission.HandedBack as handed_back
 use Rattle.task_steps.specs.contracts.submission.Kept as kept
 use Rattle.task_steps.specs.contracts.submission.Doing as doing
-use Rattle.task_steps.specs.contracts.submission.Line as line
+use Rattle.task_steps.specs.contracts.submission.Submission as submission
 use Rattle.task_steps.specs.contracts.completer.Load as load
 use Rattle.task_steps.specs.contracts.completer.Carried as carried
 use Rattle.task_steps.specs.contracts.rescuer.Rescuer as rescuer
@@ -73,17 +73,17 @@ kept_send = search (sendable, crosses, handed_back_send, segment.the_send, pad.t
 doing_send : IsSend (doing.the_field).row
 doing_send = search (sendable, crosses, driver_ask_send, want_send, kept_send, breach.the_field_send, segment.the_send, pad.the_send, bio.the_field_send, share.the_send, array_vec.the_send, knot.send-BioBody) depth 60
 
-line_send : IsSend line.the_row
-line_send = search (sendable, crosses, doing_send, lists_send) depth 40
+submission_send : IsSend submission.the_row
+submission_send = search (sendable, crosses, doing_send, lists_send) depth 40
 
 taken_send : IsSend (taken.the_field).row
 taken_send = search (sendable, crosses, segment.the_send, vector.the_send, pad.the_send, bio.the_field_send, share.the_send, array_vec.the_send, knot.send-BioBody) depth 60
 
 writer_send : IsSend writer.the_row
-writer_send = search (sendable, crosses, todos.the_send, taken_send, line_send) depth 40
+writer_send = search (sendable, crosses, todos.the_send, taken_send, submission_send) depth 40
 
 rescuer_send : IsSend rescuer.the_row
-rescuer_send = search (sendable, crosses, dev.the_field_send, line_send) depth 40
+rescuer_send = search (sendable, crosses, dev.the_field_send, submission_send) depth 40
 
 load_send : IsSend (load.the_field).row
 load_send = search (sendable, crosses, status.the_field_send, closed_node_send, breach.the_field_send, back_send, segment.the_send, pad.the_send, bio.the_field_send, share.the_send, array_vec.the_send, knot.send-BioBody) depth 60

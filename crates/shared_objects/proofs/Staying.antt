@@ -10,7 +10,7 @@ use Rattle.bio_books.specs.Drops.{Closed}
 use Rattle.bio_books.specs.Drops as end
 use Rattle.bio_books.specs.Links.{Made, NoRoom, Stray}
 use Rattle.run_machine.specs.Events.{what_of, resize_of}
-use Rattle.run_machine.specs.Lines.{Doing, Rests, Drives, Copies, Breaks, Ask, ToPush, ToCut, ToRecord, ToMaster, Want, Takes, Punts, Links, Line, line_request, line_answered}
+use Rattle.run_machine.specs.Submissions.{Doing, Rests, Drives, Copies, Breaks, Ask, ToPush, ToCut, ToRecord, ToMaster, Want, Takes, Punts, Links, Submission, submission_request, submission_answered}
 use Rattle.run_machine.specs.Requests.{Request, Reply, GiveBio, GiveVec, GiveSlip, NextRound, HadBio, HadVec, HadSlip, Missed, Did, Popped, Completed, LinkedTo, DroppedTo, OutIs, Nothing, Spent}
 use Rattle.run_machine.specs.Scene.{Setup}
 use Rattle.run_machine.specs.Tasks.{Todo, Gathered, NoBio, HasBio, HasBoth, Carried, Empty, Brings, Carries, Fails, Duty, Resizes, Starts, Keeping, Keeps, Stops, TaskState, Writer, Rescuer, Completer, Keeper, needs_vector, with_bio, write_request, writer_request, rescuer_request, closed_request, carried_request, keeper_request, request, write_answered, writer_answered, rescuer_answered, carried_answered, after_resize, keeper_answered, answered}
@@ -47,106 +47,106 @@ glance_kinds true stop is = absurd (cc is)
 glance_kinds false true is = absurd (cc is)
 glance_kinds false false is = (refl, refl)
 
-line_stays : (stage : Stage) (setup : Setup) (doing : Doing) (line : Line) (reply : Reply) → is_glance (line_request setup doing line.lists) reply ≡ true
-    → Owes stage (line_request setup doing line.lists) reply → line_answered setup doing line.lists reply ≡ record { doing = doing; lists = line.lists }
-line_stays stage setup Rests line Spent is owed = absurd (cc is)
-line_stays stage setup Rests line reply is owed = absurd owed
-line_stays stage setup (Breaks breach kept) line Spent is owed = absurd (cc is)
-line_stays stage setup (Breaks breach kept) line reply is owed = absurd owed
-line_stays stage setup (Drives bio ToPush) line Spent is owed = absurd (cc is)
-line_stays stage setup (Drives bio ToPush) line Did is owed = absurd (cc is)
-line_stays stage setup (Drives bio ToPush) line reply is owed = absurd owed
-line_stays stage setup (Drives bio (ToCut (Takes true))) line Spent is owed = absurd (cc is)
-line_stays stage setup (Drives bio (ToCut (Takes true))) line (HadBio got hand) is owed = absurd (cc is)
-line_stays stage setup (Drives bio (ToCut (Takes true))) line (Missed true) is owed = absurd (cc is)
-line_stays stage setup (Drives bio (ToCut (Takes true))) line (Missed false) is owed = refl
-line_stays stage setup (Drives bio (ToCut (Takes true))) line reply is owed = absurd owed
-line_stays stage setup (Drives bio (ToCut (Takes false))) line Spent is owed = absurd (cc is)
-line_stays stage setup (Drives bio (ToCut (Takes false))) line (HadBio got hand) is owed = absurd (cc is)
-line_stays stage setup (Drives bio (ToCut (Takes false))) line (Missed used) is owed = absurd (cc is)
-line_stays stage setup (Drives bio (ToCut (Takes false))) line reply is owed = absurd owed
-line_stays stage setup (Drives bio (ToCut Punts)) line Spent is owed = absurd (cc is)
-line_stays stage setup (Drives bio (ToCut Punts)) line Did is owed = absurd (cc is)
-line_stays stage setup (Drives bio (ToCut Punts)) line reply is owed = absurd owed
-line_stays stage setup (Drives bio ToRecord) line Spent is owed = absurd (cc is)
-line_stays stage setup (Drives bio ToRecord) line (HadSlip got slip) is owed = absurd (cc is)
-line_stays stage setup (Drives bio ToRecord) line (Missed used) is owed = refl
-line_stays stage setup (Drives bio ToRecord) line reply is owed = absurd owed
-line_stays stage setup (Copies bio master leg (Takes true)) line Spent is owed = absurd (cc is)
-line_stays stage setup (Copies bio master leg (Takes true)) line (HadBio got hand) is owed = absurd (cc is)
-line_stays stage setup (Copies bio master leg (Takes true)) line (Missed true) is owed = absurd (cc is)
-line_stays stage setup (Copies bio master leg (Takes true)) line (Missed false) is owed = refl
-line_stays stage setup (Copies bio master leg (Takes true)) line reply is owed = absurd owed
-line_stays stage setup (Copies bio master leg (Takes false)) line Spent is owed = absurd (cc is)
-line_stays stage setup (Copies bio master leg (Takes false)) line (HadBio got hand) is owed = absurd (cc is)
-line_stays stage setup (Copies bio master leg (Takes false)) line (Missed used) is owed = absurd (cc is)
-line_stays stage setup (Copies bio master leg (Takes false)) line reply is owed = absurd owed
-line_stays stage setup (Copies bio master leg Punts) line Spent is owed = absurd (cc is)
-line_stays stage setup (Copies bio master leg Punts) line Did is owed = absurd (cc is)
-line_stays stage setup (Copies bio master leg Punts) line reply is owed = absurd owed
-line_stays stage setup (Drives bio (ToCut (Links hand))) line Spent is owed = absurd (cc is)
-line_stays stage setup (Drives bio (ToCut (Links hand))) line (LinkedTo (Made node)) is owed = absurd (cc is)
-line_stays stage setup (Drives bio (ToCut (Links hand))) line (LinkedTo (NoRoom back)) is owed = absurd (cc is)
-line_stays stage setup (Drives bio (ToCut (Links hand))) line (LinkedTo (Stray back)) is owed = absurd (cc is)
-line_stays stage setup (Drives bio (ToCut (Links hand))) line reply is owed = absurd owed
-line_stays stage setup (Drives bio (ToMaster slip)) line Spent is owed = absurd (cc is)
-line_stays stage setup (Drives bio (ToMaster slip)) line (LinkedTo (Made node)) is owed = absurd (cc is)
-line_stays stage setup (Drives bio (ToMaster slip)) line (LinkedTo (NoRoom back)) is owed = absurd (cc is)
-line_stays stage setup (Drives bio (ToMaster slip)) line (LinkedTo (Stray back)) is owed = absurd (cc is)
-line_stays stage setup (Drives bio (ToMaster slip)) line reply is owed = absurd owed
-line_stays stage setup (Copies bio master leg (Links hand)) line Spent is owed = absurd (cc is)
-line_stays stage setup (Copies bio master leg (Links hand)) line (LinkedTo (Made node)) is owed = absurd (cc is)
-line_stays stage setup (Copies bio master leg (Links hand)) line (LinkedTo (NoRoom back)) is owed = absurd (cc is)
-line_stays stage setup (Copies bio master leg (Links hand)) line (LinkedTo (Stray back)) is owed = absurd (cc is)
-line_stays stage setup (Copies bio master leg (Links hand)) line reply is owed = absurd owed
+submission_stays : (stage : Stage) (setup : Setup) (doing : Doing) (submission : Submission) (reply : Reply) → is_glance (submission_request setup doing submission.lists) reply ≡ true
+    → Owes stage (submission_request setup doing submission.lists) reply → submission_answered setup doing submission.lists reply ≡ record { doing = doing; lists = submission.lists }
+submission_stays stage setup Rests submission Spent is owed = absurd (cc is)
+submission_stays stage setup Rests submission reply is owed = absurd owed
+submission_stays stage setup (Breaks breach kept) submission Spent is owed = absurd (cc is)
+submission_stays stage setup (Breaks breach kept) submission reply is owed = absurd owed
+submission_stays stage setup (Drives bio ToPush) submission Spent is owed = absurd (cc is)
+submission_stays stage setup (Drives bio ToPush) submission Did is owed = absurd (cc is)
+submission_stays stage setup (Drives bio ToPush) submission reply is owed = absurd owed
+submission_stays stage setup (Drives bio (ToCut (Takes true))) submission Spent is owed = absurd (cc is)
+submission_stays stage setup (Drives bio (ToCut (Takes true))) submission (HadBio got hand) is owed = absurd (cc is)
+submission_stays stage setup (Drives bio (ToCut (Takes true))) submission (Missed true) is owed = absurd (cc is)
+submission_stays stage setup (Drives bio (ToCut (Takes true))) submission (Missed false) is owed = refl
+submission_stays stage setup (Drives bio (ToCut (Takes true))) submission reply is owed = absurd owed
+submission_stays stage setup (Drives bio (ToCut (Takes false))) submission Spent is owed = absurd (cc is)
+submission_stays stage setup (Drives bio (ToCut (Takes false))) submission (HadBio got hand) is owed = absurd (cc is)
+submission_stays stage setup (Drives bio (ToCut (Takes false))) submission (Missed used) is owed = absurd (cc is)
+submission_stays stage setup (Drives bio (ToCut (Takes false))) submission reply is owed = absurd owed
+submission_stays stage setup (Drives bio (ToCut Punts)) submission Spent is owed = absurd (cc is)
+submission_stays stage setup (Drives bio (ToCut Punts)) submission Did is owed = absurd (cc is)
+submission_stays stage setup (Drives bio (ToCut Punts)) submission reply is owed = absurd owed
+submission_stays stage setup (Drives bio ToRecord) submission Spent is owed = absurd (cc is)
+submission_stays stage setup (Drives bio ToRecord) submission (HadSlip got slip) is owed = absurd (cc is)
+submission_stays stage setup (Drives bio ToRecord) submission (Missed used) is owed = refl
+submission_stays stage setup (Drives bio ToRecord) submission reply is owed = absurd owed
+submission_stays stage setup (Copies bio master leg (Takes true)) submission Spent is owed = absurd (cc is)
+submission_stays stage setup (Copies bio master leg (Takes true)) submission (HadBio got hand) is owed = absurd (cc is)
+submission_stays stage setup (Copies bio master leg (Takes true)) submission (Missed true) is owed = absurd (cc is)
+submission_stays stage setup (Copies bio master leg (Takes true)) submission (Missed false) is owed = refl
+submission_stays stage setup (Copies bio master leg (Takes true)) submission reply is owed = absurd owed
+submission_stays stage setup (Copies bio master leg (Takes false)) submission Spent is owed = absurd (cc is)
+submission_stays stage setup (Copies bio master leg (Takes false)) submission (HadBio got hand) is owed = absurd (cc is)
+submission_stays stage setup (Copies bio master leg (Takes false)) submission (Missed used) is owed = absurd (cc is)
+submission_stays stage setup (Copies bio master leg (Takes false)) submission reply is owed = absurd owed
+submission_stays stage setup (Copies bio master leg Punts) submission Spent is owed = absurd (cc is)
+submission_stays stage setup (Copies bio master leg Punts) submission Did is owed = absurd (cc is)
+submission_stays stage setup (Copies bio master leg Punts) submission reply is owed = absurd owed
+submission_stays stage setup (Drives bio (ToCut (Links hand))) submission Spent is owed = absurd (cc is)
+submission_stays stage setup (Drives bio (ToCut (Links hand))) submission (LinkedTo (Made node)) is owed = absurd (cc is)
+submission_stays stage setup (Drives bio (ToCut (Links hand))) submission (LinkedTo (NoRoom back)) is owed = absurd (cc is)
+submission_stays stage setup (Drives bio (ToCut (Links hand))) submission (LinkedTo (Stray back)) is owed = absurd (cc is)
+submission_stays stage setup (Drives bio (ToCut (Links hand))) submission reply is owed = absurd owed
+submission_stays stage setup (Drives bio (ToMaster slip)) submission Spent is owed = absurd (cc is)
+submission_stays stage setup (Drives bio (ToMaster slip)) submission (LinkedTo (Made node)) is owed = absurd (cc is)
+submission_stays stage setup (Drives bio (ToMaster slip)) submission (LinkedTo (NoRoom back)) is owed = absurd (cc is)
+submission_stays stage setup (Drives bio (ToMaster slip)) submission (LinkedTo (Stray back)) is owed = absurd (cc is)
+submission_stays stage setup (Drives bio (ToMaster slip)) submission reply is owed = absurd owed
+submission_stays stage setup (Copies bio master leg (Links hand)) submission Spent is owed = absurd (cc is)
+submission_stays stage setup (Copies bio master leg (Links hand)) submission (LinkedTo (Made node)) is owed = absurd (cc is)
+submission_stays stage setup (Copies bio master leg (Links hand)) submission (LinkedTo (NoRoom back)) is owed = absurd (cc is)
+submission_stays stage setup (Copies bio master leg (Links hand)) submission (LinkedTo (Stray back)) is owed = absurd (cc is)
+submission_stays stage setup (Copies bio master leg (Links hand)) submission reply is owed = absurd owed
 
-with_stays : (stage : Stage) (setup : Setup) (writer : ℕ) (needs : Bool) (todo : Todo) (later : List Todo) (bio : Item Pad) (line : Line) (reply : Reply)
+with_stays : (stage : Stage) (setup : Setup) (writer : ℕ) (needs : Bool) (todo : Todo) (later : List Todo) (bio : Item Pad) (submission : Submission) (reply : Reply)
     → is_glance (with_bio writer needs todo) reply ≡ true → Owes stage (with_bio writer needs todo) reply
-    → write_answered setup writer (todo ∷ later) (HasBio bio) line reply ≡ Writer writer (todo ∷ later) (HasBio bio) line
-with_stays stage setup writer true todo later bio line Spent is owed = absurd (cc is)
-with_stays stage setup writer true todo later bio line (HadVec got vector) is owed = absurd (cc is)
-with_stays stage setup writer true todo later bio line (Missed true) is owed = absurd (cc is)
-with_stays stage setup writer true todo later bio line (Missed false) is owed = refl
-with_stays stage setup writer true todo later bio line reply is owed = absurd owed
-with_stays stage setup writer false todo later bio line Spent is owed = absurd (cc is)
-with_stays stage setup writer false todo later bio line (LinkedTo (Made node)) is owed = absurd (cc is)
-with_stays stage setup writer false todo later bio line (LinkedTo (NoRoom back)) is owed = absurd (cc is)
-with_stays stage setup writer false todo later bio line (LinkedTo (Stray back)) is owed = absurd (cc is)
-with_stays stage setup writer false todo later bio line reply is owed = absurd owed
+    → write_answered setup writer (todo ∷ later) (HasBio bio) submission reply ≡ Writer writer (todo ∷ later) (HasBio bio) submission
+with_stays stage setup writer true todo later bio submission Spent is owed = absurd (cc is)
+with_stays stage setup writer true todo later bio submission (HadVec got vector) is owed = absurd (cc is)
+with_stays stage setup writer true todo later bio submission (Missed true) is owed = absurd (cc is)
+with_stays stage setup writer true todo later bio submission (Missed false) is owed = refl
+with_stays stage setup writer true todo later bio submission reply is owed = absurd owed
+with_stays stage setup writer false todo later bio submission Spent is owed = absurd (cc is)
+with_stays stage setup writer false todo later bio submission (LinkedTo (Made node)) is owed = absurd (cc is)
+with_stays stage setup writer false todo later bio submission (LinkedTo (NoRoom back)) is owed = absurd (cc is)
+with_stays stage setup writer false todo later bio submission (LinkedTo (Stray back)) is owed = absurd (cc is)
+with_stays stage setup writer false todo later bio submission reply is owed = absurd owed
 
-write_stays : (stage : Stage) (setup : Setup) (writer : ℕ) (todo : List Todo) (taken : Gathered) (line : Line) (reply : Reply)
+write_stays : (stage : Stage) (setup : Setup) (writer : ℕ) (todo : List Todo) (taken : Gathered) (submission : Submission) (reply : Reply)
     → is_glance (write_request writer todo taken) reply ≡ true → Owes stage (write_request writer todo taken) reply
-    → write_answered setup writer todo taken line reply ≡ Writer writer todo taken line
-write_stays stage setup writer [] taken line Spent is owed = absurd (cc is)
-write_stays stage setup writer [] taken line reply is owed = absurd owed
-write_stays stage setup writer (todo ∷ later) NoBio line Spent is owed = absurd (cc is)
-write_stays stage setup writer (todo ∷ later) NoBio line (HadBio got bio) is owed = absurd (cc is)
-write_stays stage setup writer (todo ∷ later) NoBio line (Missed true) is owed = absurd (cc is)
-write_stays stage setup writer (todo ∷ later) NoBio line (Missed false) is owed = refl
-write_stays stage setup writer (todo ∷ later) NoBio line reply is owed = absurd owed
-write_stays stage setup writer (todo ∷ later) (HasBio bio) line reply is owed = with_stays stage setup writer (needs_vector todo.write) todo later bio line reply is owed
-write_stays stage setup writer (todo ∷ later) (HasBoth bio vector) line Spent is owed = absurd (cc is)
-write_stays stage setup writer (todo ∷ later) (HasBoth bio vector) line (LinkedTo (Made node)) is owed = absurd (cc is)
-write_stays stage setup writer (todo ∷ later) (HasBoth bio vector) line (LinkedTo (NoRoom back)) is owed = absurd (cc is)
-write_stays stage setup writer (todo ∷ later) (HasBoth bio vector) line (LinkedTo (Stray back)) is owed = absurd (cc is)
-write_stays stage setup writer (todo ∷ later) (HasBoth bio vector) line reply is owed = absurd owed
+    → write_answered setup writer todo taken submission reply ≡ Writer writer todo taken submission
+write_stays stage setup writer [] taken submission Spent is owed = absurd (cc is)
+write_stays stage setup writer [] taken submission reply is owed = absurd owed
+write_stays stage setup writer (todo ∷ later) NoBio submission Spent is owed = absurd (cc is)
+write_stays stage setup writer (todo ∷ later) NoBio submission (HadBio got bio) is owed = absurd (cc is)
+write_stays stage setup writer (todo ∷ later) NoBio submission (Missed true) is owed = absurd (cc is)
+write_stays stage setup writer (todo ∷ later) NoBio submission (Missed false) is owed = refl
+write_stays stage setup writer (todo ∷ later) NoBio submission reply is owed = absurd owed
+write_stays stage setup writer (todo ∷ later) (HasBio bio) submission reply is owed = with_stays stage setup writer (needs_vector todo.write) todo later bio submission reply is owed
+write_stays stage setup writer (todo ∷ later) (HasBoth bio vector) submission Spent is owed = absurd (cc is)
+write_stays stage setup writer (todo ∷ later) (HasBoth bio vector) submission (LinkedTo (Made node)) is owed = absurd (cc is)
+write_stays stage setup writer (todo ∷ later) (HasBoth bio vector) submission (LinkedTo (NoRoom back)) is owed = absurd (cc is)
+write_stays stage setup writer (todo ∷ later) (HasBoth bio vector) submission (LinkedTo (Stray back)) is owed = absurd (cc is)
+write_stays stage setup writer (todo ∷ later) (HasBoth bio vector) submission reply is owed = absurd owed
 
-writer_stays : (stage : Stage) (setup : Setup) (writer : ℕ) (todo : List Todo) (taken : Gathered) (doing : Doing) (line : Line) (reply : Reply) → line.doing ≡ doing
-    → is_glance (writer_request setup writer todo taken doing line) reply ≡ true → Owes stage (writer_request setup writer todo taken doing line) reply
-    → writer_answered setup writer todo taken doing line reply ≡ Writer writer todo taken line
-writer_stays stage setup writer todo taken Rests line reply e is owed = write_stays stage setup writer todo taken line reply is owed
-writer_stays stage setup writer todo taken doing line reply e is owed =
-    ap (Writer writer todo taken) (line_stays stage setup doing line reply is owed ∙ ap (λ d. record { doing = d; lists = line.lists }) (sym e))
+writer_stays : (stage : Stage) (setup : Setup) (writer : ℕ) (todo : List Todo) (taken : Gathered) (doing : Doing) (submission : Submission) (reply : Reply) → submission.doing ≡ doing
+    → is_glance (writer_request setup writer todo taken doing submission) reply ≡ true → Owes stage (writer_request setup writer todo taken doing submission) reply
+    → writer_answered setup writer todo taken doing submission reply ≡ Writer writer todo taken submission
+writer_stays stage setup writer todo taken Rests submission reply e is owed = write_stays stage setup writer todo taken submission reply is owed
+writer_stays stage setup writer todo taken doing submission reply e is owed =
+    ap (Writer writer todo taken) (submission_stays stage setup doing submission reply is owed ∙ ap (λ d. record { doing = d; lists = submission.lists }) (sym e))
 
-rescuer_stays : (stage : Stage) (setup : Setup) (dev : DevId) (doing : Doing) (line : Line) (reply : Reply) → line.doing ≡ doing
-    → is_glance (rescuer_request setup dev doing line) reply ≡ true → Owes stage (rescuer_request setup dev doing line) reply
-    → rescuer_answered setup dev doing line reply ≡ Rescuer dev line
-rescuer_stays stage setup dev Rests line Spent e is owed = absurd (cc is)
-rescuer_stays stage setup dev Rests line (Popped bio) e is owed = absurd (cc is)
-rescuer_stays stage setup dev Rests line Nothing e is owed = refl
-rescuer_stays stage setup dev Rests line reply e is owed = absurd owed
-rescuer_stays stage setup dev doing line reply e is owed =
-    ap (Rescuer dev) (line_stays stage setup doing line reply is owed ∙ ap (λ d. record { doing = d; lists = line.lists }) (sym e))
+rescuer_stays : (stage : Stage) (setup : Setup) (dev : DevId) (doing : Doing) (submission : Submission) (reply : Reply) → submission.doing ≡ doing
+    → is_glance (rescuer_request setup dev doing submission) reply ≡ true → Owes stage (rescuer_request setup dev doing submission) reply
+    → rescuer_answered setup dev doing submission reply ≡ Rescuer dev submission
+rescuer_stays stage setup dev Rests submission Spent e is owed = absurd (cc is)
+rescuer_stays stage setup dev Rests submission (Popped bio) e is owed = absurd (cc is)
+rescuer_stays stage setup dev Rests submission Nothing e is owed = refl
+rescuer_stays stage setup dev Rests submission reply e is owed = absurd owed
+rescuer_stays stage setup dev doing submission reply e is owed =
+    ap (Rescuer dev) (submission_stays stage setup doing submission reply is owed ∙ ap (λ d. record { doing = d; lists = submission.lists }) (sym e))
 
 closed_stays : (stage : Stage) (writer : ℕ) (closed : Closed) (vector : Option VectorItem) (bio : Option (Item Pad)) (slip : Option SlipItem) (parent : Option ℕ) (reply : Reply)
     → is_glance (closed_request writer closed vector bio slip parent) reply ≡ true → Owes stage (closed_request writer closed vector bio slip parent) reply → ⊥
@@ -205,7 +205,7 @@ keeper_stays stage (Stops breach) reply is owed = absurd owed
 
 pub glance_stays : (stage : Stage) (setup : Setup) (task : TaskState) (reply : Reply) → is_glance (request setup task) reply ≡ true
     → Owes stage (request setup task) reply → answered setup task reply ≡ task
-glance_stays stage setup (Writer number todo taken line) reply is owed = writer_stays stage setup number todo taken line.doing line reply refl is owed
-glance_stays stage setup (Rescuer dev line) reply is owed = rescuer_stays stage setup dev line.doing line reply refl is owed
+glance_stays stage setup (Writer number todo taken submission) reply is owed = writer_stays stage setup number todo taken submission.doing submission reply refl is owed
+glance_stays stage setup (Rescuer dev submission) reply is owed = rescuer_stays stage setup dev submission.doing submission reply refl is owed
 glance_stays stage setup (Completer disk carried) reply is owed = ap (Completer disk) (carried_stays stage disk carried reply is owed)
 glance_stays stage setup (Keeper keeping) reply is owed = ap Keeper (keeper_stays stage keeping reply is owed)

@@ -14,7 +14,7 @@ use Rattle.task_steps.specs.declared.step.Step.TheVariants.{Stepped, Blocked, Wa
 use Rattle.tick_clock.specs.Tickets.{PassState}
 use Rattle.task_steps.specs.declared.step.Step.{Step}
 use Rattle.stack_base.specs.declared.ids.DevId.{DevId}
-use Rattle.run_machine.specs.Lines.{Doing, Rests}
+use Rattle.run_machine.specs.Submissions.{Doing, Rests}
 use Rattle.run_machine.specs.Requests.{Request, Reply, TakeBio, TakeVec, TakeSlip, GiveBio, GiveVec, GiveSlip, Punt, Pop, Push, Complete, Link, Drop, Done, Resize, NextRound, LookRound, LookLeft, Rest, Missed, LinkedTo, DroppedTo, OutIs, LeftOver, Nothing, Spent}
 use Rattle.run_machine.specs.declared.event.TaskId.{TaskId}
 use Rattle.run_machine.specs.Events.{id_of, what_of, resize_of}
@@ -219,7 +219,7 @@ module _ (setup : Setup) (first : TaskState) where
   writer_looks todo taken doing look e = absurd (cc e)
 
   looks : (task : TaskState) (look : Request) → look_of task ≡ Some look → (look ≡ LookRound) ⊎ (look ≡ LookLeft)
-  looks (Writer number todo taken line) look e = writer_looks todo taken line.doing look e
+  looks (Writer number todo taken submission) look e = writer_looks todo taken submission.doing look e
   looks (Keeper (Keeps (duty ∷ duties))) look e = inr (cc e)
   looks task look e = absurd (cc e)
 

@@ -18,6 +18,6 @@ pub use plain::tally::Tally;
 pub use run_machine::{Breach, End, Event, Got, How, TaskId, What};
 pub use task_steps::{
     Ask, Carried, Chooser, Cut, Doing, Driver, DriverAsk, Duty, Gathered, HandedBack, Keeper, Kept,
-    Kind, Line, Load, Manner, Objects, Oldest, Rescuer, Routes, Step, Task, Todo, Todos, Unmade,
-    Want, Writer, duty_at, first_bio, homes, needs_vector, pool_of, within,
+    Kind, Load, Manner, Objects, Oldest, Rescuer, Routes, Step, Submission, Task, Todo, Todos,
+    Unmade, Want, Writer, duty_at, first_bio, homes, needs_vector, pool_of, within,
 };

@@ -13,8 +13,8 @@ use Rattle.run_machine.specs.Requests.{Request, Reply, TakeBio, Spent}
 use Rattle.bio_records.specs.declared.bio.Bio.{Bio}
 use Rattle.bio_records.specs.declared.bio.Pad.{Pad}
 use Rattle.bio_records.specs.Items.{Item}
-use Rattle.run_machine.specs.Lines.{Want, Takes, Punts, Links, Ask, ToPush, ToCut, ToRecord, ToMaster, Doing, Rests, Drives, Copies, Breaks, want_kept, ask_kept, at_hand}
-use Rattle.task_steps.specs.LineViews.{attempt_of}
+use Rattle.run_machine.specs.Submissions.{Want, Takes, Punts, Links, Ask, ToPush, ToCut, ToRecord, ToMaster, Doing, Rests, Drives, Copies, Breaks, want_kept, ask_kept, at_hand}
+use Rattle.task_steps.specs.SubmissionViews.{attempt_of}
 use Rattle.task_steps.specs.Answers.{AnswersSubmission, IsSpent}
 
 none_there : {A : Type 0} (there : A) → ◌≡◌ {A = Option A} None (Some there) → ⊥

@@ -32,7 +32,7 @@ use Rattle.task_steps.specs.declared.routes.driver.Driver.TheVariants as driver
 use Rattle.task_steps.specs.declared.routes.driver.Manner.{Manner}
 use Rattle.task_steps.specs.declared.routes.driver.Manner.TheVariants as manner
 use Rattle.run_machine.specs.Scene.{Setup, tree_number}
-use Rattle.run_machine.specs.Lines.{asks_at, cut_at, leg_at, legs_of, goes_on}
+use Rattle.run_machine.specs.Submissions.{asks_at, cut_at, leg_at, legs_of, goes_on}
 use Rattle.task_steps.specs.Within.{IsWithinDevice, first_cut, is_cut}
 use Rattle.task_steps.specs.Routed.{keeps, copies_bios, sizes_at, IsDriver, MapOf, map_of, IsFirstCut, HasNoFirst, manner_by, legs_by, IsLegBy, manner_of, asked_by, IsManner, sent, IsCutAt, IsLegAt}
 use Rattle.run_machine.proofs.TreeNumbers.{number_of_tree}

@@ -17,9 +17,9 @@ use Rattle.bio_books.specs.Links.{Linked, Made, NoRoom, Stray}
 use Rattle.task_steps.specs.declared.routes.Cut.{Cut}
 use Rattle.run_machine.specs.Scene.{Setup, setup_of, keeps_data, is_mirror}
 use Rattle.run_machine.specs.Kept.{Kept}
-use Rattle.run_machine.specs.Lines.{Takes, Punts, Links, ToPush, ToCut, ToRecord, ToMaster, Doing, Rests, Drives, Copies, Breaks, Line, landed, asks_at, settled, goes_on, cut_at, legs_of, leg_at, copies, line_request, after_chain, after_master, after_leg, at_hand, punts_of, spent, line_answered}
+use Rattle.run_machine.specs.Submissions.{Takes, Punts, Links, ToPush, ToCut, ToRecord, ToMaster, Doing, Rests, Drives, Copies, Breaks, Submission, landed, asks_at, settled, goes_on, cut_at, legs_of, leg_at, copies, submission_request, after_chain, after_master, after_leg, at_hand, punts_of, spent, submission_answered}
 use Rattle.run_machine.specs.Requests.{Reply, HadBio, HadSlip, Missed, Did, LinkedTo, Spent}
-use Rattle.task_steps.specs.Within.{IsWithinDevice, IsItemWithin, AreWithin, ListsAreWithin, is_handed_on, is_cut, DoingFits, LineFits, AskedFits, LinesStayWithin}
+use Rattle.task_steps.specs.Within.{IsWithinDevice, IsItemWithin, AreWithin, ListsAreWithin, is_handed_on, is_cut, DoingFits, SubmissionFits, AskedFits, SubmissionsStayWithin}
 use Rattle.task_steps.specs.Routed.{sent, IsLanded, IsCutAt}
 use Rattle.task_steps.proofs.Landing.{first_at, lands_within}
 use Rattle.task_steps.proofs.Devices.{cut_is, cut_not_none, leg_there}
@@ -35,7 +35,7 @@ asks_fit stack setup lists item within (Split number kind sizes members) e stays
 
 module _ (stack : Stack) (good : IsStack stack) (places : ℕ → ℕ) where
   -- bios that wait are served one by one
-  pub settled_fits : (items : List (Item Pad)) → AreWithin stack items → LineFits stack (settled (setup_of stack places) items)
+  pub settled_fits : (items : List (Item Pad)) → AreWithin stack items → SubmissionFits stack (settled (setup_of stack places) items)
   settled_fits [] all = record { doing = tt; lists = (All-nil (IsItemWithin stack), All-nil (IsItemWithin stack)) }
   settled_fits (item ∷ waiting) all =
       let first : IsWithinDevice stack item.bio = All-head (IsItemWithin stack) item waiting all in
@@ -47,7 +47,7 @@ module _ (stack : Stack) (good : IsStack stack) (places : ℕ → ℕ) where
         lists = (All-nil (IsItemWithin stack), All-tail (IsItemWithin stack) item waiting all);
       }
 
-  pub goes_on_fits : (dev : DevId) (lists : TaskLists) → ListsAreWithin stack lists → LineFits stack (goes_on (setup_of stack places) dev lists)
+  pub goes_on_fits : (dev : DevId) (lists : TaskLists) → ListsAreWithin stack lists → SubmissionFits stack (goes_on (setup_of stack places) dev lists)
   goes_on_fits dev lists all = settled_fits (order dev lists) (all_ordered (IsItemWithin stack) lists all dev)
 
   -- both parts of a bio that is cut are submitted
@@ -65,13 +65,13 @@ module _ (stack : Stack) (good : IsStack stack) (places : ℕ → ℕ) where
 
   pub cut_fits : (lists : TaskLists) (item hand : Item Pad) (node : ℕ) → ListsAreWithin stack lists → IsWithinDevice stack item.bio
       → is_cut (tree stack item.bio.dev.0) item.bio.range ≡ true
-      → LineFits stack (cut_at (setup_of stack places) lists item hand node (tree stack item.bio.dev.0))
+      → SubmissionFits stack (cut_at (setup_of stack places) lists item hand node (tree stack item.bio.dev.0))
   cut_fits lists item hand node all within more =
       elim (first_at stack good item.bio within) [
         | inl none ↦ absurd (cut_not_none stack item.bio none more)
         | inr first ↦
             let is = cut_is (setup_of stack places) stack good item.bio within first.0 first.1 more in
-            let P : Line → Type 0 = LineFits stack in
+            let P : Submission → Type 0 = SubmissionFits stack in
             subst P (sym (is.made lists item hand node refl refl))
             (goes_on_fits item.bio.dev _ (parts_within lists item hand node first.0 all is))
       ]
@@ -86,12 +86,12 @@ module _ (stack : Stack) (good : IsStack stack) (places : ℕ → ℕ) where
       subst P (sym (made.1.made_is hand)) (record { device = w.device; some = w.some; within = w.within })
 
   pub copies_fit : (lists : TaskLists) (bio : Bio) (master leg : ℕ) → ListsAreWithin stack lists → IsWithinDevice stack bio
-      → leg ≤ legs_of (tree stack bio.dev.0) → LineFits stack (copies (setup_of stack places) lists bio master leg)
+      → leg ≤ legs_of (tree stack bio.dev.0) → SubmissionFits stack (copies (setup_of stack places) lists bio master leg)
   copies_fit lists bio master leg all within le = by_test (leg == legs_of (tree stack bio.dev.0)) refl
     where
-      by_test : (b : Bool) → (leg == legs_of (tree stack bio.dev.0)) ≡ b → LineFits stack (copies (setup_of stack places) lists bio master leg)
+      by_test : (b : Bool) → (leg == legs_of (tree stack bio.dev.0)) ≡ b → SubmissionFits stack (copies (setup_of stack places) lists bio master leg)
       by_test true e =
-          let P : Line → Type 0 = LineFits stack in
+          let P : Submission → Type 0 = SubmissionFits stack in
           rw e (goes_on_fits bio.dev lists all)
       by_test false e =
           let other : leg ≢ legs_of (tree stack bio.dev.0) = λ same. absurd (search (e, same, arith)) in
@@ -99,20 +99,20 @@ module _ (stack : Stack) (good : IsStack stack) (places : ℕ → ℕ) where
 
   -- a node was made, or was not
   pub chain_fits : (lists : TaskLists) (item hand : Item Pad) (answer : Linked) → ListsAreWithin stack lists → IsWithinDevice stack item.bio
-      → is_cut (tree stack item.bio.dev.0) item.bio.range ≡ true → LineFits stack (after_chain (setup_of stack places) lists item hand answer)
+      → is_cut (tree stack item.bio.dev.0) item.bio.range ≡ true → SubmissionFits stack (after_chain (setup_of stack places) lists item hand answer)
   chain_fits lists item hand (Made node) all within more = cut_fits lists item hand node all within more
   chain_fits lists item hand (NoRoom back) all within more = record { doing = tt; lists = all }
   chain_fits lists item hand (Stray back) all within more = record { doing = tt; lists = all }
 
   pub master_fits : (lists : TaskLists) (bio : Bio) (answer : Linked) → ListsAreWithin stack lists → IsWithinDevice stack bio
-      → LineFits stack (after_master (setup_of stack places) lists bio answer)
+      → SubmissionFits stack (after_master (setup_of stack places) lists bio answer)
   master_fits lists bio (Made node) all within = copies_fit lists bio node 0 all within (omega arith)
   master_fits lists bio (NoRoom back) all within = record { doing = tt; lists = all }
   master_fits lists bio (Stray back) all within = record { doing = tt; lists = all }
 
   pub leg_fits : (lists : TaskLists) (bio : Bio) (master leg : ℕ) (hand : Item Pad) (answer : Linked) → ListsAreWithin stack lists
       → IsWithinDevice stack bio → leg < legs_of (tree stack bio.dev.0)
-      → LineFits stack (after_leg (setup_of stack places) lists bio master leg hand answer)
+      → SubmissionFits stack (after_leg (setup_of stack places) lists bio master leg hand answer)
   leg_fits lists bio master leg hand (Made node) all within lt =
       let made : Item Pad = leg_at bio hand leg node (tree stack bio.dev.0) in
       copies_fit (submitted made lists) bio master (leg + 1)
@@ -121,47 +121,47 @@ module _ (stack : Stack) (good : IsStack stack) (places : ℕ → ℕ) where
   leg_fits lists bio master leg hand (Stray back) all within lt = record { doing = tt; lists = all }
 
   -- where there was no ticket
-  spent_fits : (kept : List Kept) (lists : TaskLists) (punts : Option DevId) → ListsAreWithin stack lists → LineFits stack (spent kept lists punts)
+  spent_fits : (kept : List Kept) (lists : TaskLists) (punts : Option DevId) → ListsAreWithin stack lists → SubmissionFits stack (spent kept lists punts)
   spent_fits kept lists None all = record { doing = tt; lists = all }
   spent_fits kept lists (Some dev) all = record { doing = tt; lists = all_not_punted (IsItemWithin stack) lists all dev }
 
   -- so whatever is replied
-  pub line_fits : (doing : Doing) (lists : TaskLists) (reply : Reply) → DoingFits stack doing → ListsAreWithin stack lists
-      → LineFits stack (line_answered (setup_of stack places) doing lists reply)
-  line_fits doing lists Spent fits all = spent_fits (at_hand doing) lists (punts_of doing) all
-  line_fits (Drives bio ToPush) lists Did fits all = goes_on_fits bio.bio.dev lists all
-  line_fits (Drives bio (ToCut (Takes waits))) lists (HadBio got hand) fits all = record { doing = fits; lists = all }
-  line_fits (Drives bio (ToCut (Takes true))) lists (Missed used) fits all = record { doing = fits; lists = all }
-  line_fits (Drives bio (ToCut (Takes false))) lists (Missed used) fits all = record { doing = fits; lists = all }
-  line_fits (Drives bio (ToCut Punts)) lists Did fits all =
+  pub submission_fits : (doing : Doing) (lists : TaskLists) (reply : Reply) → DoingFits stack doing → ListsAreWithin stack lists
+      → SubmissionFits stack (submission_answered (setup_of stack places) doing lists reply)
+  submission_fits doing lists Spent fits all = spent_fits (at_hand doing) lists (punts_of doing) all
+  submission_fits (Drives bio ToPush) lists Did fits all = goes_on_fits bio.bio.dev lists all
+  submission_fits (Drives bio (ToCut (Takes waits))) lists (HadBio got hand) fits all = record { doing = fits; lists = all }
+  submission_fits (Drives bio (ToCut (Takes true))) lists (Missed used) fits all = record { doing = fits; lists = all }
+  submission_fits (Drives bio (ToCut (Takes false))) lists (Missed used) fits all = record { doing = fits; lists = all }
+  submission_fits (Drives bio (ToCut Punts)) lists Did fits all =
       record { doing = fits; lists = all_not_punted (IsItemWithin stack) lists all bio.bio.dev }
-  line_fits (Drives bio (ToCut (Links hand))) lists (LinkedTo answer) fits all = chain_fits lists bio hand answer all fits.0 fits.1
-  line_fits (Drives bio ToRecord) lists (HadSlip got slip) fits all = record { doing = fits; lists = all }
-  line_fits (Drives bio (ToMaster slip)) lists (LinkedTo answer) fits all = master_fits lists bio.bio answer all fits.0
-  line_fits (Copies bio master leg (Takes waits)) lists (HadBio got hand) fits all = record { doing = fits; lists = all }
-  line_fits (Copies bio master leg (Takes waits)) lists (Missed used) fits all = record { doing = fits; lists = all }
-  line_fits (Copies bio master leg Punts) lists Did fits all =
+  submission_fits (Drives bio (ToCut (Links hand))) lists (LinkedTo answer) fits all = chain_fits lists bio hand answer all fits.0 fits.1
+  submission_fits (Drives bio ToRecord) lists (HadSlip got slip) fits all = record { doing = fits; lists = all }
+  submission_fits (Drives bio (ToMaster slip)) lists (LinkedTo answer) fits all = master_fits lists bio.bio answer all fits.0
+  submission_fits (Copies bio master leg (Takes waits)) lists (HadBio got hand) fits all = record { doing = fits; lists = all }
+  submission_fits (Copies bio master leg (Takes waits)) lists (Missed used) fits all = record { doing = fits; lists = all }
+  submission_fits (Copies bio master leg Punts) lists Did fits all =
       record { doing = fits; lists = all_not_punted (IsItemWithin stack) lists all bio.dev }
-  line_fits (Copies bio master leg (Links hand)) lists (LinkedTo answer) fits all = leg_fits lists bio master leg hand answer all fits.0 fits.1
-  line_fits doing lists _ fits all = record { doing = fits; lists = all }
+  submission_fits (Copies bio master leg (Links hand)) lists (LinkedTo answer) fits all = leg_fits lists bio master leg hand answer all fits.0 fits.1
+  submission_fits doing lists _ fits all = record { doing = fits; lists = all }
 
 -- what is handed to a rescuer waited
-pub line_asks : (stack : Stack) (places : ℕ → ℕ) (doing : Doing) (lists : TaskLists) → ListsAreWithin stack lists → AskedFits stack (line_request (setup_of stack places) doing lists)
-line_asks stack places Rests lists all = tt
-line_asks stack places (Breaks breach kept) lists all = tt
-line_asks stack places (Drives bio ToPush) lists all = tt
-line_asks stack places (Drives bio (ToCut (Takes waits))) lists all = tt
-line_asks stack places (Drives bio (ToCut Punts)) lists all = all_punted (IsItemWithin stack) lists all bio.bio.dev
-line_asks stack places (Drives bio (ToCut (Links hand))) lists all = tt
-line_asks stack places (Drives bio ToRecord) lists all = tt
-line_asks stack places (Drives bio (ToMaster slip)) lists all = tt
-line_asks stack places (Copies bio master leg (Takes waits)) lists all = tt
-line_asks stack places (Copies bio master leg Punts) lists all = all_punted (IsItemWithin stack) lists all bio.dev
-line_asks stack places (Copies bio master leg (Links hand)) lists all = tt
+pub submission_asks : (stack : Stack) (places : ℕ → ℕ) (doing : Doing) (lists : TaskLists) → ListsAreWithin stack lists → AskedFits stack (submission_request (setup_of stack places) doing lists)
+submission_asks stack places Rests lists all = tt
+submission_asks stack places (Breaks breach kept) lists all = tt
+submission_asks stack places (Drives bio ToPush) lists all = tt
+submission_asks stack places (Drives bio (ToCut (Takes waits))) lists all = tt
+submission_asks stack places (Drives bio (ToCut Punts)) lists all = all_punted (IsItemWithin stack) lists all bio.bio.dev
+submission_asks stack places (Drives bio (ToCut (Links hand))) lists all = tt
+submission_asks stack places (Drives bio ToRecord) lists all = tt
+submission_asks stack places (Drives bio (ToMaster slip)) lists all = tt
+submission_asks stack places (Copies bio master leg (Takes waits)) lists all = tt
+submission_asks stack places (Copies bio master leg Punts) lists all = all_punted (IsItemWithin stack) lists all bio.dev
+submission_asks stack places (Copies bio master leg (Links hand)) lists all = tt
 
-pub lines_stay_within : LinesStayWithin
-lines_stay_within = record {
+pub submissions_stay_within : SubmissionsStayWithin
+submissions_stay_within = record {
   settles = λ stack places items good all. settled_fits stack good places items all;
-  goes_on = λ stack places line reply good fits. line_fits stack good places line.doing line.lists reply fits.doing fits.lists;
-  asks = λ stack places line fits. line_asks stack places line.doing line.lists fits.lists;
+  goes_on = λ stack places submission reply good fits. submission_fits stack good places submission.doing submission.lists reply fits.doing fits.lists;
+  asks = λ stack places submission fits. submission_asks stack places submission.doing submission.lists fits.lists;
 }

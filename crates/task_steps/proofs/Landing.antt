@@ -21,7 +21,7 @@ use Rattle.layout_model.proofs.Over.{can_cut}
 use Rattle.bio_records.specs.declared.bio.Bio.{Bio}
 use Rattle.task_steps.specs.declared.routes.Cut.{Cut}
 use Rattle.run_machine.specs.Scene.{tree_number}
-use Rattle.run_machine.specs.Lines.{first_length, mapped, landed}
+use Rattle.run_machine.specs.Submissions.{first_length, mapped, landed}
 use Rattle.run_machine.proofs.TreeNumbers.{number_of_tree}
 use Rattle.task_steps.specs.Within.{IsWithinDevice, first_cut, is_handed_on}
 use Rattle.task_steps.specs.Routed.{sizes_at, handed, IsFirstCut, HasNoFirst, IsBelow, Stays, IsLanded}

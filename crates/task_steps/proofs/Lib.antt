@@ -8,7 +8,7 @@ pub mod RouteOf
 pub mod Opening
 pub mod Punting
 pub mod Parts
-pub mod LineHomes
+pub mod SubmissionHomes
 pub mod TaskHomes
 pub mod KeeperLemmas
 pub mod Asking

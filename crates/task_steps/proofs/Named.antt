@@ -190,8 +190,8 @@ module _ (stage : Stage) (good : IsStack stage.routing.stack) where
   names asked reply fits = names_none
 
   names_task : (task : TaskState) → IsTaskOf stage task → HasTask stage.routing.stack (id_of task)
-  names_task (Writer number todo taken line) is = tt
-  names_task (Rescuer dev line) is = any_device dev (is_left _ _ is.0)
+  names_task (Writer number todo taken submission) is = tt
+  names_task (Rescuer dev submission) is = any_device dev (is_left _ _ is.0)
   names_task (Completer disk carried) is = disk_device disk is.0
   names_task (Keeper keeping) is = tt
 

@@ -10,7 +10,7 @@ use Rattle.bio_records.specs.Items.{Item}
 use Rattle.bio_records.specs.Sorting.{same_set}
 use Rattle.bio_records.specs.Sorting as by_set
 use Rattle.bio_lists.specs.Punt as by_set_punt
-use Rattle.run_machine.specs.Lines.{is_of_set, is_of, punted, not_punted}
+use Rattle.run_machine.specs.Submissions.{is_of_set, is_of, punted, not_punted}
 
 -- whether a bio is of a device's set
 pub same_is : (set : SetId) (dev : DevId) → same_set set (Of dev) ≡ is_of_set dev.0 set

@@ -3,8 +3,8 @@ use Rattle.std.proofs.Common.{◌≡◌, true, refl, sym, ap}
 use Rattle.std.proofs.Common.{true≢false}
 use Rattle.task_steps.specs.declared.submission.Doing.{Doing as RealDoing}
 use Rattle.task_steps.specs.declared.submission.Doing.TheVariants as doing
-use Rattle.run_machine.specs.Lines.{Rests}
-use Rattle.task_steps.specs.LineViews.{doing_of, is_over}
+use Rattle.run_machine.specs.Submissions.{Rests}
+use Rattle.task_steps.specs.SubmissionViews.{doing_of, is_over}
 
 pub rests_alone : (at : RealDoing) → doing_of at ≡ Rests → at ≡ doing.Rests
 rests_alone doing.Rests rests = refl

@@ -14,13 +14,13 @@ use Rattle.run_machine.specs.declared.event.Breach.{Breach}
 use Rattle.run_machine.specs.declared.event.Breach.TheVariants as breach
 use Rattle.run_machine.specs.Kept.{Kept}
 use Rattle.run_machine.specs.Requests.{Reply, HadBio, HadVec, Popped, Completed, LinkedTo, DroppedTo, OutIs, Did, Spent}
-use Rattle.run_machine.specs.Lines.{Doing, Rests, Breaks, Line, settled, line_request, line_answered}
+use Rattle.run_machine.specs.Submissions.{Doing, Rests, Breaks, Submission, settled, submission_request, submission_answered}
 use Rattle.run_machine.specs.Tasks.{Todo, Gathered, NoBio, HasBio, HasBoth, besides, Carried, Empty, Brings, Carries, Fails, Duty, Resizes, Starts, Keeping, Keeps, Stops, TaskState, Writer, Rescuer, Completer, Keeper, needs_vector, filled, filled_short, with_bio, write_request, writer_request, rescuer_request, closed_request, carried_request, keeper_request, duty_request, request, begins, write_answered, writer_answered, rescuer_answered, given, after_drop, parent_or, carried_answered, after_resize, keeper_answered, answered}
 use Rattle.task_steps.specs.Routed.{routing_setup}
 use Rattle.task_steps.specs.Within.{IsItemWithin}
 use Rattle.task_steps.specs.Stage.{Stage, has_book, is_vecs, IsHome, IsBioHome, IsVecHome, IsSlipHome, TopFits, DropFits, RequestFits, Owes, has_rescuer, has_disk}
-use Rattle.task_steps.specs.Homes.{IsOwned, IsLineOf, TodoFits, GatheredIsHome, CarriedFits, DutyFits, KeepingFits, IsTaskOf, TasksStayHome}
-use Rattle.task_steps.proofs.LineHomes.{settled_home, line_asks, line_home}
+use Rattle.task_steps.specs.Homes.{IsOwned, IsSubmissionOf, TodoFits, GatheredIsHome, CarriedFits, DutyFits, KeepingFits, IsTaskOf, TasksStayHome}
+use Rattle.task_steps.proofs.SubmissionHomes.{settled_home, submission_asks, submission_home}
 
 -- what a writer asks for outside of a submission
 with_bio_asks : (stage : Stage) (writer : ℕ) (needs : Bool) (todo : Todo) → IsTrue (has_book stage writer) → TodoFits stage todo
@@ -37,17 +37,17 @@ write_asks stage writer (todo ∷ later) (HasBio bio) book all home =
 write_asks stage writer (todo ∷ later) (HasBoth bio vector) book all home =
     (book, ((All-head (TodoFits stage) todo later all).number, home.1))
 
-writer_asks : (stage : Stage) → IsStack stage.routing.stack → (writer : ℕ) (todos : List Todo) (taken : Gathered) (doing : Doing) (line : Line)
+writer_asks : (stage : Stage) → IsStack stage.routing.stack → (writer : ℕ) (todos : List Todo) (taken : Gathered) (doing : Doing) (submission : Submission)
     → IsTrue (has_book stage writer) → All (TodoFits stage) todos → GatheredIsHome stage taken
-    → RequestFits stage (line_request (routing_setup stage.routing) doing line.lists)
-    → RequestFits stage (writer_request (routing_setup stage.routing) writer todos taken doing line)
-writer_asks stage good writer todos taken Rests line book all home asks = write_asks stage writer todos taken book all home
-writer_asks stage good writer todos taken doing line book all home asks = asks
+    → RequestFits stage (submission_request (routing_setup stage.routing) doing submission.lists)
+    → RequestFits stage (writer_request (routing_setup stage.routing) writer todos taken doing submission)
+writer_asks stage good writer todos taken Rests submission book all home asks = write_asks stage writer todos taken book all home
+writer_asks stage good writer todos taken doing submission book all home asks = asks
 
-rescuer_asks : (stage : Stage) (dev : DevId) (doing : Doing) (line : Line) → IsTrue (has_rescuer stage dev)
-    → RequestFits stage (line_request (routing_setup stage.routing) doing line.lists) → RequestFits stage (rescuer_request (routing_setup stage.routing) dev doing line)
-rescuer_asks stage dev Rests line rescuer asks = rescuer
-rescuer_asks stage dev doing line rescuer asks = asks
+rescuer_asks : (stage : Stage) (dev : DevId) (doing : Doing) (submission : Submission) → IsTrue (has_rescuer stage dev)
+    → RequestFits stage (submission_request (routing_setup stage.routing) doing submission.lists) → RequestFits stage (rescuer_request (routing_setup stage.routing) dev doing submission)
+rescuer_asks stage dev Rests submission rescuer asks = rescuer
+rescuer_asks stage dev doing submission rescuer asks = asks
 
 closed_asks : (stage : Stage) (writer : ℕ) (closed : Closed) (vector : Option VectorItem) (bio : Option (Item Pad)) (slip : Option SlipItem)
     (parent : Option ℕ) → IsTrue (has_book stage writer) → IsVecHome stage vector → IsBioHome stage bio → IsSlipHome stage slip
@@ -76,22 +76,22 @@ keeper_asks stage (Keeps (duty ∷ duties)) fits = duty_asks stage duty (All-hea
 keeper_asks stage (Stops breach) fits = tt
 
 task_asks : (stage : Stage) (task : TaskState) → IsStack stage.routing.stack → IsTaskOf stage task → RequestFits stage (request (routing_setup stage.routing) task)
-task_asks stage (Writer number todo taken line) good is =
+task_asks stage (Writer number todo taken submission) good is =
     let l = is.3 in
-    writer_asks stage good number todo taken line.doing line is.0 is.1 is.2
-    (line_asks stage good line.doing line.lists l.fits.doing l.doing l.fits.lists (l.list0, l.list1))
-task_asks stage (Rescuer dev line) good is =
+    writer_asks stage good number todo taken submission.doing submission is.0 is.1 is.2
+    (submission_asks stage good submission.doing submission.lists l.fits.doing l.doing l.fits.lists (l.list0, l.list1))
+task_asks stage (Rescuer dev submission) good is =
     let l = is.1 in
-    rescuer_asks stage dev line.doing line is.0 (line_asks stage good line.doing line.lists l.fits.doing l.doing l.fits.lists (l.list0, l.list1))
+    rescuer_asks stage dev submission.doing submission is.0 (submission_asks stage good submission.doing submission.lists l.fits.doing l.doing l.fits.lists (l.list0, l.list1))
 task_asks stage (Completer disk carried) good is = carried_asks stage disk carried is.0 is.1
 task_asks stage (Keeper keeping) good is = keeper_asks stage keeping is
 
 module _ (stage : Stage) (good : IsStack stage.routing.stack) where
   -- with these lists a submission broke off
-  broken : (line : Line) (breach : Breach) (kept : List Kept) → IsLineOf stage line → IsLineOf stage (record line { doing = Breaks breach kept })
-  broken line breach kept is = record { fits = record { doing = tt; lists = is.fits.lists }; doing = tt; list0 = is.list0; list1 = is.list1 }
+  broken : (submission : Submission) (breach : Breach) (kept : List Kept) → IsSubmissionOf stage submission → IsSubmissionOf stage (record submission { doing = Breaks breach kept })
+  broken submission breach kept is = record { fits = record { doing = tt; lists = is.fits.lists }; doing = tt; list0 = is.list0; list1 = is.list1 }
 
-  one : (item : Item Pad) → IsItemWithin stage.routing.stack item → IsOwned stage item → IsLineOf stage (settled (routing_setup stage.routing) (item ∷ []))
+  one : (item : Item Pad) → IsItemWithin stage.routing.stack item → IsOwned stage item → IsSubmissionOf stage (settled (routing_setup stage.routing) (item ∷ []))
   one item within owned =
       settled_home stage good (item ∷ [])
       (All-cons (IsItemWithin stage.routing.stack) item [] within (All-nil (IsItemWithin stage.routing.stack)))
@@ -103,55 +103,55 @@ module _ (stage : Stage) (good : IsStack stage.routing.stack) where
   besides_home (HasBio bio) home = home
   besides_home (HasBoth bio vector) home = home.0
 
-  begins_home : (writer : ℕ) (later : List Todo) (bio : ℕ → Item Pad) (taken : Gathered) (todo : Todo) (line : Line) (answer : Linked)
-      → IsTrue (has_book stage writer) → All (TodoFits stage) (todo ∷ later) → GatheredIsHome stage taken → IsLineOf stage line
+  begins_home : (writer : ℕ) (later : List Todo) (bio : ℕ → Item Pad) (taken : Gathered) (todo : Todo) (submission : Submission) (answer : Linked)
+      → IsTrue (has_book stage writer) → All (TodoFits stage) (todo ∷ later) → GatheredIsHome stage taken → IsSubmissionOf stage submission
       → ((node : ℕ) → IsItemWithin stage.routing.stack (bio node) × IsOwned stage (bio node))
-      → IsTaskOf stage (begins (routing_setup stage.routing) writer later bio taken todo line answer)
-  begins_home writer later bio taken todo line (Made node) book all home is bios =
+      → IsTaskOf stage (begins (routing_setup stage.routing) writer later bio taken todo submission answer)
+  begins_home writer later bio taken todo submission (Made node) book all home is bios =
       (book, All-tail (TodoFits stage) todo later all, tt, one (bio node) (bios node).0 (bios node).1)
-  begins_home writer later bio taken todo line (NoRoom back) book all home is bios = (book, all, besides_home taken home, broken line _ _ is)
-  begins_home writer later bio taken todo line (Stray back) book all home is bios = (book, all, besides_home taken home, broken line _ _ is)
+  begins_home writer later bio taken todo submission (NoRoom back) book all home is bios = (book, all, besides_home taken home, broken submission _ _ is)
+  begins_home writer later bio taken todo submission (Stray back) book all home is bios = (book, all, besides_home taken home, broken submission _ _ is)
 
-  write_home : (writer : ℕ) (todos : List Todo) (taken : Gathered) (line : Line) (reply : Reply) → IsTrue (has_book stage writer)
-      → All (TodoFits stage) todos → GatheredIsHome stage taken → IsLineOf stage line → Owes stage (write_request writer todos taken) reply
-      → IsTaskOf stage (write_answered (routing_setup stage.routing) writer todos taken line reply)
-  write_home writer todos taken line Spent book all home is owes = (book, all, besides_home taken home, broken line breach.Spent _ is)
-  write_home writer (todo ∷ later) NoBio line (HadBio got bio) book all home is owes = (book, all, owes.home, is)
-  write_home writer (todo ∷ later) (HasBio bio) line (HadVec got vector) book all home is owes =
+  write_home : (writer : ℕ) (todos : List Todo) (taken : Gathered) (submission : Submission) (reply : Reply) → IsTrue (has_book stage writer)
+      → All (TodoFits stage) todos → GatheredIsHome stage taken → IsSubmissionOf stage submission → Owes stage (write_request writer todos taken) reply
+      → IsTaskOf stage (write_answered (routing_setup stage.routing) writer todos taken submission reply)
+  write_home writer todos taken submission Spent book all home is owes = (book, all, besides_home taken home, broken submission breach.Spent _ is)
+  write_home writer (todo ∷ later) NoBio submission (HadBio got bio) book all home is owes = (book, all, owes.home, is)
+  write_home writer (todo ∷ later) (HasBio bio) submission (HadVec got vector) book all home is owes =
       (book, all, (home, vec_home (needs_vector todo.write) owes), is)
     where
       vec_home : (needs : Bool) → Owes stage (with_bio writer needs todo) (HadVec got vector) → IsHome stage is_vecs vector.share
       vec_home true owes = owes.home
       vec_home false owes = absurd owes
-  write_home writer (todo ∷ later) (HasBio bio) line (LinkedTo answer) book all home is owes =
+  write_home writer (todo ∷ later) (HasBio bio) submission (LinkedTo answer) book all home is owes =
       let w = (All-head (TodoFits stage) todo later all).write in
-      begins_home writer later (λ node. filled_short writer todo node bio) (HasBio bio) todo line answer book all home is
+      begins_home writer later (λ node. filled_short writer todo node bio) (HasBio bio) todo submission answer book all home is
       (λ node. (record { device = w.known; some = w.some; within = w.within }, record { writer = book; home = home }))
-  write_home writer (todo ∷ later) (HasBoth bio vector) line (LinkedTo answer) book all home is owes =
+  write_home writer (todo ∷ later) (HasBoth bio vector) submission (LinkedTo answer) book all home is owes =
       let w = (All-head (TodoFits stage) todo later all).write in
-      begins_home writer later (λ node. filled writer todo node bio) (HasBoth bio vector) todo line answer book all home is
+      begins_home writer later (λ node. filled writer todo node bio) (HasBoth bio vector) todo submission answer book all home is
       (λ node. (record { device = w.known; some = w.some; within = w.within }, record { writer = book; home = home.0 }))
-  write_home writer todos taken line _ book all home is owes = (book, all, home, is)
+  write_home writer todos taken submission _ book all home is owes = (book, all, home, is)
 
-  writer_home : (writer : ℕ) (todos : List Todo) (taken : Gathered) (doing : Doing) (line : Line) (reply : Reply) → IsTrue (has_book stage writer)
-      → All (TodoFits stage) todos → GatheredIsHome stage taken → IsLineOf stage line
-      → (Owes stage (line_request (routing_setup stage.routing) doing line.lists) reply
-      → IsLineOf stage (line_answered (routing_setup stage.routing) doing line.lists reply))
-      → Owes stage (writer_request (routing_setup stage.routing) writer todos taken doing line) reply
-      → IsTaskOf stage (writer_answered (routing_setup stage.routing) writer todos taken doing line reply)
-  writer_home writer todos taken Rests line reply book all home is on owes = write_home writer todos taken line reply book all home is owes
-  writer_home writer todos taken doing line reply book all home is on owes = (book, all, home, on owes)
+  writer_home : (writer : ℕ) (todos : List Todo) (taken : Gathered) (doing : Doing) (submission : Submission) (reply : Reply) → IsTrue (has_book stage writer)
+      → All (TodoFits stage) todos → GatheredIsHome stage taken → IsSubmissionOf stage submission
+      → (Owes stage (submission_request (routing_setup stage.routing) doing submission.lists) reply
+      → IsSubmissionOf stage (submission_answered (routing_setup stage.routing) doing submission.lists reply))
+      → Owes stage (writer_request (routing_setup stage.routing) writer todos taken doing submission) reply
+      → IsTaskOf stage (writer_answered (routing_setup stage.routing) writer todos taken doing submission reply)
+  writer_home writer todos taken Rests submission reply book all home is on owes = write_home writer todos taken submission reply book all home is owes
+  writer_home writer todos taken doing submission reply book all home is on owes = (book, all, home, on owes)
 
-  rescuer_home : (dev : DevId) (doing : Doing) (line : Line) (reply : Reply) → IsTrue (has_rescuer stage dev) → IsLineOf stage line
-      → (Owes stage (line_request (routing_setup stage.routing) doing line.lists) reply
-      → IsLineOf stage (line_answered (routing_setup stage.routing) doing line.lists reply))
-      → Owes stage (rescuer_request (routing_setup stage.routing) dev doing line) reply
-      → IsTaskOf stage (rescuer_answered (routing_setup stage.routing) dev doing line reply)
-  rescuer_home dev Rests line (Popped bio) rescuer is on owes =
+  rescuer_home : (dev : DevId) (doing : Doing) (submission : Submission) (reply : Reply) → IsTrue (has_rescuer stage dev) → IsSubmissionOf stage submission
+      → (Owes stage (submission_request (routing_setup stage.routing) doing submission.lists) reply
+      → IsSubmissionOf stage (submission_answered (routing_setup stage.routing) doing submission.lists reply))
+      → Owes stage (rescuer_request (routing_setup stage.routing) dev doing submission) reply
+      → IsTaskOf stage (rescuer_answered (routing_setup stage.routing) dev doing submission reply)
+  rescuer_home dev Rests submission (Popped bio) rescuer is on owes =
       (rescuer, one bio owes.within (record { writer = owes.writer; home = owes.home }))
-  rescuer_home dev Rests line Spent rescuer is on owes = (rescuer, broken line breach.Spent [] is)
-  rescuer_home dev Rests line _ rescuer is on owes = (rescuer, is)
-  rescuer_home dev doing line reply rescuer is on owes = (rescuer, on owes)
+  rescuer_home dev Rests submission Spent rescuer is on owes = (rescuer, broken submission breach.Spent [] is)
+  rescuer_home dev Rests submission _ rescuer is on owes = (rescuer, is)
+  rescuer_home dev doing submission reply rescuer is on owes = (rescuer, on owes)
 
   given_home : (writer : ℕ) (closed : Closed) (vector : Option VectorItem) (bio : Option (Item Pad)) (slip : Option SlipItem)
       → IsTrue (has_book stage writer) → IsBioHome stage bio → IsSlipHome stage slip → TopFits stage closed.write closed.parent
@@ -201,14 +201,14 @@ module _ (stage : Stage) (good : IsStack stage.routing.stack) where
 
   task_home : (task : TaskState) (reply : Reply) → IsTaskOf stage task → Owes stage (request (routing_setup stage.routing) task) reply
       → IsTaskOf stage (answered (routing_setup stage.routing) task reply)
-  task_home (Writer number todo taken line) reply is owes =
+  task_home (Writer number todo taken submission) reply is owes =
       let l = is.3 in
-      writer_home number todo taken line.doing line reply is.0 is.1 is.2 l
-      (λ owes. line_home stage good line.doing line.lists reply l.fits.doing l.doing l.fits.lists (l.list0, l.list1) owes) owes
-  task_home (Rescuer dev line) reply is owes =
+      writer_home number todo taken submission.doing submission reply is.0 is.1 is.2 l
+      (λ owes. submission_home stage good submission.doing submission.lists reply l.fits.doing l.doing l.fits.lists (l.list0, l.list1) owes) owes
+  task_home (Rescuer dev submission) reply is owes =
       let l = is.1 in
-      rescuer_home dev line.doing line reply is.0 l
-      (λ owes. line_home stage good line.doing line.lists reply l.fits.doing l.doing l.fits.lists (l.list0, l.list1) owes) owes
+      rescuer_home dev submission.doing submission reply is.0 l
+      (λ owes. submission_home stage good submission.doing submission.lists reply l.fits.doing l.doing l.fits.lists (l.list0, l.list1) owes) owes
   task_home (Completer disk carried) reply is owes = (is.0, carried_home disk carried reply is.1 owes)
   task_home (Keeper keeping) reply is owes = keeper_home keeping reply is
 

@@ -8,7 +8,7 @@ use Rattle.bio_records.specs.declared.tasks.TaskLists.{TaskLists}
 use Rattle.bio_records.specs.Items.{Item}
 use Rattle.bio_records.specs.Sorting.{is_lower, is_same}
 use Rattle.bio_lists.specs.Submission.{submitted, order}
-use Rattle.run_machine.specs.Lines.{is_of, punted, not_punted}
+use Rattle.run_machine.specs.Submissions.{is_of, punted, not_punted}
 
 -- in the lists of a task
 abbrev pub BothHave : (Item Pad → Type 0) → TaskLists → Type 0

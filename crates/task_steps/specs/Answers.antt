@@ -20,10 +20,10 @@ use Rattle.task_steps.specs.declared.step.Step.{Step}
 use Rattle.task_steps.specs.declared.step.Step.TheVariants.{Stepped}
 use Rattle.run_machine.specs.Scene.{Setup, tree_at}
 use Rattle.run_machine.specs.Requests.{Request, Reply, Opening, TakeBio, Punt, Link, HadBio, Missed, Did, LinkedTo, Nothing, Spent}
-use Rattle.run_machine.specs.Lines.{Want, Links, Ask, Doing, Drives, Line, asks_at, punted, not_punted, line_request, after_miss, line_answered}
+use Rattle.run_machine.specs.Submissions.{Want, Links, Ask, Doing, Drives, Submission, asks_at, punted, not_punted, submission_request, after_miss, submission_answered}
 use Rattle.task_steps.specs.Turns.{named_node, step_of}
 use Rattle.run_machine.specs.Kept.{Kept, KeptBio, holding_kept, opening_kept}
-use Rattle.task_steps.specs.LineViews.{submission_of, want_of, unmade_kept, back_kept}
+use Rattle.task_steps.specs.SubmissionViews.{submission_of, want_of, unmade_kept, back_kept}
 use Rattle.task_steps.specs.Routed.{Routing, routing_setup}
 use Rattle.task_steps.specs.Stage.{RequestFits, Owes}
 
@@ -34,21 +34,21 @@ finds reply = true
 
 -- The objects were asked for what the submission asks for, it goes on with their reply, for which they owe what they do, and the step tells it.
 pub record AnswersSubmission {S : Type 0} (serves : S → Request → Reply → S → Type 0) (owes : Request → Reply → Type 0) (setup : Setup) (task : TaskId)
-    (doing : Doing) (lists : TaskLists) (old : S) (next : Line) (new : S) (step : Step) : Type 0 where
+    (doing : Doing) (lists : TaskLists) (old : S) (next : Submission) (new : S) (step : Step) : Type 0 where
   pub reply : Reply
-  pub replied : serves old (line_request setup doing lists) reply new
-  pub owed : owes (line_request setup doing lists) reply
+  pub replied : serves old (submission_request setup doing lists) reply new
+  pub owed : owes (submission_request setup doing lists) reply
   pub found : finds reply ≡ true
-  pub goes_on : next ≡ line_answered setup doing lists reply
-  pub tells : step ≡ step_of setup task (line_request setup doing lists) reply
+  pub goes_on : next ≡ submission_answered setup doing lists reply
+  pub tells : step ≡ step_of setup task (submission_request setup doing lists) reply
 
 -- objects that hold together, and may be asked this
 abbrev pub Ready : {S : Type 0} → Ghosts S → S → Request → Type 0
 Ready words objects request = words.holds objects × RequestFits (words.stage objects) request
 
 -- the same of what a submission asks for
-abbrev pub LineReady : {S : Type 0} → Ghosts S → S → Routing → Doing → TaskLists → Type 0
-LineReady words objects routing doing lists = Ready words objects (line_request (routing_setup routing) doing lists)
+abbrev pub SubmissionReady : {S : Type 0} → Ghosts S → S → Routing → Doing → TaskLists → Type 0
+SubmissionReady words objects routing doing lists = Ready words objects (submission_request (routing_setup routing) doing lists)
 
 -- what the driver of a device asks for first, whatever bio it has
 abbrev pub AsksFirst : Routing → TaskLists → DevId → Ask → Type 0
@@ -56,15 +56,15 @@ AsksFirst routing lists dev ask =
     (item : Item Pad) → item.bio.dev ≡ dev → asks_at (routing_setup routing) lists item (tree_at (routing_setup routing) dev) ≡ Drives item ask
 
 -- a step of a submission over these objects, which hold together behind it too
-pub record LineDoes {S : Type 0} (words : Ghosts S) (routing : Routing) (task : TaskId) (line : Line) (old : S) (next : Line) (new : S) (step : Step) : Type 0 where
-  pub answers : AnswersSubmission words.serves (Owes (words.stage old)) (routing_setup routing) task line.doing line.lists old next new step
+pub record SubmissionDoes {S : Type 0} (words : Ghosts S) (routing : Routing) (task : TaskId) (submission : Submission) (old : S) (next : Submission) (new : S) (step : Step) : Type 0 where
+  pub answers : AnswersSubmission words.serves (Owes (words.stage old)) (routing_setup routing) task submission.doing submission.lists old next new step
   pub held : words.holds new
   pub same : words.stage new ≡ words.stage old
 
 -- the same of what was done and of the lists behind it
 abbrev pub Does : {S : Type 0} → Ghosts S → Routing → TaskId → Doing → TaskLists → S → RealDoing × Step → TaskLists → S → Type 0
 Does words routing task doing lists old done after new =
-    LineDoes words routing task (record { doing = doing; lists = lists }) old (submission_of done.0 after) new done.1
+    SubmissionDoes words routing task (record { doing = doing; lists = lists }) old (submission_of done.0 after) new done.1
 
 -- and of a step that does so whatever is known of the devices
 abbrev pub AlwaysDoes : {S : Type 0} → Ghosts S → TaskId → Doing → TaskLists → S → RealDoing × Step → TaskLists → S → Type 0

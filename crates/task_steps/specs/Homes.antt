@@ -7,11 +7,11 @@ use Rattle.layout_model.specs.Writes.{IsWrite}
 use Rattle.bio_records.specs.declared.bio.Pad.{Pad}
 use Rattle.bio_records.specs.Items.{Item}
 use Rattle.run_machine.specs.Requests.{Reply}
-use Rattle.run_machine.specs.Lines.{Want, Takes, Punts, Links, Ask, ToPush, ToCut, ToRecord, ToMaster, Doing, Rests, Drives, Copies, Breaks, Line, line_request, line_answered}
+use Rattle.run_machine.specs.Submissions.{Want, Takes, Punts, Links, Ask, ToPush, ToCut, ToRecord, ToMaster, Doing, Rests, Drives, Copies, Breaks, Submission, submission_request, submission_answered}
 use Rattle.run_machine.specs.Tasks.{Todo, Gathered, NoBio, HasBio, HasBoth, Carried, Empty, Brings, Carries, Fails, Duty, Resizes, Starts, Keeping, Keeps, Stops, TaskState, Writer, Rescuer, Completer, Keeper, request, answered}
 use Rattle.task_steps.specs.Routed.{routing_setup}
 use Rattle.task_steps.specs.Stage.{Stage, has_book, has_rescuer, has_disk, is_pool, is_bios, is_vecs, is_slips, IsHome, ClosedFits, RequestFits, Owes}
-use Rattle.task_steps.specs.Within.{LineFits}
+use Rattle.task_steps.specs.Within.{SubmissionFits}
 
 -- a bio of a writer with a book, in an element at home
 pub record IsOwned (stage : Stage) (item : Item Pad) : Type 0 where
@@ -38,11 +38,11 @@ DoingIsHome stage (Drives item ask) = IsOwned stage item × AskIsHome stage item
 DoingIsHome stage (Copies bio master leg want) = IsTrue (has_book stage bio.writer) × WantFits stage bio.dev want
 
 -- a submission whose bios can all be served
-pub record IsLineOf (stage : Stage) (line : Line) : Type 0 where
-  pub fits : LineFits stage.routing.stack line
-  pub doing : DoingIsHome stage line.doing
-  pub list0 : All (IsOwned stage) line.lists.list0
-  pub list1 : All (IsOwned stage) line.lists.list1
+pub record IsSubmissionOf (stage : Stage) (submission : Submission) : Type 0 where
+  pub fits : SubmissionFits stage.routing.stack submission
+  pub doing : DoingIsHome stage submission.doing
+  pub list0 : All (IsOwned stage) submission.lists.list0
+  pub list1 : All (IsOwned stage) submission.lists.list1
 
 -- a write of the scenario, with no more segments than a vector has
 pub record TodoFits (stage : Stage) (todo : Todo) : Type 0 where
@@ -71,18 +71,18 @@ KeepingFits stage (Stops breach) = Unit {0}
 
 -- a task of the scenario that these objects are of
 abbrev pub IsTaskOf : Stage → TaskState → Type 0
-IsTaskOf stage (Writer number todo taken line) =
-    IsTrue (has_book stage number) × All (TodoFits stage) todo × GatheredIsHome stage taken × IsLineOf stage line
-IsTaskOf stage (Rescuer dev line) = IsTrue (has_rescuer stage dev) × IsLineOf stage line
+IsTaskOf stage (Writer number todo taken submission) =
+    IsTrue (has_book stage number) × All (TodoFits stage) todo × GatheredIsHome stage taken × IsSubmissionOf stage submission
+IsTaskOf stage (Rescuer dev submission) = IsTrue (has_rescuer stage dev) × IsSubmissionOf stage submission
 IsTaskOf stage (Completer disk carried) = IsTrue (has_disk stage disk) × CarriedFits stage carried
 IsTaskOf stage (Keeper keeping) = KeepingFits stage keeping
 
 -- What such a submission asks for fits the objects, and with what they owe for it, it stays one.
-pub record LinesStayHome : Type 0 where
-  pub asks : (stage : Stage) (line : Line) → IsStack stage.routing.stack → IsLineOf stage line → RequestFits stage (line_request (routing_setup stage.routing) line.doing line.lists)
-  pub goes_on : (stage : Stage) (line : Line) (reply : Reply) → IsStack stage.routing.stack → IsLineOf stage line
-      → Owes stage (line_request (routing_setup stage.routing) line.doing line.lists) reply
-      → IsLineOf stage (line_answered (routing_setup stage.routing) line.doing line.lists reply)
+pub record SubmissionsStayHome : Type 0 where
+  pub asks : (stage : Stage) (submission : Submission) → IsStack stage.routing.stack → IsSubmissionOf stage submission → RequestFits stage (submission_request (routing_setup stage.routing) submission.doing submission.lists)
+  pub goes_on : (stage : Stage) (submission : Submission) (reply : Reply) → IsStack stage.routing.stack → IsSubmissionOf stage submission
+      → Owes stage (submission_request (routing_setup stage.routing) submission.doing submission.lists) reply
+      → IsSubmissionOf stage (submission_answered (routing_setup stage.routing) submission.doing submission.lists reply)
 
 -- So it is with tasks.
 pub record TasksStayHome : Type 0 where

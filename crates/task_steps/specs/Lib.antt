@@ -7,7 +7,7 @@ pub mod Views
 pub mod Turns
 pub mod CarriedViews
 pub mod KeeperViews
-pub mod LineViews
+pub mod SubmissionViews
 pub mod Answers
 pub mod WriterViews
 pub mod RescuerViews

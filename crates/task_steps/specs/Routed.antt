@@ -26,7 +26,7 @@ use Rattle.task_steps.specs.declared.routes.driver.Manner.TheVariants as manner
 use Rattle.task_steps.specs.declared.routes.Route.{Route}
 use Rattle.run_machine.specs.Scene.{Setup, setup_of}
 use Rattle.bioset_pools.specs.Sets.{waits_first}
-use Rattle.run_machine.specs.Lines.{Doing, Drives, ToPush, ToCut, ToRecord, Takes, landed, asks_at, cut_at, leg_at, goes_on}
+use Rattle.run_machine.specs.Submissions.{Doing, Drives, ToPush, ToCut, ToRecord, Takes, landed, asks_at, cut_at, leg_at, goes_on}
 use Rattle.task_steps.specs.Within.{IsWithinDevice, first_cut, is_handed_on}
 
 -- a stack, and how many places the book of each writer has

@@ -13,7 +13,7 @@ use Rattle.task_steps.specs.declared.step.Step.{Step}
 use Rattle.task_steps.specs.declared.step.Step.TheVariants.{Stepped, Blocked, Waiting, Ended, Broken}
 use Rattle.stack_base.specs.declared.ids.DevId.{DevId}
 use Rattle.run_machine.specs.Scene.{Setup}
-use Rattle.run_machine.specs.Lines.{Doing, Rests, Drives, Copies, Breaks}
+use Rattle.run_machine.specs.Submissions.{Doing, Rests, Drives, Copies, Breaks}
 use Rattle.task_steps.specs.Choosing.{IsAsked}
 use Rattle.run_machine.specs.Requests.{Request, Reply, Opening, Write, Chain, Master, Leg, TakeBio, TakeVec, TakeSlip, Link, Drop, Resize, LookLeft, Rest, Missed, LinkedTo, DroppedTo, OutIs, LeftOver, Nothing, Spent}
 use Rattle.run_machine.specs.Tasks.{TaskState, Writer, Rescuer, Completer, Keeper, Carried, Empty, Brings, Carries, Fails, Keeping, Keeps, Stops, request, look_of, lets, answered}
@@ -63,8 +63,8 @@ keeping_breach (Keeps duties) = None
 keeping_breach (Stops breach) = Some breach
 
 abbrev pub breach_of : TaskState → Option Breach
-breach_of (Writer number todo taken line) = doing_breach line.doing
-breach_of (Rescuer dev line) = doing_breach line.doing
+breach_of (Writer number todo taken submission) = doing_breach submission.doing
+breach_of (Rescuer dev submission) = doing_breach submission.doing
 breach_of (Completer disk carried) = carried_breach carried
 breach_of (Keeper keeping) = keeping_breach keeping
 

@@ -14,7 +14,7 @@ use Rattle.bio_records.specs.Items.{Item}
 use Rattle.task_steps.specs.declared.routes.Cut.{Cut}
 use Rattle.run_machine.specs.Scene.{tree_number, keeps_data, is_mirror, setup_of}
 use Rattle.run_machine.specs.Requests.{Request, Reply, Punt, Popped}
-use Rattle.run_machine.specs.Lines.{Ask, ToPush, ToCut, ToRecord, ToMaster, Doing, Rests, Drives, Copies, Breaks, Line, first_length, legs_of, settled, line_request, line_answered}
+use Rattle.run_machine.specs.Submissions.{Ask, ToPush, ToCut, ToRecord, ToMaster, Doing, Rests, Drives, Copies, Breaks, Submission, first_length, legs_of, settled, submission_request, submission_answered}
 use Rattle.run_machine.specs.Tasks.{Todo, TaskState, Writer, Rescuer, Completer, Keeper, request, answered}
 
 -- a bio with a sector, that ends within its device, which is one of the stack
@@ -63,14 +63,14 @@ DoingFits stack (Drives item ask) = IsWithinDevice stack item.bio × AskFits (tr
 DoingFits stack (Copies bio master leg want) = IsWithinDevice stack bio × (leg < legs_of (tree stack bio.dev.0))
 
 -- a submission whose bios are all within their devices
-pub record LineFits (stack : Stack) (line : Line) : Type 0 where
-  pub doing : DoingFits stack line.doing
-  pub lists : ListsAreWithin stack line.lists
+pub record SubmissionFits (stack : Stack) (submission : Submission) : Type 0 where
+  pub doing : DoingFits stack submission.doing
+  pub lists : ListsAreWithin stack submission.lists
 
 -- a task whose bios are all within their devices, as its writes are
 abbrev pub TaskFits : Stack → TaskState → Type 0
-TaskFits stack (Writer number todo taken line) = All (λ (todo : Todo). IsWrite stack todo.write) todo × LineFits stack line
-TaskFits stack (Rescuer dev line) = LineFits stack line
+TaskFits stack (Writer number todo taken submission) = All (λ (todo : Todo). IsWrite stack todo.write) todo × SubmissionFits stack submission
+TaskFits stack (Rescuer dev submission) = SubmissionFits stack submission
 TaskFits stack (Completer disk carried) = Unit {0}
 TaskFits stack (Keeper keeping) = Unit {0}
 
@@ -84,13 +84,13 @@ ReplyFits stack (Popped bio) = IsWithinDevice stack bio.bio
 ReplyFits stack reply = Unit {0}
 
 -- A submission of such bios stays one, whatever is replied: no element that is taken has a run of its own. What it punts is within too.
-pub record LinesStayWithin : Type 0 where
+pub record SubmissionsStayWithin : Type 0 where
   pub settles : (stack : Stack) (places : ℕ → ℕ) (items : List (Item Pad)) → IsStack stack → AreWithin stack items
-      → LineFits stack (settled (setup_of stack places) items)
-  pub goes_on : (stack : Stack) (places : ℕ → ℕ) (line : Line) (reply : Reply) → IsStack stack → LineFits stack line
-      → LineFits stack (line_answered (setup_of stack places) line.doing line.lists reply)
-  pub asks : (stack : Stack) (places : ℕ → ℕ) (line : Line) → LineFits stack line
-      → AskedFits stack (line_request (setup_of stack places) line.doing line.lists)
+      → SubmissionFits stack (settled (setup_of stack places) items)
+  pub goes_on : (stack : Stack) (places : ℕ → ℕ) (submission : Submission) (reply : Reply) → IsStack stack → SubmissionFits stack submission
+      → SubmissionFits stack (submission_answered (setup_of stack places) submission.doing submission.lists reply)
+  pub asks : (stack : Stack) (places : ℕ → ℕ) (submission : Submission) → SubmissionFits stack submission
+      → AskedFits stack (submission_request (setup_of stack places) submission.doing submission.lists)
 
 -- so a task of such bios stays one, if a rescuer takes none but such, and what it punts is such
 pub record TasksStayWithin : Type 0 where

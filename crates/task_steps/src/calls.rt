@@ -3,11 +3,11 @@ ghost use Rattle.std.specs.Prelude.{◌≡◌};
 ghost use Rattle.stack_base.specs.declared.ids.SetId.TheVariants.{Of};
 ghost use Rattle.task_steps.specs.declared.step.Step.TheVariants.{Blocked};
 ghost use Rattle.run_machine.specs.Requests.{TakeBio, Punt, Link as LinkOf};
-ghost use Rattle.run_machine.specs.Lines.{punted, after_miss};
+ghost use Rattle.run_machine.specs.Submissions.{punted, after_miss};
 ghost use Rattle.run_machine.specs.Events.{take_of, miss_of};
 ghost use Rattle.task_steps.specs.Views.{opening_of, IsAskAlone};
 ghost use Rattle.task_steps.specs.Turns.{named_node, step_by, idle_step};
-ghost use Rattle.task_steps.specs.LineViews.{want_of, IsWantAlone, IsAttemptAlone};
+ghost use Rattle.task_steps.specs.SubmissionViews.{want_of, IsWantAlone, IsAttemptAlone};
 ghost use Rattle.task_steps.specs.Answers.{AttemptDoes, PuntDoes, OpeningDoes, Ready};
 
 use crate::objects::{Ask, Objects, Unmade};

@@ -1,11 +1,11 @@
 //! What holds of tasks whose bios can be served and whose elements are at home, as functions that do nothing.
-ghost use Rattle.task_steps.specs.Homes.{LinesStayHome, TasksStayHome};
+ghost use Rattle.task_steps.specs.Homes.{SubmissionsStayHome, TasksStayHome};
 ghost use Rattle.task_steps.specs.Named.{TasksNameTheStack};
 
 /// What a submission asks for fits the objects where each of its bios can be served, and with what objects owe for their replies it stays so:
 /// no element is lost to another pool.
-pub fn lines_stay_home()
-    ensures { LinesStayHome }
+pub fn submissions_stay_home()
+    ensures { SubmissionsStayHome }
 {}
 
 /// So it is with each task of the scenario that the objects are of.

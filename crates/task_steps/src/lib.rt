@@ -24,7 +24,7 @@ pub use routes::driver::{Driver, Manner};
 pub use routes::{Cut, Routes};
 pub use run_machine::{Breach, End, Event, Got, How, TaskId, What};
 pub use step::Step;
-pub use submission::{Doing, DriverAsk, HandedBack, Kept, Line, Want};
+pub use submission::{Doing, DriverAsk, HandedBack, Kept, Submission, Want};
 pub use task::{Kind, Task};
 pub use todo::{Todo, Todos};
 pub use writer::Writer;

@@ -1,7 +1,7 @@
 //! Rescuers: each submits the bios of a device's set that were punted (`bio_alloc_rescue`, `block/bio.c`).
 ghost use Rattle.std.specs.Prelude.{◌≡◌};
 ghost use Rattle.run_machine.specs.Requests.{Pop};
-ghost use Rattle.run_machine.specs.Lines.{Rests, rests};
+ghost use Rattle.run_machine.specs.Submissions.{Rests, rests};
 ghost use Rattle.task_steps.specs.RescuerViews.{rescuer_task};
 ghost use Rattle.task_steps.specs.TaskSteps.{TaskDoes, HoldsTask};
 ghost use Rattle.task_steps.specs.Answers.{Ready};
@@ -10,7 +10,7 @@ use crate::calls::idle;
 use crate::objects::Objects;
 use crate::routes::Routes;
 use crate::step::Step;
-use crate::submission::{Kept, Line};
+use crate::submission::{Kept, Submission};
 use run_machine::{Breach, Event, TaskId, What};
 use stack_base::DevId;
 use std::marker::Model;
@@ -19,7 +19,7 @@ use std::marker::Model;
 #[derive(Drop)]
 pub struct Rescuer {
     dev: DevId,
-    line: Line,
+    submission: Submission,
 }
 
 impl Model for Rescuer {
@@ -27,17 +27,17 @@ impl Model for Rescuer {
 
     ghost Value = { RescuerState };
 
-    ghost view = { λ r. record { dev = r.dev; line = r.line } };
+    ghost view = { λ r. record { dev = r.dev; submission = r.submission } };
 }
 
 impl Rescuer {
     /// The rescuer of this device's set.
     pub fn new(dev: DevId) -> Rescuer
-        ensures { result ≡ record { dev = dev; line = rests } }
+        ensures { result ≡ record { dev = dev; submission = rests } }
     {
         Rescuer {
             dev,
-            line: Line::rests(),
+            submission: Submission::rests(),
         }
     }
 
@@ -52,13 +52,13 @@ impl Rescuer {
     fn pop<O: Objects>(&mut self, objects: &mut O, routes: &Routes) -> Step
         requires ready { Ready O.Objects objects.old (Pop self.old.dev) }
         requires routing { (O.stage objects.old).routing ≡ routes.now }
-        requires rests { self.old.line.doing ≡ Rests }
+        requires rests { self.old.submission.doing ≡ Rests }
         ensures does { TaskDoes O.Objects routes.now (rescuer_task self.old) objects.old (rescuer_task self.new) objects.new result }
     {
         let dev = self.dev;
         match objects.pop(dev) {
             Ok(Some(bio)) => {
-                self.line.becomes(Line::begin(routes, bio));
+                self.submission.becomes(Submission::begin(routes, bio));
                 let task = TaskId::Rescuer(dev);
                 let what = What::Pop { dev };
                 Step::Stepped(Event { task, what })
@@ -66,7 +66,7 @@ impl Rescuer {
             Ok(None) => idle(objects.left()),
             Err(nothing) => {
                 drop(nothing);
-                self.line.breaks(Breach::Spent, Kept::nothing());
+                self.submission.breaks(Breach::Spent, Kept::nothing());
                 Step::Broken(Breach::Spent)
             }
         }
@@ -80,11 +80,11 @@ impl Rescuer {
         requires ready { HoldsTask O.Objects objects.old (rescuer_task self.old) }
         ensures does { TaskDoes O.Objects routes.now (rescuer_task self.old) objects.old (rescuer_task self.new) objects.new result }
     {
-        if self.line.asks() {
+        if self.submission.asks() {
             let task = TaskId::Rescuer(self.dev);
-            return self.line.step(objects, routes, task);
+            return self.submission.step(objects, routes, task);
         }
-        if let Some(breach) = self.line.breach() {
+        if let Some(breach) = self.submission.breach() {
             return Step::Broken(breach);
         }
         self.pop(objects, routes)

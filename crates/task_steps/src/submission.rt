@@ -1,16 +1,16 @@
 //! Submissions: the bio that its driver has, what the driver asks for, and the bios that wait (`submit_bio_noacct`, `block/blk-core.c`).
 ghost use Rattle.std.specs.Prelude.{◌≡◌, ◌<◌, ◌++◌, [], ◌∷◌, true, None};
 ghost use Rattle.bio_records.specs.Items.{item_of, IsAlone};
-ghost use Rattle.run_machine.specs.Lines.{Rests, Drives, Breaks as Breaks', ToCut, settled, rests};
+ghost use Rattle.run_machine.specs.Submissions.{Rests, Drives, Breaks as Breaks', ToCut, settled, rests};
 ghost use Rattle.task_steps.specs.Within.{IsWithinDevice};
 ghost use Rattle.task_steps.specs.Routed.{routing_setup};
-ghost use Rattle.task_steps.specs.Homes.{IsLineOf};
+ghost use Rattle.task_steps.specs.Homes.{IsSubmissionOf};
 ghost use Rattle.task_steps.specs.Turns.{doing_breach};
-ghost use Rattle.task_steps.specs.LineViews.{unmade_kept, kept_of, doing_of, submission_of, IsDoingAlone, is_asking};
+ghost use Rattle.task_steps.specs.SubmissionViews.{unmade_kept, kept_of, doing_of, submission_of, IsDoingAlone, is_asking};
 ghost use Rattle.task_steps.specs.declared.submission.Doing.TheVariants as doing';
 ghost use Rattle.run_machine.specs.Kept.{bio_kept};
 ghost use Rattle.bio_books.specs.Views.{bio_of};
-ghost use Rattle.task_steps.specs.Answers.{LineDoes};
+ghost use Rattle.task_steps.specs.Answers.{SubmissionDoes};
 
 pub(crate) mod cut;
 pub(crate) mod dispatch;
@@ -18,7 +18,7 @@ pub(crate) mod mirror;
 pub(crate) mod push;
 mod take;
 
-use crate::homes::lines_stay_home;
+use crate::homes::submissions_stay_home;
 use crate::objects::{Objects, Unmade};
 use crate::routes::Routes;
 use crate::step::Step;
@@ -121,16 +121,16 @@ pub enum Doing {
 
 /// A submission, with the task's two lists.
 #[derive(Drop)]
-pub struct Line {
+pub struct Submission {
     pub(crate) doing: Doing,
     pub(crate) lists: TaskLists,
 }
 
-impl Model for Line {
-    ghost use Rattle.run_machine.specs.Lines.{Line as LineState};
-    ghost use Rattle.task_steps.specs.LineViews.{submission_of, IsDoingAlone};
+impl Model for Submission {
+    ghost use Rattle.run_machine.specs.Submissions.{Submission as SubmissionState};
+    ghost use Rattle.task_steps.specs.SubmissionViews.{submission_of, IsDoingAlone};
 
-    ghost Value = { LineState };
+    ghost Value = { SubmissionState };
 
     ghost view = { λ l. submission_of l.doing l.lists };
 
@@ -174,19 +174,19 @@ pub(crate) fn spent(at: &mut Doing, bio: Option<BioElement>, back: Unmade) -> St
     break_off(at, Breach::Spent, Kept::unmade(bio, back))
 }
 
-impl Line {
+impl Submission {
     /// A submission that is over.
-    pub fn rests() -> Line
+    pub fn rests() -> Submission
         ensures { result ≡ rests }
     {
-        Line {
+        Submission {
             doing: Doing::Rests,
             lists: TaskLists::new(),
         }
     }
 
     /// The bio is submitted, and none waits.
-    pub fn begin(routes: &Routes, bio: BioElement) -> Line
+    pub fn begin(routes: &Routes, bio: BioElement) -> Submission
         requires within { IsWithinDevice routes.now.stack (item_of bio).bio }
         requires alone { IsAlone bio }
         ensures { result ≡ settled (routing_setup routes.now) (item_of bio ∷ []) }
@@ -194,18 +194,18 @@ impl Line {
         let mut doing = Doing::Rests;
         let lists = TaskLists::new();
         serve(routes, bio, &mut doing, &lists);
-        Line { doing, lists }
+        Submission { doing, lists }
     }
 
     /// One that is over is another one from now on.
     #[inline(always)] // what is moved into it is made in its place
     #[tactic(auto, using(crate::proofs::Resting::rests_alone))]
-    pub(crate) fn becomes(&mut self, line: Line)
+    pub(crate) fn becomes(&mut self, submission: Submission)
         requires { self.old.doing ≡ Rests }
-        ensures { self.new ≡ line }
+        ensures { self.new ≡ submission }
     {
-        put(&mut self.doing, line.doing);
-        self.lists = line.lists;
+        put(&mut self.doing, submission.doing);
+        self.lists = submission.lists;
     }
 
     /// The task of a submission that is over cannot go on, and keeps this.
@@ -243,12 +243,12 @@ impl Line {
     pub fn step<O: Objects>(&mut self, objects: &mut O, routes: &Routes, task: TaskId) -> Step
         requires holds { O.holds objects.old }
         requires routing { (O.stage objects.old).routing ≡ routes.now }
-        requires line { IsLineOf (O.stage objects.old) self.old }
+        requires submission { IsSubmissionOf (O.stage objects.old) self.old }
         requires asks { is_asking self.old.doing ≡ true }
-        ensures does { LineDoes O.Objects routes.now task self.old objects.old self.new objects.new result }
+        ensures does { SubmissionDoes O.Objects routes.now task self.old objects.old self.new objects.new result }
     {
         routes.known();
-        lines_stay_home();
+        submissions_stay_home();
         if let Some((dev, waits)) = self.attempts() {
             return self.attempt(objects, task, dev, waits);
         }

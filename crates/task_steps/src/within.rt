@@ -1,11 +1,11 @@
 //! What holds of submissions whose bios lie within their devices, as functions that do nothing.
-ghost use Rattle.task_steps.specs.Within.{LinesStayWithin, TasksStayWithin};
+ghost use Rattle.task_steps.specs.Within.{SubmissionsStayWithin, TasksStayWithin};
 
 /// A submission whose bios all lie within their devices stays one, whatever is replied: each bio that it makes is a piece, a rest or a leg
 /// of one that it has. Its driver is asked for what it does: a disk takes the bio, a device that cuts has more than one piece of it, and a
 /// mirror has a leg left to make.
-pub fn lines_stay_within()
-    ensures { LinesStayWithin }
+pub fn submissions_stay_within()
+    ensures { SubmissionsStayWithin }
 {}
 
 /// So does a task whose writes do, if its rescuer takes no bios but such. What it punts is within, so that no rescuer takes any other.

@@ -2,7 +2,7 @@
 ghost use Rattle.std.specs.Prelude.{◌≡◌, ◌≢◌, ◌∷◌, [], true, false, drop};
 ghost use Rattle.stack_base.specs.declared.ids.SetId.TheVariants.{Fs};
 ghost use Rattle.run_machine.specs.Requests.{TakeBio, LookRound};
-ghost use Rattle.run_machine.specs.Lines.{Rests, rests};
+ghost use Rattle.run_machine.specs.Submissions.{Rests, rests};
 ghost use Rattle.run_machine.specs.Tasks.{Todo as TodoState, NoBio};
 ghost use Rattle.run_machine.specs.Scene.{Setup};
 ghost use Rattle.task_steps.specs.WriterViews.{writer_task, tried, IsNextAlone, IsAttemptAtBioAlone, is_taken, writer_next};
@@ -15,7 +15,7 @@ pub(crate) mod first_bio;
 use crate::objects::Objects;
 use crate::routes::Routes;
 use crate::step::Step;
-use crate::submission::{Kept, Line};
+use crate::submission::{Kept, Submission};
 use crate::todo::{Todo, Todos};
 use crate::writer::begin::{Attempt, Gathered, Next, go_on, take_bio};
 use run_machine::{Breach, TaskId};
@@ -28,7 +28,7 @@ pub struct Writer {
     number: u32,
     todo: Todos,
     taken: Gathered,
-    line: Line,
+    submission: Submission,
 }
 
 impl Model for Writer {
@@ -36,7 +36,7 @@ impl Model for Writer {
 
     ghost Value = { WriterState };
 
-    ghost view = { λ w. record { number = w.number; todo = w.todo; taken = gathered_of w.taken; line = w.line } };
+    ghost view = { λ w. record { number = w.number; todo = w.todo; taken = gathered_of w.taken; submission = w.submission } };
 
     ghost invariant = { λ w. IsGatheredAlone w.taken };
 }
@@ -44,13 +44,13 @@ impl Model for Writer {
 impl Writer {
     /// The writer of this number, which is to begin these writes.
     pub fn new(number: u32, todo: Todos) -> Writer
-        ensures { result ≡ record { number = number; todo = todo; taken = NoBio; line = rests } }
+        ensures { result ≡ record { number = number; todo = todo; taken = NoBio; submission = rests } }
     {
         Writer {
             number,
             todo,
             taken: Gathered::NoBio,
-            line: Line::rests(),
+            submission: Submission::rests(),
         }
     }
 
@@ -85,13 +85,20 @@ impl Writer {
     fn act<O: Objects>(&mut self, objects: &mut O, routes: &Routes, todo: &Todo) -> Step
         requires ready { HoldsTask O.Objects objects.old (writer_task self.old) }
         requires routing { (O.stage objects.old).routing ≡ routes.now }
-        requires rests { self.old.line.doing ≡ Rests }
+        requires rests { self.old.submission.doing ≡ Rests }
         requires first { self.old.todo ≡ todo.now ∷ drop 1 self.old.todo }
         requires some { is_taken self.old.taken ≡ true }
         ensures does { TaskDoes O.Objects routes.now (writer_task self.old) objects.old (writer_task self.new) objects.new result }
     {
         let taken = mem::replace(&mut self.taken, Gathered::NoBio);
-        let (next, step) = go_on(objects, routes, self.number, todo, taken, &mut self.line);
+        let (next, step) = go_on(
+            objects,
+            routes,
+            self.number,
+            todo,
+            taken,
+            &mut self.submission,
+        );
         self.put(next);
         step
     }
@@ -101,22 +108,22 @@ impl Writer {
     // As `Pool::take`: in shortage most attempts come to nothing.
     #[inline(always)]
     fn take_in(&mut self, attempt: Attempt)
-        requires rests { self.old.line.doing ≡ Rests }
+        requires rests { self.old.submission.doing ≡ Rests }
         requires none { self.old.taken ≡ NoBio }
         requires alone { IsAttemptAtBioAlone attempt }
-        ensures { writer_task self.new ≡ tried attempt self.old.number self.old.todo self.old.line }
+        ensures { writer_task self.new ≡ tried attempt self.old.number self.old.todo self.old.submission }
     {
         match attempt {
             Attempt::Had(bio) => self.taken = Gathered::HasBio(bio),
             Attempt::Missed => {}
-            Attempt::Spent => self.line.breaks(Breach::Spent, Kept::nothing()),
+            Attempt::Spent => self.submission.breaks(Breach::Spent, Kept::nothing()),
         }
     }
 
     // Asks for the bio of its next write.
     fn take<O: Objects>(&mut self, objects: &mut O) -> Step
         requires ready { Ready O.Objects objects.old (TakeBio Fs true) }
-        requires rests { self.old.line.doing ≡ Rests }
+        requires rests { self.old.submission.doing ≡ Rests }
         requires none { self.old.taken ≡ NoBio }
         requires some { self.old.todo ≢ [] }
         ensures does { TaskAsks O.Objects (writer_task self.old) objects.old (writer_task self.new) objects.new result }
@@ -129,7 +136,7 @@ impl Writer {
     // Asks for a bio, if the round of its next write has come.
     fn look<O: Objects>(&mut self, objects: &mut O, todo: &Todo) -> Step
         requires ready { Ready O.Objects objects.old LookRound }
-        requires rests { self.old.line.doing ≡ Rests }
+        requires rests { self.old.submission.doing ≡ Rests }
         requires first { self.old.todo ≡ todo.now ∷ drop 1 self.old.todo }
         requires none { is_taken self.old.taken ≡ false }
         ensures does { (setup : Setup) → TaskTurns O.Objects setup (writer_task self.old) objects.old (writer_task self.new) objects.new result }
@@ -159,11 +166,11 @@ impl Writer {
         requires ready { HoldsTask O.Objects objects.old (writer_task self.old) }
         ensures does { TaskDoes O.Objects routes.now (writer_task self.old) objects.old (writer_task self.new) objects.new result }
     {
-        if self.line.asks() {
+        if self.submission.asks() {
             let task = TaskId::Writer(self.number);
-            return self.line.step(objects, routes, task);
+            return self.submission.step(objects, routes, task);
         }
-        if let Some(breach) = self.line.breach() {
+        if let Some(breach) = self.submission.breach() {
             return Step::Broken(breach);
         }
         let Some(todo) = self.todo.first() else {

@@ -20,7 +20,7 @@ use Rattle.bio_records.specs.Items.{Item}
 use Rattle.bio_split.specs.Split.{split_rest}
 use Rattle.bio_books.specs.Books.{SlipItem}
 use Rattle.run_machine.specs.Scene.{Setup, tree_at, tree_number, setup_of}
-use Rattle.run_machine.specs.Lines.{Want, ToPush, ToCut, ToMaster, first_length, landed, legs_of, leg_at}
+use Rattle.run_machine.specs.Submissions.{Want, ToPush, ToCut, ToMaster, first_length, landed, legs_of, leg_at}
 use Rattle.block_core.specs.Charges.{run_charge, run_at, leg_charge}
 use Rattle.block_core.specs.Payers.{Record, PieceBio, Fragment, Paid, cost}
 use Rattle.block_core.proofs.moves.Moves.{piece}

@@ -13,9 +13,9 @@ use Rattle.bio_books.specs.declared.node.Role.{Role}
 use Rattle.bio_books.specs.declared.node.Role.TheVariants as role
 use Rattle.bio_books.specs.Books.{Node, SlipItem, later_part}
 use Rattle.run_machine.specs.Scene.{Setup, tree_at}
-use Rattle.run_machine.specs.Lines.{copies, legs_of}
+use Rattle.run_machine.specs.Submissions.{copies, legs_of}
 use Rattle.run_machine.specs.Tasks.{Todo, Gathered, NoBio, HasBio, HasBoth, Carried, Empty, Brings, Carries, Fails}
-use Rattle.block_core.specs.Weights.{Weight, Spot, Lined, Rescued, Pending, Brought, line_weight, carried_weight, no_weight}
+use Rattle.block_core.specs.Weights.{Weight, Spot, Lined, Rescued, Pending, Brought, submission_weight, carried_weight, no_weight}
 use Rattle.block_core.specs.Charges.{there}
 use Rattle.block_core.specs.Fragments.{todo_fragments, legs_come, leg_fragments}
 use Rattle.block_core.specs.Rooms.{need_at, leg_need, legs_need}
@@ -152,7 +152,7 @@ module _ (setup : Setup) (p : Needs setup) (v : Divided setup one_each) where
   lands limit item is = omega (arith, p.lands item.bio is, v.lands item.bio is)
 
   pub copies_due : (limit : ℕ) (lists : TaskLists) (bio : Bio) (master leg : ℕ) → AreThere setup lists.list0 → AreThere setup lists.list1
-      → line_weight (due setup) limit (copies setup lists bio master leg)
+      → submission_weight (due setup) limit (copies setup lists bio master leg)
       ≡ copy_due setup bio leg + sum_by (bio_due setup (Lined limit)) lists.list0 + sum_by (bio_due setup (Lined limit)) lists.list1
   copies_due limit lists bio master leg first second = by_test (leg == legs_of (tree_at setup bio.dev)) refl (copies_there setup (due setup) lands limit lists bio master leg first second)
     where

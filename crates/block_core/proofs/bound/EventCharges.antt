@@ -12,16 +12,16 @@ use Rattle.bio_books.specs.Books.{VectorItem, parent_of, told}
 use Rattle.bio_books.specs.Drops.{closed_of}
 use Rattle.run_machine.specs.Maps.{upd}
 use Rattle.run_machine.specs.Scene.{Scene, tree_at}
-use Rattle.run_machine.specs.Lines.{Takes, Punts as WantsPunt, Links, ToPush, ToCut, ToRecord, ToMaster, Doing, Drives, Copies, Line, rests, settled, goes_on, copies, first_length, leg_at, is_of, not_punted}
+use Rattle.run_machine.specs.Submissions.{Takes, Punts as WantsPunt, Links, ToPush, ToCut, ToRecord, ToMaster, Doing, Drives, Copies, Submission, rests, settled, goes_on, copies, first_length, leg_at, is_of, not_punted}
 use Rattle.run_machine.specs.Tasks.{TaskState, Writer, Rescuer, Completer, Keeper, Keeps, Resizes, Starts, Todo, NoBio, HasBio, HasBoth, Empty, Brings, Carries}
 use Rattle.run_machine.specs.Objects.{clear_bio, clear_vector, clear_slip}
 use Rattle.run_machine.specs.Runs.{State}
-use Rattle.block_core.specs.Weights.{Weight, Rescued, Lined, carried_weight, task_weight, line_weight}
+use Rattle.block_core.specs.Weights.{Weight, Rescued, Lined, carried_weight, task_weight, submission_weight}
 use Rattle.block_core.specs.Touches.{is_master}
 use Rattle.block_core.specs.Charges.{bio_charge, write_run, vector_charge, end_charge, held_charge, close_charge, charge, task_spent, duty_charge, task_charge, charged, spent_charges}
 use Rattle.block_core.specs.Payers.{Paid, WriteBio, WriteVector, ScriptEntry, cost}
 use Rattle.block_core.specs.Payers as paid
-use Rattle.block_core.proofs.moves.Moves.{Move, place_of, Can, after, limit_of, HasLine, with_want, filled_of, cut_lists, piece}
+use Rattle.block_core.proofs.moves.Moves.{Move, place_of, Can, after, limit_of, HasSubmission, with_want, filled_of, cut_lists, piece}
 use Rattle.block_core.proofs.moves.PaidKinds.{kind_of}
 use Rattle.block_core.proofs.moves.Moves as moves
 use Rattle.block_core.proofs.moves.Sums.{upd-same, upd-other}
@@ -29,13 +29,13 @@ use Rattle.block_core.proofs.sound.Misplaced.{was_after}
 use Rattle.block_core.proofs.sound.Splitting.{IsSameButClosed, total_but}
 use Rattle.block_core.proofs.sound.Facts.{TaskFits, Kept}
 use Rattle.block_core.proofs.sound.Orders.{Each, IsOwn, AskFits, DoingPlaced, TodoThere, TaskPlaced, Placed, Ground}
-use Rattle.block_core.proofs.bound.TaskCharges.{charge_lands, copies_charge, pops_once, pops_not, punts_charge, later_charge, takes_spent, want_spends, new_spends, wants_below, on_tasks, on_line, tells_charge, later_give, hands_back}
+use Rattle.block_core.proofs.bound.TaskCharges.{charge_lands, copies_charge, pops_once, pops_not, punts_charge, later_charge, takes_spent, want_spends, new_spends, wants_below, on_tasks, on_submission, tells_charge, later_give, hands_back}
 use Rattle.block_core.proofs.bound.PoolPayers.{is_write_bio, is_write_vector, is_piece_bio, is_record, leg_bio}
 use Rattle.block_core.proofs.bound.DeviceCharges.{Priced, leaf_charge, mirror_charge, legs_next}
 use Rattle.block_core.proofs.moves.Deltas.{delta}
-use Rattle.block_core.proofs.sound.TaskLines.{line_fits}
+use Rattle.block_core.proofs.sound.TaskSubmissions.{submission_fits}
 use Rattle.block_core.proofs.sound.Orders.{waiting_placed}
-use Rattle.block_core.proofs.sound.OrdersKept.{line_placed}
+use Rattle.block_core.proofs.sound.OrdersKept.{submission_placed}
 use Rattle.block_core.proofs.moves.Landings.{IsLanding, settled_there, goes_there, all_there, none_there, cut_there, leg_there}
 use Rattle.block_core.proofs.sound.SumParts.{cut_weight}
 use Rattle.std.proofs.Math.Nat.{mul-le-mul_left, mul-add}
@@ -58,8 +58,8 @@ module _ (price : Paid → ℕ) (was_master : ℕ → Bool) (scene : Scene) (s :
       charged price (was_after was_master m) scene (after scene s m) + spent_charges price scene s + price (kind_of (was_master (place_of m)) m)
       ≤ charged price was_master scene s + spent_charges price scene (after scene s m)
 
-  has : (place : ℕ) (x : TaskState) (doing : Doing) (lists : TaskLists) → s.task place ≡ x → HasLine x doing lists → DoingPlaced scene.setup (limit_of x) doing lists
-  has place x doing lists is h = line_placed scene.setup x doing lists (subst (TaskPlaced scene.setup) is (a.tasks place)) h
+  has : (place : ℕ) (x : TaskState) (doing : Doing) (lists : TaskLists) → s.task place ≡ x → HasSubmission x doing lists → DoingPlaced scene.setup (limit_of x) doing lists
+  has place x doing lists is h = submission_placed scene.setup x doing lists (subst (TaskPlaced scene.setup) is (a.tasks place)) h
 
   lands : IsLanding scene.setup w
   lands = charge_lands price was_master scene.setup p
@@ -75,7 +75,7 @@ module _ (price : Paid → ℕ) (was_master : ℕ → Bool) (scene : Scene) (s :
 
   begins : (place writer : ℕ) (todo : Todo) (later : List Todo) (item : Item Pad) (vector : Option VectorItem) (key : ℕ) → Can scene s (moves.Begins place writer todo later item vector key)
       → TodoThere scene.setup writer todo → item.share.no ≡ 65
-      → line_weight w 32 (settled scene.setup (filled_of writer todo item vector key ∷ [])) ≤ end_charge price WriteBio + write_run price scene.setup todo
+      → submission_weight w 32 (settled scene.setup (filled_of writer todo item vector key ∷ [])) ≤ end_charge price WriteBio + write_run price scene.setup todo
   begins place writer todo later item None key c fits home =
       let filled_item : Item Pad = filled_of writer todo item None key in
       let b = settled_there scene.setup w lands 32 (filled_item ∷ []) (fits key, tt) in
@@ -112,8 +112,8 @@ module _ (price : Paid → ℕ) (was_master : ℕ → Bool) (scene : Scene) (s :
         fewer 64 move,
       )
   lowers (moves.TakesSub place x doing lists dev waits move) c =
-      let new : Line = record { doing = with_want doing (Links (clear_bio (scene.ledger (2 * dev.0)))); lists = lists } in
-      let t = on_line scene s place x doing lists new c.0 c.1 c.2 in
+      let new : Submission = record { doing = with_want doing (Links (clear_bio (scene.ledger (2 * dev.0)))); lists = lists } in
+      let t = on_submission scene s place x doing lists new c.0 c.1 c.2 in
       omega (
         arith,
         delta scene w s (moves.TakesSub place x doing lists dev waits move) c,
@@ -125,8 +125,8 @@ module _ (price : Paid → ℕ) (was_master : ℕ → Bool) (scene : Scene) (s :
         fewer (2 * dev.0) move,
       )
   lowers (moves.TakesSlip place x bio lists move) c =
-      let new : Line = record { doing = Drives bio (ToMaster (clear_slip (scene.ledger (2 * bio.bio.dev.0 + 1)))); lists = lists } in
-      let t = on_line scene s place x (Drives bio ToRecord) lists new c.0 c.1 c.2 in
+      let new : Submission = record { doing = Drives bio (ToMaster (clear_slip (scene.ledger (2 * bio.bio.dev.0 + 1)))); lists = lists } in
+      let t = on_submission scene s place x (Drives bio ToRecord) lists new c.0 c.1 c.2 in
       omega (arith, delta scene w s (moves.TakesSlip place x bio lists move) c, (t.0 price).0, (t.0 price).1, fewer (2 * bio.bio.dev.0 + 1) move)
   -- misses
   lowers (moves.MissesOne place x number used) c =
@@ -138,8 +138,8 @@ module _ (price : Paid → ℕ) (was_master : ℕ → Bool) (scene : Scene) (s :
         costs_one (cost price ScriptEntry) _ _ (pools_used s.objects.pool number used (numbered number c.5) c.2.1 c.4),
       )
   lowers (moves.MissesTry place x doing lists dev used) c =
-      let new : Line = record { doing = with_want doing WantsPunt; lists = lists } in
-      let t = on_line scene s place x doing lists new c.0 c.1 c.2 in
+      let new : Submission = record { doing = with_want doing WantsPunt; lists = lists } in
+      let t = on_submission scene s place x doing lists new c.0 c.1 c.2 in
       omega (
         arith,
         delta scene w s (moves.MissesTry place x doing lists dev used) c,
@@ -151,8 +151,8 @@ module _ (price : Paid → ℕ) (was_master : ℕ → Bool) (scene : Scene) (s :
       )
   -- punts
   lowers (moves.Punts place x doing lists dev) c =
-      let new : Line = record { doing = with_want doing (Takes true); lists = not_punted dev lists } in
-      let t = on_line scene s place x doing lists new c.0 c.1 c.2 in
+      let new : Submission = record { doing = with_want doing (Takes true); lists = not_punted dev lists } in
+      let t = on_submission scene s place x doing lists new c.0 c.1 c.2 in
       let d = has place x doing lists c.1 c.2 in
       let at = waiting_placed scene.setup g (limit_of x) doing dev WantsPunt lists c.3 d in
       let low = wants_below scene.setup (limit_of x) doing dev WantsPunt lists c.3 d in
@@ -186,7 +186,7 @@ module _ (price : Paid → ℕ) (was_master : ℕ → Bool) (scene : Scene) (s :
   -- pushes
   lowers (moves.Pushes place x bio lists) c =
       let d = has place x (Drives bio ToPush) lists c.1 c.2 in
-      let t = on_line scene s place x (Drives bio ToPush) lists (goes_on scene.setup bio.bio.dev lists) c.0 c.1 c.2 in
+      let t = on_submission scene s place x (Drives bio ToPush) lists (goes_on scene.setup bio.bio.dev lists) c.0 c.1 c.2 in
       let b = goes_there scene.setup w lands (limit_of x) bio.bio.dev lists (none_there scene.setup (limit_of x) lists d.0) (all_there scene.setup (limit_of x) lists.list1 d.1.1) in
       let is = d.1.0.0 in
       omega (
@@ -231,7 +231,7 @@ module _ (price : Paid → ℕ) (was_master : ℕ → Bool) (scene : Scene) (s :
   -- links of pieces
   lowers (moves.Chained place x bio lists hand number kind sizes members key node) c =
       let n = first_length kind sizes bio.bio.range in
-      let new : Line = goes_on scene.setup bio.bio.dev (cut_lists bio lists hand n key kind sizes members) in
+      let new : Submission = goes_on scene.setup bio.bio.dev (cut_lists bio lists hand n key kind sizes members) in
       let child = piece bio hand n key kind sizes members in
       let d = has place x (Drives bio (ToCut (Links hand))) lists c.1 c.2 in
       let cuts = cut_there scene.setup (limit_of x) g bio hand lists key number kind sizes members d c.3 in
@@ -239,7 +239,7 @@ module _ (price : Paid → ℕ) (was_master : ℕ → Bool) (scene : Scene) (s :
       let few = g.few in
       let suits : AskFits (Split number kind sizes members) bio.bio.range bio.bio.dev.0 (ToCut (Links hand)) =
       subst (λ t. AskFits t bio.bio.range bio.bio.dev.0 (ToCut (Links hand))) c.3 d.3 in
-      let t = on_line scene s place x (Drives bio (ToCut (Links hand))) lists new c.0 c.1 c.2 in
+      let t = on_submission scene s place x (Drives bio (ToCut (Links hand))) lists new c.0 c.1 c.2 in
       omega (
         arith,
         delta scene w s (moves.Chained place x bio lists hand number kind sizes members key node) c,
@@ -254,7 +254,7 @@ module _ (price : Paid → ℕ) (was_master : ℕ → Bool) (scene : Scene) (s :
   -- links of masters
   lowers (moves.Mastered place x bio lists slip key node) c =
       let d = has place x (Drives bio (ToMaster slip)) lists c.1 c.2 in
-      let t = on_line scene s place x (Drives bio (ToMaster slip)) lists (copies scene.setup lists bio.bio key 0) c.0 c.1 c.2 in
+      let t = on_submission scene s place x (Drives bio (ToMaster slip)) lists (copies scene.setup lists bio.bio key 0) c.0 c.1 c.2 in
       let known = d.1.0.0.device in
       let few = g.few in
       let is = d.1.0.0 in
@@ -277,11 +277,11 @@ module _ (price : Paid → ℕ) (was_master : ℕ → Bool) (scene : Scene) (s :
       let d = has place x (Copies bio master leg (Links hand)) lists c.1 c.2 in
       let known = d.0.device in
       let few = g.few in
-      let lt = line_fits scene x (Copies bio master leg (Links hand)) lists (subst (TaskFits scene) c.1 (i.tasks place)) c.2 in
+      let lt = submission_fits scene x (Copies bio master leg (Links hand)) lists (subst (TaskFits scene) c.1 (i.tasks place)) c.2 in
       let item = leg_at bio hand leg key (tree_at scene.setup bio.dev) in
       let more = submitted item lists in
       let first = leg_there scene.setup (limit_of x) g bio hand lists master leg key d lt in
-      let t = on_line scene s place x (Copies bio master leg (Links hand)) lists (copies scene.setup more bio master (leg + 1)) c.0 c.1 c.2 in
+      let t = on_submission scene s place x (Copies bio master leg (Links hand)) lists (copies scene.setup more bio master (leg + 1)) c.0 c.1 c.2 in
       omega (
         arith,
         delta scene w s (moves.Legged place x bio lists master leg hand key node) c,

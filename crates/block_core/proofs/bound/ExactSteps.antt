@@ -26,7 +26,7 @@ use Rattle.bio_books.specs.Drops.{Closed}
 use Rattle.model_disks.specs.Disks.{DiskState}
 use Rattle.run_machine.specs.declared.event.Event.{Event}
 use Rattle.run_machine.specs.Scene.{Scene}
-use Rattle.run_machine.specs.Lines.{Line}
+use Rattle.run_machine.specs.Submissions.{Submission}
 use Rattle.run_machine.specs.Tasks.{TaskState, Writer, Rescuer, Completer, Keeper, Todo, Gathered, NoBio, HasBio, HasBoth, Duty, Resizes, Starts, Empty, Brings, Carries, Fails}
 use Rattle.run_machine.specs.Opened.{Scenario, scene, start, todos, duties, keepers, setup as setup_in, writers}
 use Rattle.run_machine.specs.Runs.{State, IsRun}
@@ -100,8 +100,8 @@ module _ (scene : Scene) (f : Fair scene) (g : Ground scene.setup) (p : Needs sc
 
 -- at the start
 begins_none : (scene : Scene) (x : TaskState) → Begins scene x → TaskNoPunt x
-begins_none scene (Writer number todo taken line) h = subst (λ (l : Line). NoPunt l.doing) (sym h.2) tt
-begins_none scene (Rescuer dev line) h = subst (λ (l : Line). NoPunt l.doing) (sym h.1) tt
+begins_none scene (Writer number todo taken submission) h = subst (λ (l : Submission). NoPunt l.doing) (sym h.2) tt
+begins_none scene (Rescuer dev submission) h = subst (λ (l : Submission). NoPunt l.doing) (sym h.1) tt
 begins_none scene (Completer disk carried) h = tt
 begins_none scene (Keeper keeping) h = tt
 
@@ -243,10 +243,10 @@ module _ (scene : Scene) (s : State) (i : Kept scene s) (held : total scene odd 
   taken_due (HasBoth bio vector) = refl
 
   task_none : (place : ℕ) (x : TaskState) → place < scene.tasks → s.task place ≡ x → HasNone x → (task_weight (due scene.setup) place x ≡ 0) × (task_weight in_hand place x ≡ 0)
-  task_none place (Writer number todo taken line) lt is none =
-      let hands = no_taken taken (λ p. omega (arith, home p place (Writer number todo taken line) lt is)) in
+  task_none place (Writer number todo taken submission) lt is none =
+      let hands = no_taken taken (λ p. omega (arith, home p place (Writer number todo taken submission) lt is)) in
       (rw (none.0, none.1) (omega (arith, taken_due taken)), rw (none.1) (omega (arith, hands)))
-  task_none place (Rescuer dev line) lt is none = (rw none refl, rw none refl)
+  task_none place (Rescuer dev submission) lt is none = (rw none refl, rw none refl)
   task_none place (Completer disk Empty) lt is none = (refl, refl)
   task_none place (Completer disk (Brings bio status)) lt is none = absurd (omega (arith, home bio.share.no place (Completer disk (Brings bio status)) lt is, one-same bio.share.no))
   task_none place (Completer disk (Carries writer closed)) lt is none = absurd (no_closed place disk writer closed lt is closed.parent refl)

@@ -10,7 +10,7 @@ use Rattle.bio_records.specs.declared.tasks.TaskLists.{TaskLists}
 use Rattle.run_machine.specs.declared.event.Event.{Event}
 use Rattle.run_machine.specs.Maps.{upd}
 use Rattle.run_machine.specs.Scene.{Scene, is_disk}
-use Rattle.run_machine.specs.Lines.{Doing, Line, rests}
+use Rattle.run_machine.specs.Submissions.{Doing, Submission, rests}
 use Rattle.run_machine.specs.Tasks.{TaskState, Writer, Rescuer, Completer, Keeper, Keeps, Stops, Duty, Resizes, Starts, NoBio, Empty}
 use Rattle.run_machine.specs.Opened.{Scenario, Change, scene, start, tasks as opened_tasks, todos_of, writers, duties, duties_of, keepers, no_task, round_count, writes_from, setup as setup_in, at as device_at}
 use Rattle.run_machine.specs.Runs.{State, IsRun, unfinished}
@@ -18,13 +18,13 @@ use Rattle.block_core.specs.Charges.{task_duties, duties_left}
 use Rattle.block_core.specs.Scenarios.{IsScenario, IsNaming}
 use Rattle.block_core.proofs.moves.Sums.{below_or}
 use Rattle.block_core.proofs.moves.Devices.{ground}
-use Rattle.block_core.proofs.moves.Moves.{Move, Can, after, HasLine, with_line}
+use Rattle.block_core.proofs.moves.Moves.{Move, Can, after, HasSubmission, with_submission}
 use Rattle.block_core.proofs.moves.Moves as moves
 use Rattle.block_core.proofs.sound.Facts.{Fair}
 use Rattle.block_core.proofs.sound.Lasting.{runs_keep}
 use Rattle.block_core.proofs.sound.Orders.{Each}
 use Rattle.block_core.proofs.sound.Rounds.{from_round, TaskRounds}
-use Rattle.block_core.proofs.sound.TaskLines.{all-upd}
+use Rattle.block_core.proofs.sound.TaskSubmissions.{all-upd}
 use Rattle.block_core.proofs.sound.Wholes.{runs_tallied, start_whole}
 use Rattle.block_core.proofs.start.FactsAtStart.{sum_at-zero}
 use Rattle.block_core.proofs.start.TallyAtStart.{keeper_place, start_tallied}
@@ -35,17 +35,17 @@ HasLater (Resizes pool min later) = 1 ≤ later
 HasLater (Starts round later) = 1 ≤ later
 
 abbrev pub KeepsLater : TaskState → Type 0
-KeepsLater (Writer number todo taken line) = Unit {0}
-KeepsLater (Rescuer dev line) = Unit {0}
+KeepsLater (Writer number todo taken submission) = Unit {0}
+KeepsLater (Rescuer dev submission) = Unit {0}
 KeepsLater (Completer disk carried) = Unit {0}
 KeepsLater (Keeper (Keeps duties)) = Each HasLater duties
 KeepsLater (Keeper (Stops breach)) = Unit {0}
 
-lined : (x : TaskState) (doing : Doing) (lists : TaskLists) (line : Line) → HasLine x doing lists → KeepsLater (with_line x line)
-lined (Writer number todo taken old) doing lists line h = tt
-lined (Rescuer dev old) doing lists line h = tt
-lined (Completer disk carried) doing lists line h = absurd h
-lined (Keeper keeping) doing lists line h = absurd h
+lined : (x : TaskState) (doing : Doing) (lists : TaskLists) (submission : Submission) → HasSubmission x doing lists → KeepsLater (with_submission x submission)
+lined (Writer number todo taken old) doing lists submission h = tt
+lined (Rescuer dev old) doing lists submission h = tt
+lined (Completer disk carried) doing lists submission h = absurd h
+lined (Keeper keeping) doing lists submission h = absurd h
 
 module _ (scene : Scene) (s : State) (all : (place : ℕ) → KeepsLater (s.task place)) where
   goes : (place : ℕ) (y : TaskState) → KeepsLater y → (other : ℕ) → KeepsLater (upd s.task place y other)
@@ -159,8 +159,8 @@ module _ (s : Scenario) (good : IsScenario s) (ledger : ℕ → LedgerId) where
     where
       by_task : (keeper place : ℕ) (x : TaskState) → from_round s.rounds (state.objects.tally.round + 1) ≡ 0
           → TaskRounds s.rounds keeper state.objects.tally.round place x → KeepsLater x → task_duties x ≡ 0
-      by_task keeper place (Writer number todo taken line) behind t h = refl
-      by_task keeper place (Rescuer dev line) behind t h = refl
+      by_task keeper place (Writer number todo taken submission) behind t h = refl
+      by_task keeper place (Rescuer dev submission) behind t h = refl
       by_task keeper place (Completer disk carried) behind t h = refl
       by_task keeper place (Keeper (Keeps [])) behind t h = refl
       by_task keeper place (Keeper (Keeps (Resizes pool min later ∷ duties))) behind t h = let is = t.1.0 in let some = h.0 in absurd (omega (arith, is, some, behind))

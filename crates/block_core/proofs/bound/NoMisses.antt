@@ -21,16 +21,16 @@ use Rattle.run_machine.specs.Objects.{Objects, Serves, Has}
 use Rattle.run_machine.specs.Requests as requests
 use Rattle.run_machine.specs.Requests.{Request, Reply}
 use Rattle.run_machine.specs.Scene.{Setup, Scene, tree_at}
-use Rattle.run_machine.specs.Lines.{Want, Takes, Punts as WantsPunt, Links, ToPush, ToCut, ToRecord, ToMaster, Doing, Rests, Drives, Copies, Breaks, Line, settled, goes_on, copies, asks_at, first_length, landed, legs_of, leg_at, line_request}
+use Rattle.run_machine.specs.Submissions.{Want, Takes, Punts as WantsPunt, Links, ToPush, ToCut, ToRecord, ToMaster, Doing, Rests, Drives, Copies, Breaks, Submission, settled, goes_on, copies, asks_at, first_length, landed, legs_of, leg_at, submission_request}
 use Rattle.run_machine.specs.Tasks.{TaskState, Writer, Rescuer, Completer, Keeper, request}
 use Rattle.run_machine.specs.Runs.{State, Steps}
 use Rattle.block_core.specs.Exact.{is_miss}
-use Rattle.block_core.proofs.moves.Moves.{Move, IsTaking, place_of, Can, after, with_line, HasLine, Wants, with_want, filled_of, cut_lists}
+use Rattle.block_core.proofs.moves.Moves.{Move, IsTaking, place_of, Can, after, with_submission, HasSubmission, Wants, with_want, filled_of, cut_lists}
 use Rattle.block_core.proofs.moves.Moves as moves
 use Rattle.block_core.proofs.bound.Dues.{IsHad}
-use Rattle.block_core.proofs.sound.TaskLines.{all-upd, wants_busy}
+use Rattle.block_core.proofs.sound.TaskSubmissions.{all-upd, wants_busy}
 use Rattle.block_core.proofs.sound.SumParts.{out_more, out_same}
-use Rattle.block_core.proofs.moves.LineSteps.{asks_line}
+use Rattle.block_core.proofs.moves.SubmissionSteps.{asks_submission}
 use Rattle.block_core.proofs.moves.Sums.{one-same}
 
 -- no task wants to punt
@@ -48,8 +48,8 @@ NoPunt (Copies bio master leg (Links hand)) = Unit {0}
 NoPunt (Breaks breach kept) = Unit {0}
 
 abbrev pub TaskNoPunt : TaskState → Type 0
-TaskNoPunt (Writer number todo taken line) = NoPunt line.doing
-TaskNoPunt (Rescuer dev line) = NoPunt line.doing
+TaskNoPunt (Writer number todo taken submission) = NoPunt submission.doing
+TaskNoPunt (Rescuer dev submission) = NoPunt submission.doing
 TaskNoPunt (Completer disk carried) = Unit {0}
 TaskNoPunt (Keeper keeping) = Unit {0}
 
@@ -57,17 +57,17 @@ pub record NonePunts (s : State) : Type 0 where
   pub tasks : (place : ℕ) → TaskNoPunt (s.task place)
   pub rescued : (dev : ℕ) → s.objects.rescue dev ≡ []
 
-relined : (x : TaskState) (new : Line) → NoPunt new.doing → TaskNoPunt (with_line x new)
-relined (Writer number todo taken line) new n = n
-relined (Rescuer dev line) new n = n
+relined : (x : TaskState) (new : Submission) → NoPunt new.doing → TaskNoPunt (with_submission x new)
+relined (Writer number todo taken submission) new n = n
+relined (Rescuer dev submission) new n = n
 relined (Completer disk carried) new n = tt
 relined (Keeper keeping) new n = tt
 
-line_none : (x : TaskState) (doing : Doing) (lists : TaskLists) → TaskNoPunt x → HasLine x doing lists → NoPunt doing
-line_none (Writer number todo taken line) doing lists t h = subst (λ (l : Line). NoPunt l.doing) h t
-line_none (Rescuer dev line) doing lists t h = subst (λ (l : Line). NoPunt l.doing) h t
-line_none (Completer disk carried) doing lists t h = absurd h
-line_none (Keeper keeping) doing lists t h = absurd h
+submission_none : (x : TaskState) (doing : Doing) (lists : TaskLists) → TaskNoPunt x → HasSubmission x doing lists → NoPunt doing
+submission_none (Writer number todo taken submission) doing lists t h = subst (λ (l : Submission). NoPunt l.doing) h t
+submission_none (Rescuer dev submission) doing lists t h = subst (λ (l : Submission). NoPunt l.doing) h t
+submission_none (Completer disk carried) doing lists t h = absurd h
+submission_none (Keeper keeping) doing lists t h = absurd h
 
 asks_none : (setup : Setup) (lists : TaskLists) (item : Item Pad) (t : Tree) → NoPunt (asks_at setup lists item t)
 asks_none setup lists item (Leaf number sectors) = tt
@@ -83,8 +83,8 @@ settled_none setup (item ∷ waiting) =
 copies_none : (setup : Setup) (lists : TaskLists) (bio : Bio) (master leg : ℕ) → NoPunt (copies setup lists bio master leg).doing
 copies_none setup lists bio master leg = by_test (leg == legs_of (tree_at setup bio.dev))
   where
-    by_test : (v : Bool) → let line : Line = if v then goes_on setup bio.dev lists else record { doing = Copies bio master leg (Takes (waits_first (setup.rescuer bio.dev.0) lists)); lists = lists } in
-        NoPunt line.doing
+    by_test : (v : Bool) → let submission : Submission = if v then goes_on setup bio.dev lists else record { doing = Copies bio master leg (Takes (waits_first (setup.rescuer bio.dev.0) lists)); lists = lists } in
+        NoPunt submission.doing
     by_test true = settled_none setup (order bio.dev lists)
     by_test false = tt
 
@@ -114,7 +114,7 @@ module _ (scene : Scene) (s : State) (i : NonePunts s) where
   at place x is = subst TaskNoPunt is (i.tasks place)
 
   pub still_none : (m : Move) → Can scene s m → IsHad m → NonePunts (after scene s m)
-  -- takes: the writer's line rests on, or the line links next
+  -- takes: the writer's submission rests on, or the submission links next
   still_none (moves.TakesFirst place writer todo later move) c h = record { tasks = goes place _ (at place _ c.1); rescued = i.rescued }
   still_none (moves.TakesVector place writer todo later item move) c h = record { tasks = goes place _ (at place _ c.1); rescued = i.rescued }
   still_none (moves.TakesSub place x doing lists dev waits move) c h = record { tasks = goes place _ (relined x _ (links_none doing dev (Takes waits) _ c.3)); rescued = i.rescued }
@@ -124,11 +124,11 @@ module _ (scene : Scene) (s : State) (i : NonePunts s) where
   still_none (moves.MissesTry place x doing lists dev used) c h = absurd h
   still_none (moves.Punts place x doing lists dev) c h = absurd h
   still_none (moves.Pops place dev bio bios) c h = absurd h
-  -- pushes: the line rests, or its next bio is to be pushed or asks for an element
+  -- pushes: the submission rests, or its next bio is to be pushed or asks for an element
   still_none (moves.Pushes place x bio lists) c h = record { tasks = goes place _ (relined x _ (settled_none scene.setup (order bio.bio.dev lists))); rescued = i.rescued }
   -- completions: the completer brings a bio
   still_none (moves.Completed place disk index bio status new) c h = record { tasks = goes place _ tt; rescued = i.rescued }
-  -- links: the line rests, or its next bio is to be pushed or asks for an element, as its next leg does
+  -- links: the submission rests, or its next bio is to be pushed or asks for an element, as its next leg does
   still_none (moves.Begins place writer todo later item vector key) c h = record { tasks = goes place _ (settled_none scene.setup (filled_of writer todo item vector key ∷ [])); rescued = i.rescued }
   still_none (moves.Chained place x bio lists hand number kind sizes members key node) c h =
       record {
@@ -178,9 +178,9 @@ taken_out ledger old new (requests.TakeSlip dev) (requests.Missed false) what t 
 taken_out ledger old new (requests.TakeSlip dev) reply what t told none serves = absurd serves
 taken_out ledger old new _ reply what t told none serves = absurd t
 
-wants_taking : (setup : Setup) (doing : Doing) (dev : DevId) (lists : TaskLists) → Wants doing dev (Takes false) → IsTaking (line_request setup doing lists)
-wants_taking setup (Drives bio (ToCut has)) dev lists h = subst (λ want. IsTaking (line_request setup (Drives bio (ToCut want)) lists)) (sym h.1) tt
-wants_taking setup (Copies bio master leg has) dev lists h = subst (λ want. IsTaking (line_request setup (Copies bio master leg want) lists)) (sym h.1) tt
+wants_taking : (setup : Setup) (doing : Doing) (dev : DevId) (lists : TaskLists) → Wants doing dev (Takes false) → IsTaking (submission_request setup doing lists)
+wants_taking setup (Drives bio (ToCut has)) dev lists h = subst (λ want. IsTaking (submission_request setup (Drives bio (ToCut want)) lists)) (sym h.1) tt
+wants_taking setup (Copies bio master leg has) dev lists h = subst (λ want. IsTaking (submission_request setup (Copies bio master leg want) lists)) (sym h.1) tt
 wants_taking setup (Drives bio ToPush) dev lists h = absurd h
 wants_taking setup (Drives bio ToRecord) dev lists h = absurd h
 wants_taking setup (Drives bio (ToMaster slip)) dev lists h = absurd h
@@ -201,7 +201,7 @@ module _ (scene : Scene) (s : State) (i : NonePunts s) (place : ℕ) (event : Ev
       ap (λ (t : State). (t.objects.pool one_more.0).facts.out) is ∙ out_same s.objects.pool number used one_more.0 in
       absurd (omega (arith, one_more.1, stays))
   had (moves.MissesTry at x doing lists dev used) c is same =
-      let asks = asks_line scene.setup x doing lists c.2 (wants_busy doing dev (Takes false) c.3) in
+      let asks = asks_submission scene.setup x doing lists c.2 (wants_busy doing dev (Takes false) c.3) in
       let taking : IsTaking (request scene.setup (s.task place)) =
       subst (λ p. IsTaking (request scene.setup (s.task p))) same (subst (λ t. IsTaking (request scene.setup t)) (sym c.1) (subst IsTaking (sym asks) (wants_taking scene.setup doing dev lists c.3))) in
       let one_more = more taking in
@@ -209,7 +209,7 @@ module _ (scene : Scene) (s : State) (i : NonePunts s) (place : ℕ) (event : Ev
       ap (λ (t : State). (t.objects.pool one_more.0).facts.out) is ∙ out_same s.objects.pool (2 * dev.0) used one_more.0 in
       absurd (omega (arith, one_more.1, stays))
   -- punts: no task is to punt
-  had (moves.Punts at x doing lists dev) c is same = no_punt doing dev c.3 (line_none x doing lists (subst TaskNoPunt c.1 (i.tasks at)) c.2)
+  had (moves.Punts at x doing lists dev) c is same = no_punt doing dev c.3 (submission_none x doing lists (subst TaskNoPunt c.1 (i.tasks at)) c.2)
   -- pops: no rescue list has a bio
   had (moves.Pops at dev bio bios) c is same = let e : bio ∷ bios ≡ [] = sym c.3 ∙ i.rescued dev.0 in absurd cc
   -- all others are of those that come

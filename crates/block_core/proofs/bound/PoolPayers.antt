@@ -5,7 +5,7 @@ use Rattle.stack_base.specs.Tree.{Tree, Leaf, Split, Mirrored}
 use Rattle.bio_records.specs.declared.bio.Bio.{Bio}
 use Rattle.bio_records.specs.declared.bio.Pad.{Pad}
 use Rattle.bio_records.specs.Items.{Item}
-use Rattle.run_machine.specs.Lines.{legs_of, leg_at}
+use Rattle.run_machine.specs.Submissions.{legs_of, leg_at}
 use Rattle.run_machine.proofs.Frames.{pools_are_numbered}
 use Rattle.block_core.specs.Payers.{WriteBio, WriteVector, Record, PieceBio, payer_of, payer_at}
 

@@ -8,7 +8,7 @@ use Rattle.bio_books.specs.declared.node.Role.{Role}
 use Rattle.bio_books.specs.declared.node.Role.TheVariants as role
 use Rattle.bio_books.specs.Books.{Node, SlipItem, told, later_part}
 use Rattle.run_machine.specs.Scene.{Scene, tree_at}
-use Rattle.run_machine.specs.Lines.{ToMaster, Drives, first_length, legs_of, leg_at, punted}
+use Rattle.run_machine.specs.Submissions.{ToMaster, Drives, first_length, legs_of, leg_at, punted}
 use Rattle.run_machine.specs.Tasks.{Carried, Empty, Brings, Carries, Fails}
 use Rattle.run_machine.specs.Runs.{State}
 use Rattle.block_core.specs.Charges.{there}
@@ -82,7 +82,7 @@ module _ (scene : Scene) (s : State) (i : Kept scene s) (none : total scene odd 
   -- links of masters
   none_odd (moves.Mastered place x bio lists slip key node) c =
       let legs = legs_of (tree_at scene.setup bio.bio.dev) in
-      let part = parts.line_part scene (named bio.bio.writer bio.bio.node) s place x (Drives bio (ToMaster slip)) lists c.0 c.1 c.2 in
+      let part = parts.submission_part scene (named bio.bio.writer bio.bio.node) s place x (Drives bio (ToMaster slip)) lists c.0 c.1 c.2 in
       let a = parts.named_away scene s bio node i c.4 (omega (arith, part)) in
       omega (
         arith,

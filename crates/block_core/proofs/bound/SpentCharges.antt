@@ -2,7 +2,7 @@
 use Rattle.std.proofs.Common.{◌≤◌, ℕ, zero, suc, Bool, true, false, refl, arith}
 use Rattle.bio_records.specs.declared.tasks.TaskLists.{TaskLists}
 use Rattle.run_machine.specs.Scene.{Scene, tree_at}
-use Rattle.run_machine.specs.Lines.{Want, Takes, Punts as WantsPunt, Links, ToPush, ToCut, ToRecord, ToMaster, Doing, Rests, Drives, Copies, Breaks}
+use Rattle.run_machine.specs.Submissions.{Want, Takes, Punts as WantsPunt, Links, ToPush, ToCut, ToRecord, ToMaster, Doing, Rests, Drives, Copies, Breaks}
 use Rattle.run_machine.specs.Tasks.{TaskState, Writer, Rescuer, Completer, Keeper}
 use Rattle.run_machine.specs.Runs.{State}
 use Rattle.block_core.specs.Weights.{Weight, sum_at, doing_weight, task_weight}
@@ -34,8 +34,8 @@ module _ (price : Paid → ℕ) (was_master : ℕ → Bool) (scene : Scene) (s :
       omega (arith, want_covers want, legs_next price (tree_at scene.setup bio.dev) bio.range leg f, leg_some price (tree_at scene.setup bio.dev) bio.range leg f)
 
   task_covers : (place : ℕ) (x : TaskState) → TaskPlaced scene.setup x → TaskFits scene x → task_spent price x ≤ task_weight w place x
-  task_covers place (Writer number todo taken line) t f = let b = doing_covers 32 line.doing line.lists t.1 f.1 in omega arith
-  task_covers place (Rescuer dev line) t f = let b = doing_covers dev.0 line.doing line.lists t f.1 in omega arith
+  task_covers place (Writer number todo taken submission) t f = let b = doing_covers 32 submission.doing submission.lists t.1 f.1 in omega arith
+  task_covers place (Rescuer dev submission) t f = let b = doing_covers dev.0 submission.doing submission.lists t f.1 in omega arith
   task_covers place (Completer disk carried) t f = omega arith
   task_covers place (Keeper keeping) t f = omega arith
 

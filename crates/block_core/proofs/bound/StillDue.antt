@@ -12,20 +12,20 @@ use Rattle.bio_lists.specs.Submission.{submitted}
 use Rattle.bio_books.specs.Books.{told}
 use Rattle.bio_books.specs.Drops.{closed_of}
 use Rattle.run_machine.specs.Scene.{Scene, tree_at}
-use Rattle.run_machine.specs.Lines.{Links, ToPush, ToCut, ToRecord, ToMaster, Doing, Drives, Copies, Line, rests, settled, goes_on, copies, first_length, legs_of, leg_at}
+use Rattle.run_machine.specs.Submissions.{Links, ToPush, ToCut, ToRecord, ToMaster, Doing, Drives, Copies, Submission, rests, settled, goes_on, copies, first_length, legs_of, leg_at}
 use Rattle.run_machine.specs.Tasks.{TaskState, Writer, Completer, Keeper, Keeps, Resizes, Starts, NoBio, HasBio, HasBoth, Empty, Brings, Carries}
 use Rattle.run_machine.specs.Objects.{clear_bio, clear_vector, clear_slip}
 use Rattle.run_machine.specs.Runs.{State}
 use Rattle.block_core.specs.Weights.{Weight, Lined, total}
 use Rattle.block_core.specs.Charges.{there, task_duties}
 use Rattle.block_core.specs.Fragments.{leg_fragments}
-use Rattle.block_core.proofs.moves.Moves.{Move, Can, after, limit_of, HasLine, with_want, filled_of, cut_lists}
+use Rattle.block_core.proofs.moves.Moves.{Move, Can, after, limit_of, HasSubmission, with_want, filled_of, cut_lists}
 use Rattle.block_core.proofs.moves.Moves as moves
 use Rattle.block_core.proofs.moves.Deltas.{delta}
 use Rattle.block_core.proofs.sound.Facts.{TaskFits, Fair, Kept}
 use Rattle.block_core.proofs.sound.Orders.{AskFits, DoingPlaced, TaskPlaced, Placed, Ground}
-use Rattle.block_core.proofs.sound.OrdersKept.{line_placed}
-use Rattle.block_core.proofs.sound.TaskLines.{line_fits}
+use Rattle.block_core.proofs.sound.OrdersKept.{submission_placed}
+use Rattle.block_core.proofs.sound.TaskSubmissions.{submission_fits}
 use Rattle.block_core.proofs.moves.Listed.{first_weight, goes_weight}
 use Rattle.block_core.proofs.moves.Landings.{settled_there, goes_there, all_there, none_there, cut_there, leg_there}
 use Rattle.block_core.proofs.sound.SumParts.{cut_weight, copies_weight, unless_none, is_away}
@@ -33,7 +33,7 @@ use Rattle.block_core.proofs.unrefused.NodeNeeds.{Needs, mirror_need, legs_on}
 use Rattle.block_core.proofs.images.FragmentCounts.{Divided, IsCounted, mirror_worth, legs_next}
 use Rattle.block_core.proofs.moves.Misfits.{misfits, cut_fits}
 use Rattle.block_core.proofs.images.StillToCome.{over}
-use Rattle.block_core.proofs.bound.TaskCharges.{on_tasks, on_line, hands_charge, all_duties}
+use Rattle.block_core.proofs.bound.TaskCharges.{on_tasks, on_submission, hands_charge, all_duties}
 use Rattle.block_core.proofs.images.MasterRecords.{zeros}
 use Rattle.block_core.proofs.sound.Owns.{closing_own}
 use Rattle.block_core.proofs.bound.RoleHoldings.{odd, odd_holding}
@@ -45,8 +45,8 @@ module _ (scene : Scene) (s : State) (f : Fair scene) (g : Ground scene.setup) (
   abbrev w : Weight
   w = due scene.setup
 
-  has : (place : ℕ) (x : TaskState) (doing : Doing) (lists : TaskLists) → s.task place ≡ x → HasLine x doing lists → DoingPlaced scene.setup (limit_of x) doing lists
-  has place x doing lists is h = line_placed scene.setup x doing lists (subst (TaskPlaced scene.setup) is (a.tasks place)) h
+  has : (place : ℕ) (x : TaskState) (doing : Doing) (lists : TaskLists) → s.task place ≡ x → HasSubmission x doing lists → DoingPlaced scene.setup (limit_of x) doing lists
+  has place x doing lists is h = submission_placed scene.setup x doing lists (subst (TaskPlaced scene.setup) is (a.tasks place)) h
 
   -- what an event does to the sums
   abbrev Lowers : Move → Type 0
@@ -69,12 +69,12 @@ module _ (scene : Scene) (s : State) (f : Fair scene) (g : Ground scene.setup) (
       omega (arith, needs, delta scene w s m c, delta scene in_hand s m c, on_tasks task_duties scene s place x y c.0 c.1)
   takes_one (moves.TakesSub place x doing lists dev waits move) c h =
       let m : Move = moves.TakesSub place x doing lists dev waits move in
-      let new : Line = record { doing = with_want doing (Links (clear_bio (scene.ledger (2 * dev.0)))); lists = lists } in
-      omega (arith, delta scene w s m c, delta scene in_hand s m c, (on_line scene s place x doing lists new c.0 c.1 c.2).1)
+      let new : Submission = record { doing = with_want doing (Links (clear_bio (scene.ledger (2 * dev.0)))); lists = lists } in
+      omega (arith, delta scene w s m c, delta scene in_hand s m c, (on_submission scene s place x doing lists new c.0 c.1 c.2).1)
   takes_one (moves.TakesSlip place x bio lists move) c h =
       let m : Move = moves.TakesSlip place x bio lists move in
-      let new : Line = record { doing = Drives bio (ToMaster (clear_slip (scene.ledger (2 * bio.bio.dev.0 + 1)))); lists = lists } in
-      omega (arith, delta scene w s m c, delta scene in_hand s m c, (on_line scene s place x (Drives bio ToRecord) lists new c.0 c.1 c.2).1)
+      let new : Submission = record { doing = Drives bio (ToMaster (clear_slip (scene.ledger (2 * bio.bio.dev.0 + 1)))); lists = lists } in
+      omega (arith, delta scene w s m c, delta scene in_hand s m c, (on_submission scene s place x (Drives bio ToRecord) lists new c.0 c.1 c.2).1)
   -- misses, punts and pops
   takes_one (moves.MissesOne place x number used) c h = absurd h
   takes_one (moves.MissesTry place x doing lists dev used) c h = absurd h
@@ -88,7 +88,7 @@ module _ (scene : Scene) (s : State) (f : Fair scene) (g : Ground scene.setup) (
         arith,
         delta scene w s m c,
         delta scene in_hand s m c,
-        (on_line scene s place x (Drives bio ToPush) lists (goes_on scene.setup bio.bio.dev lists) c.0 c.1 c.2).1,
+        (on_submission scene s place x (Drives bio ToPush) lists (goes_on scene.setup bio.bio.dev lists) c.0 c.1 c.2).1,
         goes_weight in_hand blind (limit_of x) scene.setup bio.bio.dev lists,
         zeros lists.list0,
         zeros lists.list1,
@@ -154,7 +154,7 @@ module _ (scene : Scene) (s : State) (f : Fair scene) (g : Ground scene.setup) (
         arith,
         delta scene w s m c,
         delta scene in_hand s m c,
-        (on_line scene s place x (Drives bio (ToCut (Links hand))) lists (goes_on scene.setup bio.bio.dev cut) c.0 c.1 c.2).1,
+        (on_submission scene s place x (Drives bio (ToCut (Links hand))) lists (goes_on scene.setup bio.bio.dev cut) c.0 c.1 c.2).1,
         goes_weight in_hand blind (limit_of x) scene.setup bio.bio.dev cut,
         zeros cut.list0,
         zeros cut.list1,
@@ -173,7 +173,7 @@ module _ (scene : Scene) (s : State) (f : Fair scene) (g : Ground scene.setup) (
         arith,
         delta scene w s m c,
         delta scene in_hand s m c,
-        (on_line scene s place x (Drives bio (ToMaster slip)) lists (copies scene.setup lists bio.bio key 0) c.0 c.1 c.2).1,
+        (on_submission scene s place x (Drives bio (ToMaster slip)) lists (copies scene.setup lists bio.bio key 0) c.0 c.1 c.2).1,
         copies_weight in_hand blind (limit_of x) scene.setup lists bio.bio key 0,
         unless_none (0 == legs),
         zeros lists.list0,
@@ -186,7 +186,7 @@ module _ (scene : Scene) (s : State) (f : Fair scene) (g : Ground scene.setup) (
   takes_one (moves.Legged place x bio lists master leg hand key node) c h =
       let m : Move = moves.Legged place x bio lists master leg hand key node in
       let d = has place x (Copies bio master leg (Links hand)) lists c.1 c.2 in
-      let lt = line_fits scene x (Copies bio master leg (Links hand)) lists (subst (TaskFits scene) c.1 (i.tasks place)) c.2 in
+      let lt = submission_fits scene x (Copies bio master leg (Links hand)) lists (subst (TaskFits scene) c.1 (i.tasks place)) c.2 in
       let item = leg_at bio hand leg key (tree_at scene.setup bio.dev) in
       let more = submitted item lists in
       let legs = legs_of (tree_at scene.setup bio.dev) in
@@ -194,7 +194,7 @@ module _ (scene : Scene) (s : State) (f : Fair scene) (g : Ground scene.setup) (
         arith,
         delta scene w s m c,
         delta scene in_hand s m c,
-        (on_line scene s place x (Copies bio master leg (Links hand)) lists (copies scene.setup more bio master (leg + 1)) c.0 c.1 c.2).1,
+        (on_submission scene s place x (Copies bio master leg (Links hand)) lists (copies scene.setup more bio master (leg + 1)) c.0 c.1 c.2).1,
         copies_weight in_hand blind (limit_of x) scene.setup more bio master (leg + 1),
         unless_none (leg + 1 == legs),
         zeros more.list0,

@@ -12,15 +12,15 @@ use Rattle.bio_records.specs.Items.{Item}
 use Rattle.bio_books.specs.Books.{Holding, keeping, later_part}
 use Rattle.run_machine.specs.Maps.{upd}
 use Rattle.run_machine.specs.Scene.{Setup, Scene, tree_at}
-use Rattle.run_machine.specs.Lines.{Want, Takes, ToPush, ToCut, ToRecord, ToMaster, Doing, Rests, Drives, Copies, Breaks, Line, copies, legs_of, is_of}
+use Rattle.run_machine.specs.Submissions.{Want, Takes, ToPush, ToCut, ToRecord, ToMaster, Doing, Rests, Drives, Copies, Breaks, Submission, copies, legs_of, is_of}
 use Rattle.run_machine.specs.Tasks.{TaskState, Writer, Rescuer, Completer, Keeper, Todo, NoBio, Carried, Empty, Brings, Carries, Fails}
 use Rattle.run_machine.specs.Runs.{State}
-use Rattle.block_core.specs.Weights.{Rescued, Lined, sum_at, line_weight, carried_weight}
+use Rattle.block_core.specs.Weights.{Rescued, Lined, sum_at, submission_weight, carried_weight}
 use Rattle.block_core.specs.Charges.{may_pop, bio_charge, legs_charge, there, write_charge, todo_charge, end_charge, give_charge, held_charge, close_charge, charge, want_spent, doing_spent, task_spent, task_duties, task_charge}
 use Rattle.block_core.specs.Paying.{end_carried}
 use Rattle.block_core.specs.Payers.{payer_at, Paid, MissesAtOnce, IsPunted, IsPopped}
 use Rattle.block_core.specs.Payers as paid
-use Rattle.block_core.proofs.moves.Moves.{with_line, HasLine, Wants, with_want, Tells, Hands}
+use Rattle.block_core.proofs.moves.Moves.{with_submission, HasSubmission, Wants, with_want, Tells, Hands}
 use Rattle.block_core.proofs.moves.Sums.{sum_at-upd}
 use Rattle.block_core.proofs.sound.Orders.{Each, IsPlaced, DoingPlaced, each_map, each_filter, of_set}
 use Rattle.block_core.proofs.bound.DeviceCharges.{Priced}
@@ -33,7 +33,7 @@ module _ (price : Paid → ℕ) where
   charge_lands was_master setup p limit item is = ap (λ v. end_charge price (payer_at item.share.no) + may_pop price limit item.share.no + v) (p.lands item.bio is)
 
   pub copies_charge : (was_master : ℕ → Bool) (setup : Setup) → Priced price setup → (limit : ℕ) (lists : TaskLists) (bio : Bio) (master leg : ℕ) → AreThere setup lists.list0 → AreThere setup lists.list1
-      → line_weight (charge price was_master setup) limit (copies setup lists bio master leg)
+      → submission_weight (charge price was_master setup) limit (copies setup lists bio master leg)
       ≤ legs_charge price setup bio leg + sum_by (bio_charge price setup (Lined limit)) lists.list0 + sum_by (bio_charge price setup (Lined limit)) lists.list1
   copies_charge was_master setup p limit lists bio master leg first second =
       omega (
@@ -121,22 +121,22 @@ on_tasks g scene s place x y lt is =
     let here : g (s.task place) ≡ g x = ap g is in
     omega (arith, here, sum_at-upd (λ place task. g task) scene.tasks s.task place y lt)
 
-line_spends : (price : Paid → ℕ) (x : TaskState) (doing : Doing) (lists : TaskLists) → HasLine x doing lists → task_spent price x ≡ doing_spent price doing
-line_spends price (Writer number todo taken line) doing lists h = ap (λ (l : Line). doing_spent price l.doing) h
-line_spends price (Rescuer dev line) doing lists h = ap (λ (l : Line). doing_spent price l.doing) h
-line_spends price (Completer disk carried) doing lists h = absurd h
-line_spends price (Keeper keeping) doing lists h = absurd h
+submission_spends : (price : Paid → ℕ) (x : TaskState) (doing : Doing) (lists : TaskLists) → HasSubmission x doing lists → task_spent price x ≡ doing_spent price doing
+submission_spends price (Writer number todo taken submission) doing lists h = ap (λ (l : Submission). doing_spent price l.doing) h
+submission_spends price (Rescuer dev submission) doing lists h = ap (λ (l : Submission). doing_spent price l.doing) h
+submission_spends price (Completer disk carried) doing lists h = absurd h
+submission_spends price (Keeper keeping) doing lists h = absurd h
 
 -- a task that submits keeps no rounds
 abbrev pub IsNoKeeper : TaskState → Type 0
 IsNoKeeper x = (task_duties x ≡ 0) × ((price : Paid → ℕ) → task_charge price x ≡ 0)
 
-pub line_goes : (x : TaskState) (doing : Doing) (lists : TaskLists) (new : Line) → HasLine x doing lists
-    → ((price : Paid → ℕ) → task_spent price (with_line x new) ≡ doing_spent price new.doing) × IsNoKeeper (with_line x new) × IsNoKeeper x
-line_goes (Writer number todo taken line) doing lists new h = (λ price. refl, (refl, λ price. refl), (refl, λ price. refl))
-line_goes (Rescuer dev line) doing lists new h = (λ price. refl, (refl, λ price. refl), (refl, λ price. refl))
-line_goes (Completer disk carried) doing lists new h = absurd h
-line_goes (Keeper keeping) doing lists new h = absurd h
+pub submission_goes : (x : TaskState) (doing : Doing) (lists : TaskLists) (new : Submission) → HasSubmission x doing lists
+    → ((price : Paid → ℕ) → task_spent price (with_submission x new) ≡ doing_spent price new.doing) × IsNoKeeper (with_submission x new) × IsNoKeeper x
+submission_goes (Writer number todo taken submission) doing lists new h = (λ price. refl, (refl, λ price. refl), (refl, λ price. refl))
+submission_goes (Rescuer dev submission) doing lists new h = (λ price. refl, (refl, λ price. refl), (refl, λ price. refl))
+submission_goes (Completer disk carried) doing lists new h = absurd h
+submission_goes (Keeper keeping) doing lists new h = absurd h
 
 abbrev pub all_duties : Scene → (ℕ → TaskState) → ℕ
 all_duties scene task = sum_at (λ place task. task_duties task) scene.tasks task
@@ -147,23 +147,23 @@ all_spent price scene task = sum_at (λ place task. task_spent price task) scene
 abbrev pub all_kept : (Paid → ℕ) → Scene → (ℕ → TaskState) → ℕ
 all_kept price scene task = sum_at (λ place task. task_charge price task) scene.tasks task
 
-pub on_line : (scene : Scene) (s : State) (place : ℕ) (x : TaskState) (doing : Doing) (lists : TaskLists) (new : Line) → place < scene.tasks → s.task place ≡ x → HasLine x doing lists
-    → ((price : Paid → ℕ) → (all_spent price scene (upd s.task place (with_line x new)) + doing_spent price doing ≡ all_spent price scene s.task + doing_spent price new.doing)
-    × (all_kept price scene (upd s.task place (with_line x new)) ≡ all_kept price scene s.task))
-    × (all_duties scene (upd s.task place (with_line x new)) ≡ all_duties scene s.task)
-on_line scene s place x doing lists new lt is h =
-    let b = line_goes x doing lists new h in (
+pub on_submission : (scene : Scene) (s : State) (place : ℕ) (x : TaskState) (doing : Doing) (lists : TaskLists) (new : Submission) → place < scene.tasks → s.task place ≡ x → HasSubmission x doing lists
+    → ((price : Paid → ℕ) → (all_spent price scene (upd s.task place (with_submission x new)) + doing_spent price doing ≡ all_spent price scene s.task + doing_spent price new.doing)
+    × (all_kept price scene (upd s.task place (with_submission x new)) ≡ all_kept price scene s.task))
+    × (all_duties scene (upd s.task place (with_submission x new)) ≡ all_duties scene s.task)
+on_submission scene s place x doing lists new lt is h =
+    let b = submission_goes x doing lists new h in (
       λ price.
-          let spends = line_spends price x doing lists h in
+          let spends = submission_spends price x doing lists h in
           let goes = b.0 price in
           let first = b.1.1 price in
           let second = b.2.1 price in (
-            omega (arith, spends, goes, on_tasks (task_spent price) scene s place x (with_line x new) lt is),
-            omega (arith, first, second, on_tasks (task_charge price) scene s place x (with_line x new) lt is),
+            omega (arith, spends, goes, on_tasks (task_spent price) scene s place x (with_submission x new) lt is),
+            omega (arith, first, second, on_tasks (task_charge price) scene s place x (with_submission x new) lt is),
           ),
       let first = b.1.0 in
           let second = b.2.0 in
-          omega (arith, first, second, on_tasks task_duties scene s place x (with_line x new) lt is),
+          omega (arith, first, second, on_tasks task_duties scene s place x (with_submission x new) lt is),
     )
 
 -- an end that a completer tells is paid for by what it carries; and where it is that of a bio, the bio is given back later

@@ -41,7 +41,7 @@ module _ (some : LedgerId) where
   left value s [] = total scene (to_come (setup true) value) s ∷ []
   left value s (turn ∷ turns) = total scene (to_come (setup true) value) s ∷ left value (behind scene.setup s turn) turns
 
-  -- both are to come all the time, in the writer's hand, in its line, and then the first in the line and the second in the legs that are left
+  -- both are to come all the time, in the writer's hand, in its submission, and then the first in the submission and the second in the legs that are left
   both_to_come : left (λ f. 1) start (begun some) ≡ 2 ∷ 2 ∷ 2 ∷ 2 ∷ 2 ∷ 2 ∷ 2 ∷ []
   unfolding sum_at upd each plan leaves
   both_to_come = refl

@@ -13,7 +13,7 @@ use Rattle.bio_records.specs.Items.{Item}
 use Rattle.bio_books.specs.Books.{SlipItem}
 use Rattle.run_machine.specs.declared.event.Breach.TheVariants as breach
 use Rattle.run_machine.specs.Scene.{Setup}
-use Rattle.run_machine.specs.Lines.{Copies, Takes}
+use Rattle.run_machine.specs.Submissions.{Copies, Takes}
 use Rattle.run_machine.specs.Tasks.{TaskState, Rescuer, Completer, Brings, Fails}
 use Rattle.bio_lists.specs.Submission.{no_lists}
 use Rattle.block_core.specs.EachBio.{TaskCopies}

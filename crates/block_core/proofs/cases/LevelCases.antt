@@ -9,7 +9,7 @@ use Rattle.bio_records.specs.Items.{Item}
 use Rattle.bio_books.specs.Books.{Node, SlipItem, node_at}
 use Rattle.bio_books.specs.Drops.{Closed}
 use Rattle.run_machine.specs.Scene.{Scene}
-use Rattle.run_machine.specs.Lines.{Want, Copies}
+use Rattle.run_machine.specs.Submissions.{Want, Copies}
 use Rattle.run_machine.specs.Tasks.{Rescuer, Completer, Carries}
 use Rattle.run_machine.specs.Runs.{State}
 use Rattle.block_core.specs.EachBio.{TaskCopies}

@@ -11,18 +11,18 @@ use Rattle.bio_books.specs.Books.{Node, node_at, parent_of}
 use Rattle.bio_books.specs.Drops.{Closed}
 use Rattle.model_disks.specs.Disks.{DiskState}
 use Rattle.run_machine.specs.Scene.{Scene, tree_at}
-use Rattle.run_machine.specs.Lines.{Want, Ask, Doing, Rests, Drives, Copies, Breaks, legs_of}
+use Rattle.run_machine.specs.Submissions.{Want, Ask, Doing, Rests, Drives, Copies, Breaks, legs_of}
 use Rattle.run_machine.specs.Tasks.{TaskState, Writer, Rescuer, Completer, Keeper, Carried, Empty, Brings, Carries, Fails}
 use Rattle.run_machine.specs.Runs.{State}
-use Rattle.block_core.specs.Weights.{Weight, Lined, Rescued, Pending, total, sum_at, one, line_weight, refs, names_node, under, legs_left}
+use Rattle.block_core.specs.Weights.{Weight, Lined, Rescued, Pending, total, sum_at, one, submission_weight, refs, names_node, under, legs_left}
 use Rattle.block_core.specs.Weights.{apart}
 use Rattle.block_core.specs.OfOneWrite.{bio_strays, parent_strays, strays}
-use Rattle.block_core.specs.Present.{AreSuch, DoingIs, LineIs, CarriedIs, TaskIs, AllAtWork}
-use Rattle.block_core.proofs.moves.Moves.{HasLine, limit_of}
+use Rattle.block_core.specs.Present.{AreSuch, DoingIs, SubmissionIs, CarriedIs, TaskIs, AllAtWork}
+use Rattle.block_core.proofs.moves.Moves.{HasSubmission, limit_of}
 use Rattle.block_core.proofs.moves.Sums.{one-same, within_book}
 use Rattle.block_core.proofs.sound.Facts.{DoingFits, TaskFits, Kept}
 use Rattle.block_core.proofs.start.FactsAtStart.{all_map}
-use Rattle.block_core.proofs.moves.Totals.{part_of, task_part, line_part}
+use Rattle.block_core.proofs.moves.Totals.{part_of, task_part, submission_part}
 use Rattle.block_core.proofs.stuck.Idle.{GoesDown, open_in_books, open_at, node_part}
 use Rattle.block_core.proofs.images.PlannedOnce.{term_in}
 use Rattle.block_core.proofs.sound.OfOneWrite.{node_write, driven_of_write, copied_of_write, child_of_write}
@@ -99,32 +99,32 @@ module _ (scene : Scene) (s : State) (i : Kept scene s) (level : ℕ → ℕ →
 
   -- at work,
   module _ (place : ℕ) (x : TaskState) (here : place < scene.tasks) (is : s.task place ≡ x) where
-    of_driven : (bio : Item Pad) (ask : Ask) (lists : TaskLists) → HasLine x (Drives bio ask) lists → P bio.bio.write
+    of_driven : (bio : Item Pad) (ask : Ask) (lists : TaskLists) → HasSubmission x (Drives bio ask) lists → P bio.bio.write
     of_driven bio ask lists h =
         let r = refs scene.setup bio.bio.writer bio.bio.node in
         let up = open_at scene s i bio.bio.writer bio.bio.node
-        (omega (arith, names_one bio, task_part scene r s place x here is, line_part r place x (Drives bio ask) lists h)) in
+        (omega (arith, names_one bio, task_part scene r s place x here is, submission_part r place x (Drives bio ask) lists h)) in
         subst P (driven_of_write scene s i write_of none place x bio ask lists up.0 here is h up.1) (of_node bio.bio.writer bio.bio.node up.0 up.1)
 
-    of_copied : (bio : Bio) (master leg : ℕ) (want : Want) (lists : TaskLists) → HasLine x (Copies bio master leg want) lists → leg < legs_of (tree_at scene.setup bio.dev) → P bio.write
+    of_copied : (bio : Bio) (master leg : ℕ) (want : Want) (lists : TaskLists) → HasSubmission x (Copies bio master leg want) lists → leg < legs_of (tree_at scene.setup bio.dev) → P bio.write
     of_copied bio master leg want lists h lt =
         let r = refs scene.setup bio.writer master in
         let left = legs_left scene.setup bio leg in
         let refers : one bio.writer bio.writer * one master master * left ≡ left =
         ap (λ k. k * one master master * left) (one-same bio.writer) ∙ (ap (λ k. 1 * k * left) (one-same master) ∙ omega arith) in
         let up = open_at scene s i bio.writer master
-        (omega (arith, refers, lt, task_part scene r s place x here is, line_part r place x (Copies bio master leg want) lists h)) in
+        (omega (arith, refers, lt, task_part scene r s place x here is, submission_part r place x (Copies bio master leg want) lists h)) in
         subst P (copied_of_write scene s i write_of none place x bio master leg want lists up.0 here is h up.1) (of_node bio.writer master up.0 up.1)
 
-    of_doing : (doing : Doing) (lists : TaskLists) → HasLine x doing lists → DoingFits scene.setup doing lists → DoingIs P doing
+    of_doing : (doing : Doing) (lists : TaskLists) → HasSubmission x doing lists → DoingFits scene.setup doing lists → DoingIs P doing
     of_doing Rests lists h fits = tt
     of_doing (Drives bio ask) lists h fits = of_driven bio ask lists h
     of_doing (Copies bio master leg want) lists h fits = of_copied bio master leg want lists h fits
     of_doing (Breaks breach kept) lists h fits = tt
 
     -- or in a list
-    of_list : (doing : Doing) (lists : TaskLists) (items : List (Item Pad)) → HasLine x doing lists
-        → ((w : Weight) → sum_by (w.bio (Lined (limit_of x))) items ≤ line_weight w (limit_of x) (record { doing = doing; lists = lists })) → AreSuch P items
+    of_list : (doing : Doing) (lists : TaskLists) (items : List (Item Pad)) → HasSubmission x doing lists
+        → ((w : Weight) → sum_by (w.bio (Lined (limit_of x))) items ≤ submission_weight w (limit_of x) (record { doing = doing; lists = lists })) → AreSuch P items
     of_list doing lists items h within =
         all_map (Contains items) (λ (item : Item Pad). P item.bio.write)
         (λ item inside.
@@ -132,12 +132,12 @@ module _ (scene : Scene) (s : State) (i : Kept scene s) (level : ℕ → ℕ →
         let w = strays write_of in
         let spot = Lined (limit_of x) in
         of_named item
-        (omega (arith, term_in (r.bio spot) items item inside, within r, line_part r place x doing lists h, task_part scene r s place x here is))
-        (omega (arith, term_in (w.bio spot) items item inside, within w, line_part w place x doing lists h, task_part scene w s place x here is)))
+        (omega (arith, term_in (r.bio spot) items item inside, within r, submission_part r place x doing lists h, task_part scene r s place x here is))
+        (omega (arith, term_in (w.bio spot) items item inside, within w, submission_part w place x doing lists h, task_part scene w s place x here is)))
         items (All-contains_itself items)
 
-    pub of_line : (doing : Doing) (lists : TaskLists) → HasLine x doing lists → DoingFits scene.setup doing lists → LineIs P (record { doing = doing; lists = lists })
-    of_line doing lists h fits = (
+    pub of_submission : (doing : Doing) (lists : TaskLists) → HasSubmission x doing lists → DoingFits scene.setup doing lists → SubmissionIs P (record { doing = doing; lists = lists })
+    of_submission doing lists h fits = (
       of_doing doing lists h fits,
       of_list doing lists lists.list0 h (λ w. omega arith),
       of_list doing lists lists.list1 h (λ w. omega arith),
@@ -173,8 +173,8 @@ module _ (scene : Scene) (s : State) (i : Kept scene s) (level : ℕ → ℕ →
     of_carried place disk (Fails breach kept) here is = tt
 
     of_task : (place : ℕ) (x : TaskState) → place < scene.tasks → s.task place ≡ x → TaskFits scene x → TaskIs P x
-    of_task place (Writer number todo taken line) here is fits = of_line place (Writer number todo taken line) here is line.doing line.lists refl fits.1
-    of_task place (Rescuer dev line) here is fits = of_line place (Rescuer dev line) here is line.doing line.lists refl fits.1
+    of_task place (Writer number todo taken submission) here is fits = of_submission place (Writer number todo taken submission) here is submission.doing submission.lists refl fits.1
+    of_task place (Rescuer dev submission) here is fits = of_submission place (Rescuer dev submission) here is submission.doing submission.lists refl fits.1
     of_task place (Completer disk carried) here is fits = of_carried place disk carried here is
     of_task place (Keeper keeping) here is fits = tt
 

@@ -14,13 +14,13 @@ use Rattle.run_machine.specs.declared.event.What.{What}
 use Rattle.run_machine.specs.Events.{what_of}
 use Rattle.run_machine.specs.Maps.{upd}
 use Rattle.run_machine.specs.Scene.{Setup, Scene}
-use Rattle.run_machine.specs.Lines.{Takes, Punts as WantsPunt, Links, ToPush, ToCut, ToRecord, ToMaster, Doing, Rests, Drives, Copies, Breaks, Line, line_request}
+use Rattle.run_machine.specs.Submissions.{Takes, Punts as WantsPunt, Links, ToPush, ToCut, ToRecord, ToMaster, Doing, Rests, Drives, Copies, Breaks, Submission, submission_request}
 use Rattle.run_machine.specs.Tasks.{TaskState, Writer, Rescuer, Completer, Keeper, Keeping, Keeps, Stops, Resizes, Starts, Todo, Gathered, NoBio, HasBio, HasBoth, Carried, Empty, Brings, Carries, Fails, request, answered, closed_request, with_bio, needs_vector, write_request, writer_request}
 use Rattle.run_machine.specs.Requests as requests
 use Rattle.run_machine.specs.Requests.{Request, Reply}
 use Rattle.run_machine.specs.Runs.{State, Steps}
 use Rattle.block_core.specs.Fragments.{fragment_of, completed_by}
-use Rattle.block_core.proofs.moves.Moves.{Move, place_of, Can, after, HasLine, Tells}
+use Rattle.block_core.proofs.moves.Moves.{Move, place_of, Can, after, HasSubmission, Tells}
 use Rattle.block_core.proofs.moves.Moves as moves
 use Rattle.block_core.proofs.moves.Sums.{upd-same}
 use Rattle.block_core.proofs.moves.StepsTold.{IsMove}
@@ -35,18 +35,18 @@ silent : (r : Request) → IsOther r → (index : ℕ) (bio : Item Pad) (status 
 silent (requests.Complete disk) h index bio status = absurd h
 silent _ h index bio status = refl
 
-line_other : (setup : Setup) (doing : Doing) (lists : TaskLists) → IsOther (line_request setup doing lists)
-line_other setup Rests lists = tt
-line_other setup (Breaks breach kept) lists = tt
-line_other setup (Drives bio ToPush) lists = tt
-line_other setup (Drives bio (ToCut (Takes waits))) lists = tt
-line_other setup (Drives bio (ToCut WantsPunt)) lists = tt
-line_other setup (Drives bio (ToCut (Links hand))) lists = tt
-line_other setup (Drives bio ToRecord) lists = tt
-line_other setup (Drives bio (ToMaster slip)) lists = tt
-line_other setup (Copies bio master leg (Takes waits)) lists = tt
-line_other setup (Copies bio master leg WantsPunt) lists = tt
-line_other setup (Copies bio master leg (Links hand)) lists = tt
+submission_other : (setup : Setup) (doing : Doing) (lists : TaskLists) → IsOther (submission_request setup doing lists)
+submission_other setup Rests lists = tt
+submission_other setup (Breaks breach kept) lists = tt
+submission_other setup (Drives bio ToPush) lists = tt
+submission_other setup (Drives bio (ToCut (Takes waits))) lists = tt
+submission_other setup (Drives bio (ToCut WantsPunt)) lists = tt
+submission_other setup (Drives bio (ToCut (Links hand))) lists = tt
+submission_other setup (Drives bio ToRecord) lists = tt
+submission_other setup (Drives bio (ToMaster slip)) lists = tt
+submission_other setup (Copies bio master leg (Takes waits)) lists = tt
+submission_other setup (Copies bio master leg WantsPunt) lists = tt
+submission_other setup (Copies bio master leg (Links hand)) lists = tt
 
 write_other : (writer : ℕ) (todos : List Todo) (taken : Gathered) → IsOther (write_request writer todos taken)
 write_other writer [] taken = tt
@@ -58,16 +58,16 @@ write_other writer (todo ∷ later) (HasBio bio) = by_need (needs_vector todo.wr
     by_need false = tt
 write_other writer (todo ∷ later) (HasBoth bio vector) = tt
 
-writer_other : (setup : Setup) (writer : ℕ) (todos : List Todo) (taken : Gathered) (doing : Doing) (line : Line) → IsOther (writer_request setup writer todos taken doing line)
-writer_other setup writer todos taken Rests line = write_other writer todos taken
-writer_other setup writer todos taken (Drives bio ask) line = line_other setup (Drives bio ask) line.lists
-writer_other setup writer todos taken (Copies bio master leg want) line = line_other setup (Copies bio master leg want) line.lists
-writer_other setup writer todos taken (Breaks breach kept) line = tt
+writer_other : (setup : Setup) (writer : ℕ) (todos : List Todo) (taken : Gathered) (doing : Doing) (submission : Submission) → IsOther (writer_request setup writer todos taken doing submission)
+writer_other setup writer todos taken Rests submission = write_other writer todos taken
+writer_other setup writer todos taken (Drives bio ask) submission = submission_other setup (Drives bio ask) submission.lists
+writer_other setup writer todos taken (Copies bio master leg want) submission = submission_other setup (Copies bio master leg want) submission.lists
+writer_other setup writer todos taken (Breaks breach kept) submission = tt
 
 rescuer_other : (setup : Setup) (dev : DevId) (doing : Doing) (lists : TaskLists) → IsOther (request setup (Rescuer dev (record { doing = doing; lists = lists })))
 rescuer_other setup dev Rests lists = tt
-rescuer_other setup dev (Drives bio ask) lists = line_other setup (Drives bio ask) lists
-rescuer_other setup dev (Copies bio master leg want) lists = line_other setup (Copies bio master leg want) lists
+rescuer_other setup dev (Drives bio ask) lists = submission_other setup (Drives bio ask) lists
+rescuer_other setup dev (Copies bio master leg want) lists = submission_other setup (Copies bio master leg want) lists
 rescuer_other setup dev (Breaks breach kept) lists = tt
 
 closed_other : (writer : ℕ) (closed : Closed) (vector : Option VectorItem) (bio : Option (Item Pad)) (slip : Option SlipItem) (parent : Option ℕ)
@@ -107,20 +107,20 @@ module _ (setup : Setup) where
   reply_brings (Completer disk (Carries writer closed)) reply what told =
       other_brings (Completer disk (Carries writer closed)) reply what (closed_other writer closed closed.held.vector closed.held.bio closed.held.slip closed.parent) (λ y. refl) told
   reply_brings (Completer disk (Fails breach kept)) reply what told = other_brings (Completer disk (Fails breach kept)) reply what tt (λ y. refl) told
-  reply_brings (Writer number todos taken line) reply what told =
-      other_brings (Writer number todos taken line) reply what (writer_other setup number todos taken line.doing line) (λ y. refl) told
-  reply_brings (Rescuer dev line) reply what told = other_brings (Rescuer dev line) reply what (rescuer_other setup dev line.doing line.lists) (λ y. refl) told
+  reply_brings (Writer number todos taken submission) reply what told =
+      other_brings (Writer number todos taken submission) reply what (writer_other setup number todos taken submission.doing submission) (λ y. refl) told
+  reply_brings (Rescuer dev submission) reply what told = other_brings (Rescuer dev submission) reply what (rescuer_other setup dev submission.doing submission.lists) (λ y. refl) told
   reply_brings (Keeper keeping) reply what told = other_brings (Keeper keeping) reply what (keeper_other setup keeping) (λ y. refl) told
 
-line_brings : (x : TaskState) (doing : Doing) (lists : TaskLists) (y : TaskState) → HasLine x doing lists → brought x y ≡ []
-line_brings (Writer number todos taken line) doing lists y h = refl
-line_brings (Rescuer dev line) doing lists y h = refl
-line_brings (Completer disk carried) doing lists y h = absurd h
-line_brings (Keeper keeping) doing lists y h = absurd h
+submission_brings : (x : TaskState) (doing : Doing) (lists : TaskLists) (y : TaskState) → HasSubmission x doing lists → brought x y ≡ []
+submission_brings (Writer number todos taken submission) doing lists y h = refl
+submission_brings (Rescuer dev submission) doing lists y h = refl
+submission_brings (Completer disk carried) doing lists y h = absurd h
+submission_brings (Keeper keeping) doing lists y h = absurd h
 
 same_brings : (x : TaskState) → brought x x ≡ []
-same_brings (Writer number todos taken line) = refl
-same_brings (Rescuer dev line) = refl
+same_brings (Writer number todos taken submission) = refl
+same_brings (Rescuer dev submission) = refl
 same_brings (Completer disk Empty) = refl
 same_brings (Completer disk (Brings bio status)) = refl
 same_brings (Completer disk (Carries writer closed)) = refl
@@ -142,18 +142,18 @@ module _ (scene : Scene) (s : State) where
   pub move_brings : (m : Move) → Can scene s m → brought (s.task (place_of m)) ((after scene s m).task (place_of m)) ≡ ended m
   move_brings (moves.TakesFirst place writer todo later move) c = here place _ _ c.1
   move_brings (moves.TakesVector place writer todo later item move) c = here place _ _ c.1
-  move_brings (moves.TakesSub place x doing lists dev waits move) c = here place x _ c.1 ∙ line_brings x doing lists _ c.2
-  move_brings (moves.TakesSlip place x bio lists move) c = here place x _ c.1 ∙ line_brings x (Drives bio ToRecord) lists _ c.2
+  move_brings (moves.TakesSub place x doing lists dev waits move) c = here place x _ c.1 ∙ submission_brings x doing lists _ c.2
+  move_brings (moves.TakesSlip place x bio lists move) c = here place x _ c.1 ∙ submission_brings x (Drives bio ToRecord) lists _ c.2
   move_brings (moves.MissesOne place x number used) c = here place x x c.1 ∙ same_brings x
-  move_brings (moves.MissesTry place x doing lists dev used) c = here place x _ c.1 ∙ line_brings x doing lists _ c.2
-  move_brings (moves.Punts place x doing lists dev) c = here place x _ c.1 ∙ line_brings x doing lists _ c.2
+  move_brings (moves.MissesTry place x doing lists dev used) c = here place x _ c.1 ∙ submission_brings x doing lists _ c.2
+  move_brings (moves.Punts place x doing lists dev) c = here place x _ c.1 ∙ submission_brings x doing lists _ c.2
   move_brings (moves.Pops place dev bio bios) c = here place _ _ c.1
-  move_brings (moves.Pushes place x bio lists) c = here place x _ c.1 ∙ line_brings x (Drives bio ToPush) lists _ c.2
+  move_brings (moves.Pushes place x bio lists) c = here place x _ c.1 ∙ submission_brings x (Drives bio ToPush) lists _ c.2
   move_brings (moves.Completed place disk index bio status new) c = here place _ _ c.1
   move_brings (moves.Begins place writer todo later item vector key) c = here place _ _ c.1
-  move_brings (moves.Chained place x bio lists hand number kind sizes members key node) c = here place x _ c.1 ∙ line_brings x (Drives bio (ToCut (Links hand))) lists _ c.2
-  move_brings (moves.Mastered place x bio lists slip key node) c = here place x _ c.1 ∙ line_brings x (Drives bio (ToMaster slip)) lists _ c.2
-  move_brings (moves.Legged place x bio lists master leg hand key node) c = here place x _ c.1 ∙ line_brings x (Copies bio master leg (Links hand)) lists _ c.2
+  move_brings (moves.Chained place x bio lists hand number kind sizes members key node) c = here place x _ c.1 ∙ submission_brings x (Drives bio (ToCut (Links hand))) lists _ c.2
+  move_brings (moves.Mastered place x bio lists slip key node) c = here place x _ c.1 ∙ submission_brings x (Drives bio (ToMaster slip)) lists _ c.2
+  move_brings (moves.Legged place x bio lists master leg hand key node) c = here place x _ c.1 ∙ submission_brings x (Copies bio master leg (Links hand)) lists _ c.2
   move_brings (moves.Told place disk carried writer key status part node) c = here place _ _ c.1 ∙ tells_brings disk carried writer key status part _ c.2
   move_brings (moves.Closes place disk carried writer key status part node) c = here place _ _ c.1 ∙ tells_brings disk carried writer key status part _ c.2
   move_brings (moves.Gives place disk writer number closed held) c = here place _ _ c.1

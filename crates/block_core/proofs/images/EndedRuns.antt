@@ -21,14 +21,14 @@ zero_at (x ∷ xs) (suc r) none = let next = sum_by-cons (λ (n : ℕ). n) x xs 
 
 begun : (scene : Scene) (s : State) (rounds : List ℕ) → ((r : ℕ) → total scene (unfinished_of (is_of_round rounds r)) s ≡ 0)
     → (place : ℕ) (x : TaskState) → place < scene.tasks → s.task place ≡ x → HasBegun x
-begun scene s rounds none place (Writer number [] taken line) lt is = refl
-begun scene s rounds none place (Writer number (todo ∷ later) taken line) lt is =
+begun scene s rounds none place (Writer number [] taken submission) lt is = refl
+begun scene s rounds none place (Writer number (todo ∷ later) taken submission) lt is =
     let r : ℕ = round_of rounds todo.number in
     let w = unfinished_of (is_of_round rounds r) in
     let a = part_of (task_weight w) scene.tasks s.task place lt in
-    let b : task_weight w place (s.task place) ≡ task_weight w place (Writer number (todo ∷ later) taken line) = ap (task_weight w place) is in
+    let b : task_weight w place (s.task place) ≡ task_weight w place (Writer number (todo ∷ later) taken submission) = ap (task_weight w place) is in
     absurd (omega (arith, a, b, none r, one-same r))
-begun scene s rounds none place (Rescuer dev line) lt is = tt
+begun scene s rounds none place (Rescuer dev submission) lt is = tt
 begun scene s rounds none place (Completer disk carried) lt is = tt
 begun scene s rounds none place (Keeper keeping) lt is = tt
 

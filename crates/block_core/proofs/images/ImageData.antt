@@ -24,7 +24,7 @@ use Rattle.model_disks.proofs.MoveLemmas.{bios_write_their_sectors, size_after}
 use Rattle.run_machine.specs.declared.event.Event.{Event}
 use Rattle.run_machine.specs.Maps.{upd}
 use Rattle.run_machine.specs.Scene.{Scene}
-use Rattle.run_machine.specs.Lines.{ToPush, Drives}
+use Rattle.run_machine.specs.Submissions.{ToPush, Drives}
 use Rattle.run_machine.specs.Tasks.{Todo, first_bio}
 use Rattle.layout_model.specs.Writes.{IsWrite}
 use Rattle.layout_model.proofs.RangeSums.{sum_of_two, sum_of_zero}
@@ -41,7 +41,7 @@ use Rattle.block_core.proofs.moves.Moves.{Move, Can, after, limit_of}
 use Rattle.block_core.proofs.moves.Moves as moves
 use Rattle.block_core.proofs.moves.Geometry.{IsThere}
 use Rattle.block_core.proofs.sound.Orders.{DoingPlaced, TaskPlaced, Placed, Ground}
-use Rattle.block_core.proofs.sound.OrdersKept.{line_placed, all_at}
+use Rattle.block_core.proofs.sound.OrdersKept.{submission_placed, all_at}
 use Rattle.block_core.proofs.sound.Facts.{Fair}
 use Rattle.block_core.proofs.moves.StepMoves.{step_is_move}
 use Rattle.block_core.proofs.sound.Wholes.{Whole, runs_whole, start_whole}
@@ -161,7 +161,7 @@ module _ (s : Scenario) (ledger : ℕ → LedgerId) (st : State) (a : Placed (se
 
   pub own_stays : (m : Move) → Can here st m → (number : ℕ) → IsOwn s number ((after here st m).objects.disk number)
   own_stays (moves.Pushes place x bio lists) c =
-      let d : DoingPlaced (setup_in s) (limit_of x) (Drives bio ToPush) lists = line_placed (setup_in s) x (Drives bio ToPush) lists (subst (TaskPlaced (setup_in s)) c.1 (a.tasks place)) c.2 in
+      let d : DoingPlaced (setup_in s) (limit_of x) (Drives bio ToPush) lists = submission_placed (setup_in s) x (Drives bio ToPush) lists (subst (TaskPlaced (setup_in s)) c.1 (a.tasks place)) c.2 in
       pushed_own bio d.1.0.0
   own_stays (moves.Completed place disk index bio ending new) c =
       all_at (IsOwn s) st.objects.disk disk.0 new own (own_after s disk.0 (st.objects.disk disk.0) index bio ending new (own disk.0) c.3)

@@ -9,9 +9,9 @@ use Rattle.bio_books.specs.declared.node.Role.{Role}
 use Rattle.bio_books.specs.declared.node.Role.TheVariants as role
 use Rattle.bio_books.specs.Books.{SlipItem}
 use Rattle.run_machine.specs.Scene.{Scene, tree_at}
-use Rattle.run_machine.specs.Lines.{Takes, Punts as WantsPunt, Links, ToPush, ToCut, ToRecord, ToMaster, Doing, Rests, Drives, Copies, Breaks, Line, settled, goes_on, copies, first_length, leg_at, punted}
+use Rattle.run_machine.specs.Submissions.{Takes, Punts as WantsPunt, Links, ToPush, ToCut, ToRecord, ToMaster, Doing, Rests, Drives, Copies, Breaks, Submission, settled, goes_on, copies, first_length, leg_at, punted}
 use Rattle.run_machine.specs.Runs.{State}
-use Rattle.block_core.specs.Weights.{Weight, total, doing_weight, line_weight, no_weight}
+use Rattle.block_core.specs.Weights.{Weight, total, doing_weight, submission_weight, no_weight}
 use Rattle.block_core.proofs.moves.Moves.{Move, Can, after, limit_of, filled_of, cut_lists}
 use Rattle.block_core.proofs.moves.Moves as moves
 use Rattle.block_core.proofs.moves.Deltas.{delta}
@@ -47,8 +47,8 @@ doing_zero limit (Copies bio master leg WantsPunt) = refl
 doing_zero limit (Copies bio master leg (Links hand)) = refl
 doing_zero limit (Breaks breach kept) = refl
 
-line_zero : (limit : ℕ) (line : Line) → line_weight bare limit line ≡ 0
-line_zero limit line = omega (arith, doing_zero limit line.doing, zeros line.lists.list0, zeros line.lists.list1)
+submission_zero : (limit : ℕ) (submission : Submission) → submission_weight bare limit submission ≡ 0
+submission_zero limit submission = omega (arith, doing_zero limit submission.doing, zeros submission.lists.list0, zeros submission.lists.list1)
 
 pub no_bare : (scene : Scene) (s : State) → total scene bare s ≡ 0 → (m : Move) → Can scene s m → total scene bare (after scene s m) ≡ 0
 no_bare scene s none (moves.TakesFirst place writer todo later move) c = omega (arith, none, delta scene bare s (moves.TakesFirst place writer todo later move) c)
@@ -58,26 +58,26 @@ no_bare scene s none (moves.TakesSlip place x bio lists move) c = omega (arith, 
 no_bare scene s none (moves.MissesOne place x number used) c = omega (arith, none, delta scene bare s (moves.MissesOne place x number used) c)
 no_bare scene s none (moves.MissesTry place x doing lists dev used) c = omega (arith, none, delta scene bare s (moves.MissesTry place x doing lists dev used) c)
 no_bare scene s none (moves.Punts place x doing lists dev) c = omega (arith, none, delta scene bare s (moves.Punts place x doing lists dev) c, zeros (punted dev lists))
-no_bare scene s none (moves.Pops place dev bio bios) c = omega (arith, none, delta scene bare s (moves.Pops place dev bio bios) c, line_zero dev.0 (settled scene.setup (bio ∷ [])))
-no_bare scene s none (moves.Pushes place x bio lists) c = omega (arith, none, delta scene bare s (moves.Pushes place x bio lists) c, line_zero (limit_of x) (goes_on scene.setup bio.bio.dev lists))
+no_bare scene s none (moves.Pops place dev bio bios) c = omega (arith, none, delta scene bare s (moves.Pops place dev bio bios) c, submission_zero dev.0 (settled scene.setup (bio ∷ [])))
+no_bare scene s none (moves.Pushes place x bio lists) c = omega (arith, none, delta scene bare s (moves.Pushes place x bio lists) c, submission_zero (limit_of x) (goes_on scene.setup bio.bio.dev lists))
 no_bare scene s none (moves.Completed place disk index bio status new) c = omega (arith, none, delta scene bare s (moves.Completed place disk index bio status new) c)
 no_bare scene s none (moves.Begins place writer todo later item vector key) c =
-    omega (arith, none, delta scene bare s (moves.Begins place writer todo later item vector key) c, line_zero 32 (settled scene.setup (filled_of writer todo item vector key ∷ [])))
+    omega (arith, none, delta scene bare s (moves.Begins place writer todo later item vector key) c, submission_zero 32 (settled scene.setup (filled_of writer todo item vector key ∷ [])))
 no_bare scene s none (moves.Chained place x bio lists hand number kind sizes members key node) c =
     omega (
       arith,
       none,
       delta scene bare s (moves.Chained place x bio lists hand number kind sizes members key node) c,
-      line_zero (limit_of x) (goes_on scene.setup bio.bio.dev (cut_lists bio lists hand (first_length kind sizes bio.bio.range) key kind sizes members)),
+      submission_zero (limit_of x) (goes_on scene.setup bio.bio.dev (cut_lists bio lists hand (first_length kind sizes bio.bio.range) key kind sizes members)),
     )
 no_bare scene s none (moves.Mastered place x bio lists slip key node) c =
-    omega (arith, none, delta scene bare s (moves.Mastered place x bio lists slip key node) c, line_zero (limit_of x) (copies scene.setup lists bio.bio key 0))
+    omega (arith, none, delta scene bare s (moves.Mastered place x bio lists slip key node) c, submission_zero (limit_of x) (copies scene.setup lists bio.bio key 0))
 no_bare scene s none (moves.Legged place x bio lists master leg hand key node) c =
     omega (
       arith,
       none,
       delta scene bare s (moves.Legged place x bio lists master leg hand key node) c,
-      line_zero (limit_of x) (copies scene.setup (submitted (leg_at bio hand leg key (tree_at scene.setup bio.dev)) lists) bio master (leg + 1)),
+      submission_zero (limit_of x) (copies scene.setup (submitted (leg_at bio hand leg key (tree_at scene.setup bio.dev)) lists) bio master (leg + 1)),
     )
 no_bare scene s none (moves.Told place disk carried writer key status part node) c = omega (arith, none, delta scene bare s (moves.Told place disk carried writer key status part node) c)
 no_bare scene s none (moves.Closes place disk carried writer key status part node) c = omega (arith, none, delta scene bare s (moves.Closes place disk carried writer key status part node) c)

@@ -9,16 +9,16 @@ use Rattle.bio_books.specs.declared.node.Role.TheVariants as role
 use Rattle.bio_books.specs.Books.{Node, SlipItem, node_at}
 use Rattle.model_disks.specs.Disks.{DiskState}
 use Rattle.run_machine.specs.Scene.{Scene, tree_at}
-use Rattle.run_machine.specs.Lines.{Takes, Punts as WantsPunt, Links, Doing, Rests, Drives, Copies, Breaks, Line, rests, legs_of}
+use Rattle.run_machine.specs.Submissions.{Takes, Punts as WantsPunt, Links, Doing, Rests, Drives, Copies, Breaks, Submission, rests, legs_of}
 use Rattle.run_machine.specs.Tasks.{TaskState, Writer, Rescuer, Completer, Keeper, Gathered, NoBio, HasBio, HasBoth, Empty, Brings, Carries, Fails}
 use Rattle.run_machine.specs.Runs.{State}
-use Rattle.block_core.specs.Weights.{Weight, Pending, Rescued, Lined, total, one, weigh_option, doing_weight, task_weight, line_weight, gathered_weight, book_weight, elements_of_pool, holding_elements, refs, legs_left, count_of}
+use Rattle.block_core.specs.Weights.{Weight, Pending, Rescued, Lined, total, one, weigh_option, doing_weight, task_weight, submission_weight, gathered_weight, book_weight, elements_of_pool, holding_elements, refs, legs_left, count_of}
 use Rattle.block_core.specs.Fragments.{HasNone, NothingComes, HasBegun, AllIsHome, NothingComesWhereAllIsHome}
 use Rattle.block_core.proofs.stuck.Idle.{sum_none}
 use Rattle.block_core.proofs.moves.Sums.{one-same, within_book, below_or}
 use Rattle.block_core.proofs.moves.Totals.{part_of}
 use Rattle.block_core.specs.Roles.{named}
-use Rattle.block_core.proofs.sound.Facts.{away, own_part, own_of, TaskFits, LineFits, DoingFits, Kept}
+use Rattle.block_core.proofs.sound.Facts.{away, own_part, own_of, TaskFits, SubmissionFits, DoingFits, Kept}
 use Rattle.block_core.proofs.images.PlannedOnce.{node_none}
 use Rattle.block_core.proofs.images.MasterRecords.{bare_slip, bare_node, bare, no_bare}
 use Rattle.layout_model.proofs.RangeSums.{sum_of_zero}
@@ -45,21 +45,21 @@ want_named w k limit (Copies bio master leg WantsPunt) none = refl
 want_named w k limit (Copies bio master leg (Links hand)) none = refl
 want_named w k limit (Drives bio ask) none = absurd (let h = none bio.share.no in let e = one-same bio.share.no in omega (arith, h, e))
 
-line_named : (w k limit : ℕ) (line : Line) → ((p : ℕ) → line_weight (elements_of_pool p) limit line ≡ 0) → line_weight (named w k) limit line ≡ 0
-line_named w k limit line none =
-    let l0 = no_items line.lists.list0 (λ p. omega (arith, none p)) in
-    let l1 = no_items line.lists.list1 (λ p. omega (arith, none p)) in
-    let d = want_named w k limit line.doing (λ p. omega (arith, none p)) in
+submission_named : (w k limit : ℕ) (submission : Submission) → ((p : ℕ) → submission_weight (elements_of_pool p) limit submission ≡ 0) → submission_weight (named w k) limit submission ≡ 0
+submission_named w k limit submission none =
+    let l0 = no_items submission.lists.list0 (λ p. omega (arith, none p)) in
+    let l1 = no_items submission.lists.list1 (λ p. omega (arith, none p)) in
+    let d = want_named w k limit submission.doing (λ p. omega (arith, none p)) in
     omega (arith, d, ap (sum_by ((named w k).bio (Lined limit))) l0, ap (sum_by ((named w k).bio (Lined limit))) l1)
 
 task_named : (w k place : ℕ) (x : TaskState) → ((p : ℕ) → task_weight (elements_of_pool p) place x ≡ 0) → task_weight (named w k) place x ≡ 0
-task_named w k place (Writer number todos taken line) none = omega (arith, taken_named taken, line_named w k 32 line (λ p. omega (arith, none p)))
+task_named w k place (Writer number todos taken submission) none = omega (arith, taken_named taken, submission_named w k 32 submission (λ p. omega (arith, none p)))
   where
     taken_named : (taken : Gathered) → gathered_weight (named w k) taken ≡ 0
     taken_named NoBio = refl
     taken_named (HasBio bio) = refl
     taken_named (HasBoth bio vector) = refl
-task_named w k place (Rescuer dev line) none = line_named w k dev.0 line none
+task_named w k place (Rescuer dev submission) none = submission_named w k dev.0 submission none
 task_named w k place (Completer disk Empty) none = refl
 task_named w k place (Completer disk (Brings bio status)) none = absurd (omega (arith, none bio.share.no, one-same bio.share.no))
 task_named w k place (Completer disk (Carries writer closed)) none = refl
@@ -139,35 +139,35 @@ module _ (scene : Scene) (s : State) (i : Kept scene s) (slips : total scene bar
       by_node None at = sym (i.counts writer k) ∙ ap count_of at
       by_node (Some node) at = absurd (none_open writer k node at)
 
-  -- and no line is at work
-  line_rests : (place limit : ℕ) (x : TaskState) (line : Line) → place < scene.tasks → s.task place ≡ x → LineFits scene.setup line
-      → ((w : Weight) → line_weight w limit line ≤ task_weight w place x) → line ≡ rests
-  line_rests place limit x line lt is fits part = by_doing line.doing refl fits
+  -- and no submission is at work
+  submission_rests : (place limit : ℕ) (x : TaskState) (submission : Submission) → place < scene.tasks → s.task place ≡ x → SubmissionFits scene.setup submission
+      → ((w : Weight) → submission_weight w limit submission ≤ task_weight w place x) → submission ≡ rests
+  submission_rests place limit x submission lt is fits part = by_doing submission.doing refl fits
     where
-      weighs : (w : Weight) → doing_weight w limit line.doing ≤ total scene w s
+      weighs : (w : Weight) → doing_weight w limit submission.doing ≤ total scene w s
       weighs w =
           let a = part_of (task_weight w) scene.tasks s.task place lt in
           let b : task_weight w place (s.task place) ≡ task_weight w place x = ap (task_weight w place) is in
           omega (arith, a, b, part w)
 
-      by_doing : (doing : Doing) → line.doing ≡ doing → DoingFits scene.setup line.doing line.lists → line ≡ rests
-      by_doing Rests q f = let lists = subst (λ d. DoingFits scene.setup d line.lists) q f in λ j. record { doing = q j; lists = lists j }
-      by_doing (Breaks breach kept) q f = absurd (subst (λ d. DoingFits scene.setup d line.lists) q f)
+      by_doing : (doing : Doing) → submission.doing ≡ doing → DoingFits scene.setup submission.doing submission.lists → submission ≡ rests
+      by_doing Rests q f = let lists = subst (λ d. DoingFits scene.setup d submission.lists) q f in λ j. record { doing = q j; lists = lists j }
+      by_doing (Breaks breach kept) q f = absurd (subst (λ d. DoingFits scene.setup d submission.lists) q f)
       by_doing (Drives bio ask) q f =
           let a = weighs (elements_of_pool bio.share.no) in
-          let b : doing_weight (elements_of_pool bio.share.no) limit line.doing ≡ doing_weight (elements_of_pool bio.share.no) limit (Drives bio ask) = ap (doing_weight (elements_of_pool bio.share.no) limit) q in
+          let b : doing_weight (elements_of_pool bio.share.no) limit submission.doing ≡ doing_weight (elements_of_pool bio.share.no) limit (Drives bio ask) = ap (doing_weight (elements_of_pool bio.share.no) limit) q in
           absurd (omega (arith, a, b, one-same bio.share.no, all_home bio.share.no))
       by_doing (Copies bio master leg want) q f =
-          let lt : leg < legs_of (tree_at scene.setup bio.dev) = subst (λ d. DoingFits scene.setup d line.lists) q f in
+          let lt : leg < legs_of (tree_at scene.setup bio.dev) = subst (λ d. DoingFits scene.setup d submission.lists) q f in
           let w = refs scene.setup bio.writer master in
           let a = weighs w in
-          let b : doing_weight w limit line.doing ≡ doing_weight w limit (Copies bio master leg want) = ap (doing_weight w limit) q in
+          let b : doing_weight w limit submission.doing ≡ doing_weight w limit (Copies bio master leg want) = ap (doing_weight w limit) q in
           let c : one bio.writer bio.writer * one master master * legs_left scene.setup bio leg ≡ legs_left scene.setup bio leg = rw (one-same bio.writer, one-same master) (omega arith) in
           absurd (omega (arith, a, b, c, lt, no_refs bio.writer master))
 
   has_none : (place : ℕ) (x : TaskState) → place < scene.tasks → s.task place ≡ x → TaskFits scene x → HasBegun x → HasNone x
-  has_none place (Writer number todos taken line) lt is fits begun = (begun, line_rests place 32 (Writer number todos taken line) line lt is fits.1 (λ w. omega arith))
-  has_none place (Rescuer dev line) lt is fits begun = line_rests place dev.0 (Rescuer dev line) line lt is fits.1 (λ w. omega arith)
+  has_none place (Writer number todos taken submission) lt is fits begun = (begun, submission_rests place 32 (Writer number todos taken submission) submission lt is fits.1 (λ w. omega arith))
+  has_none place (Rescuer dev submission) lt is fits begun = submission_rests place dev.0 (Rescuer dev submission) submission lt is fits.1 (λ w. omega arith)
   has_none place (Completer disk carried) lt is fits begun = tt
   has_none place (Keeper keeping) lt is fits begun = tt
 

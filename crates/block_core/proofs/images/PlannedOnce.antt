@@ -177,8 +177,8 @@ module _ (scene : Scene) (state : State) (value : Fragment → ℕ) where
   taken_none (HasBoth bio vector) = refl
 
   task_none : (place : ℕ) (x : TaskState) → HasNone x → task_weight w place x ≡ 0
-  task_none place (Writer number todos taken line) h = rw (h.0, h.1) (omega (arith, taken_none taken))
-  task_none place (Rescuer dev line) h = rw h refl
+  task_none place (Writer number todos taken submission) h = rw (h.0, h.1) (omega (arith, taken_none taken))
+  task_none place (Rescuer dev submission) h = rw h refl
   task_none place (Completer disk carried) h = carried_none scene.setup value place carried
   task_none place (Keeper keeping) h = refl
 

@@ -10,20 +10,20 @@ use Rattle.bio_records.specs.declared.tasks.TaskLists.{TaskLists}
 use Rattle.bio_records.specs.Items.{Item}
 use Rattle.bio_lists.specs.Submission.{submitted}
 use Rattle.run_machine.specs.Scene.{Setup, Scene, tree_at}
-use Rattle.run_machine.specs.Lines.{Links, ToPush, ToCut, ToMaster, Doing, Drives, Copies, rests, copies, first_length, legs_of, leg_at, punted}
+use Rattle.run_machine.specs.Submissions.{Links, ToPush, ToCut, ToMaster, Doing, Drives, Copies, rests, copies, first_length, legs_of, leg_at, punted}
 use Rattle.run_machine.specs.Tasks.{TaskState, Writer, HasBio, HasBoth, Carried, Empty, Brings, Carries, Fails}
 use Rattle.run_machine.specs.Runs.{State}
-use Rattle.block_core.specs.Weights.{Weight, Rescued, Lined, total, line_weight, carried_weight}
+use Rattle.block_core.specs.Weights.{Weight, Rescued, Lined, total, submission_weight, carried_weight}
 use Rattle.block_core.specs.Fragments.{offset_of, fragment_of, leg_fragments, todo_fragments, bio_comes, legs_come, to_come}
-use Rattle.block_core.proofs.moves.Moves.{Move, Can, after, limit_of, HasLine, filled_of, cut_lists}
+use Rattle.block_core.proofs.moves.Moves.{Move, Can, after, limit_of, HasSubmission, filled_of, cut_lists}
 use Rattle.block_core.proofs.moves.Moves as moves
 use Rattle.block_core.proofs.moves.Landings.{AreThere, IsLanding, settled_there, goes_there, copies_there, all_there, none_there, cut_there, leg_there}
 use Rattle.block_core.proofs.sound.SumParts.{cut_weight, unless}
 use Rattle.block_core.proofs.moves.Deltas.{delta}
 use Rattle.block_core.proofs.sound.Facts.{TaskFits, Kept}
-use Rattle.block_core.proofs.sound.TaskLines.{line_fits}
+use Rattle.block_core.proofs.sound.TaskSubmissions.{submission_fits}
 use Rattle.block_core.proofs.sound.Orders.{Each, IsOwn, DoingPlaced, TaskPlaced, Placed, Ground}
-use Rattle.block_core.proofs.sound.OrdersKept.{line_placed}
+use Rattle.block_core.proofs.sound.OrdersKept.{submission_placed}
 use Rattle.block_core.proofs.images.FragmentCounts.{IsCounted, Divided, mirror_worth, legs_next, legs_none}
 use Rattle.block_core.proofs.moves.Misfits.{misfits, cut_fits}
 
@@ -51,7 +51,7 @@ module _ (setup : Setup) (value : Fragment → ℕ) (v : Divided setup value) wh
       ap (legs_come setup value bio) is ∙ legs_none (λ k. sum_by value (leg_fragments (tree_at setup bio.dev) bio k)) (legs_of (tree_at setup bio.dev))
 
   copies_come : (limit : ℕ) (lists : TaskLists) (bio : Bio) (master leg : ℕ) → AreThere setup lists.list0 → AreThere setup lists.list1
-      → line_weight (to_come setup value) limit (copies setup lists bio master leg)
+      → submission_weight (to_come setup value) limit (copies setup lists bio master leg)
       ≡ legs_come setup value bio leg + sum_by (lined limit) lists.list0 + sum_by (lined limit) lists.list1
   copies_come limit lists bio master leg first second = by_test (leg == legs_of (tree_at setup bio.dev)) refl (copies_there setup (to_come setup value) lands limit lists bio master leg first second)
     where
@@ -75,8 +75,8 @@ module _ (scene : Scene) (s : State) (value : Fragment → ℕ) (g : Ground scen
   abbrev w : Weight
   w = to_come scene.setup value
 
-  has : (place : ℕ) (x : TaskState) (doing : Doing) (lists : TaskLists) → s.task place ≡ x → HasLine x doing lists → DoingPlaced scene.setup (limit_of x) doing lists
-  has place x doing lists is h = line_placed scene.setup x doing lists (subst (TaskPlaced scene.setup) is (a.tasks place)) h
+  has : (place : ℕ) (x : TaskState) (doing : Doing) (lists : TaskLists) → s.task place ≡ x → HasSubmission x doing lists → DoingPlaced scene.setup (limit_of x) doing lists
+  has place x doing lists is h = submission_placed scene.setup x doing lists (subst (TaskPlaced scene.setup) is (a.tasks place)) h
 
   pub comes : (m : Move) → Can scene s m → total scene w (after scene s m) + done value m ≡ total scene w s
   -- takes and misses
@@ -161,7 +161,7 @@ module _ (scene : Scene) (s : State) (value : Fragment → ℕ) (g : Ground scen
   -- links of legs
   comes (moves.Legged place x bio lists master leg hand key node) c =
       let d = has place x (Copies bio master leg (Links hand)) lists c.1 c.2 in
-      let lt = line_fits scene x (Copies bio master leg (Links hand)) lists (subst (TaskFits scene) c.1 (i.tasks place)) c.2 in
+      let lt = submission_fits scene x (Copies bio master leg (Links hand)) lists (subst (TaskFits scene) c.1 (i.tasks place)) c.2 in
       let item = leg_at bio hand leg key (tree_at scene.setup bio.dev) in
       let more = submitted item lists in
       let first = leg_there scene.setup (limit_of x) g bio hand lists master leg key d lt in

@@ -12,15 +12,15 @@ use Rattle.model_disks.specs.Disks.{DiskState}
 use Rattle.model_disks.specs.Moves.{pushed}
 use Rattle.run_machine.specs.Maps.{upd}
 use Rattle.run_machine.specs.Scene.{Scene, tree_at}
-use Rattle.run_machine.specs.Lines.{Want, Takes, Punts as WantsPunt, Links, ToPush, ToCut, ToRecord, ToMaster, Drives, Copies, Line, rests, settled, goes_on, copies, first_length, legs_of, leg_at, punted, not_punted}
+use Rattle.run_machine.specs.Submissions.{Want, Takes, Punts as WantsPunt, Links, ToPush, ToCut, ToRecord, ToMaster, Drives, Copies, Submission, rests, settled, goes_on, copies, first_length, legs_of, leg_at, punted, not_punted}
 use Rattle.run_machine.specs.Tasks.{TaskState, Writer, Rescuer, Completer, Keeper, Keeps, Resizes, Starts, NoBio, HasBio, HasBoth, Empty, Brings, Carries}
 use Rattle.run_machine.specs.Objects.{clear_bio, clear_vector, clear_slip}
 use Rattle.run_machine.specs.Runs.{State}
 use Rattle.block_core.specs.Weights.{Weight, Pending, Rescued, Lined, total, sum_at, weigh_option, task_weight, book_weight}
-use Rattle.block_core.proofs.moves.Moves.{Move, Can, after, lost, gained, limit_of, with_line, with_want, gathered_of, filled_of, vector_of, cut_lists}
+use Rattle.block_core.proofs.moves.Moves.{Move, Can, after, lost, gained, limit_of, with_submission, with_want, gathered_of, filled_of, vector_of, cut_lists}
 use Rattle.block_core.proofs.moves.Moves as moves
 use Rattle.block_core.proofs.moves.Sums.{sum_at-upd, within_book, book_upd}
-use Rattle.block_core.proofs.moves.Listed.{line_changes, want_changes, punted_weight}
+use Rattle.block_core.proofs.moves.Listed.{submission_changes, want_changes, punted_weight}
 
 pub vacant_at : (book : BookState) (key : ℕ) → IsVacant book key → (node_at book key ≡ None) × (key < length book.nodes)
 vacant_at book key v = (get_or_from_slice_get book.nodes key None None v, slice_get_within book.nodes key None v)
@@ -54,24 +54,24 @@ delta scene w s (moves.TakesVector place writer todo later item move) c =
     omega (arith, task_delta scene w s place (Writer writer (todo ∷ later) (HasBio item) rests) (Writer writer (todo ∷ later) (HasBoth item (clear_vector (scene.ledger 64))) rests) c.0 c.1)
 delta scene w s (moves.TakesSub place x doing lists dev waits move) c =
     let want : Want = Links (clear_bio (scene.ledger (2 * dev.0))) in
-    let new : Line = record { doing = with_want doing want; lists = lists } in
-    omega (arith, task_delta scene w s place x (with_line x new) c.0 c.1, line_changes w place x doing lists new c.2, want_changes w (limit_of x) doing dev (Takes waits) want c.3)
+    let new : Submission = record { doing = with_want doing want; lists = lists } in
+    omega (arith, task_delta scene w s place x (with_submission x new) c.0 c.1, submission_changes w place x doing lists new c.2, want_changes w (limit_of x) doing dev (Takes waits) want c.3)
 delta scene w s (moves.TakesSlip place x bio lists move) c =
-    let new : Line = record { doing = Drives bio (ToMaster (clear_slip (scene.ledger (2 * bio.bio.dev.0 + 1)))); lists = lists } in
-    omega (arith, task_delta scene w s place x (with_line x new) c.0 c.1, line_changes w place x (Drives bio ToRecord) lists new c.2)
+    let new : Submission = record { doing = Drives bio (ToMaster (clear_slip (scene.ledger (2 * bio.bio.dev.0 + 1)))); lists = lists } in
+    omega (arith, task_delta scene w s place x (with_submission x new) c.0 c.1, submission_changes w place x (Drives bio ToRecord) lists new c.2)
 -- misses
 delta scene w s (moves.MissesOne place x number used) c = omega (arith, task_delta scene w s place x x c.0 c.1)
 delta scene w s (moves.MissesTry place x doing lists dev used) c =
-    let new : Line = record { doing = with_want doing WantsPunt; lists = lists } in
-    omega (arith, task_delta scene w s place x (with_line x new) c.0 c.1, line_changes w place x doing lists new c.2, want_changes w (limit_of x) doing dev (Takes false) WantsPunt c.3)
+    let new : Submission = record { doing = with_want doing WantsPunt; lists = lists } in
+    omega (arith, task_delta scene w s place x (with_submission x new) c.0 c.1, submission_changes w place x doing lists new c.2, want_changes w (limit_of x) doing dev (Takes false) WantsPunt c.3)
 -- punts
 delta scene w s (moves.Punts place x doing lists dev) c =
-    let new : Line = record { doing = with_want doing (Takes true); lists = not_punted dev lists } in
+    let new : Submission = record { doing = with_want doing (Takes true); lists = not_punted dev lists } in
     let old = s.objects.rescue dev.0 in
     omega (
       arith,
-      task_delta scene w s place x (with_line x new) c.0 c.1,
-      line_changes w place x doing lists new c.2,
+      task_delta scene w s place x (with_submission x new) c.0 c.1,
+      submission_changes w place x doing lists new c.2,
       want_changes w (limit_of x) doing dev WantsPunt (Takes true) c.3,
       sum_at-upd (λ dev bios. sum_by (w.bio Rescued) bios) scene.setup.count s.objects.rescue dev.0 (old ++ punted dev lists) c.4,
       sum_by-append (w.bio Rescued) old (punted dev lists),
@@ -89,12 +89,12 @@ delta scene w s (moves.Pops place dev bio bios) c =
     )
 -- pushes
 delta scene w s (moves.Pushes place x bio lists) c =
-    let new : Line = goes_on scene.setup bio.bio.dev lists in
+    let new : Submission = goes_on scene.setup bio.bio.dev lists in
     let d = sum_at-upd (λ dev (disk : DiskState). sum_by (w.bio Pending) disk.pending) scene.setup.count s.objects.disk bio.bio.dev.0 (pushed bio (s.objects.disk bio.bio.dev.0)) c.3 in
     omega (
       arith,
-      task_delta scene w s place x (with_line x new) c.0 c.1,
-      line_changes w place x (Drives bio ToPush) lists new c.2,
+      task_delta scene w s place x (with_submission x new) c.0 c.1,
+      submission_changes w place x (Drives bio ToPush) lists new c.2,
       d,
       sum_by_push (w.bio Pending) (s.objects.disk bio.bio.dev.0).pending bio,
     )
@@ -121,37 +121,37 @@ delta scene w s (moves.Begins place writer todo later item vector key) c =
     )
 -- links of pieces
 delta scene w s (moves.Chained place x bio lists hand number kind sizes members key node) c =
-    let new : Line = goes_on scene.setup bio.bio.dev (cut_lists bio lists hand (first_length kind sizes bio.bio.range) key kind sizes members) in
+    let new : Submission = goes_on scene.setup bio.bio.dev (cut_lists bio lists hand (first_length kind sizes bio.bio.range) key kind sizes members) in
     let book = s.objects.book bio.bio.writer in
     omega (
       arith,
-      task_delta scene w s place x (with_line x new) c.0 c.1,
-      line_changes w place x (Drives bio (ToCut (Links hand))) lists new c.2,
+      task_delta scene w s place x (with_submission x new) c.0 c.1,
+      submission_changes w place x (Drives bio (ToCut (Links hand))) lists new c.2,
       sum_at-upd (book_weight w) scene.books s.objects.book bio.bio.writer (with_node (with_node book key (Some (child_node node.write bio.bio.node))) bio.bio.node (Some (raised node))) c.4,
       two_nodes w bio.bio.writer book key bio.bio.node node (child_node node.write bio.bio.node) (raised node) c.6 c.5,
     )
 -- links of masters
 delta scene w s (moves.Mastered place x bio lists slip key node) c =
-    let new : Line = copies scene.setup lists bio.bio key 0 in
+    let new : Submission = copies scene.setup lists bio.bio key 0 in
     let book = s.objects.book bio.bio.writer in
     let master = master_node node.write bio.bio.node slip (legs_of (tree_at scene.setup bio.bio.dev)) in
     omega (
       arith,
-      task_delta scene w s place x (with_line x new) c.0 c.1,
-      line_changes w place x (Drives bio (ToMaster slip)) lists new c.2,
+      task_delta scene w s place x (with_submission x new) c.0 c.1,
+      submission_changes w place x (Drives bio (ToMaster slip)) lists new c.2,
       sum_at-upd (book_weight w) scene.books s.objects.book bio.bio.writer (with_node (with_node book key (Some master)) bio.bio.node (Some (keeping bio node))) c.3,
       two_nodes w bio.bio.writer book key bio.bio.node node master (keeping bio node) c.5 c.4,
     )
 -- links of legs
 delta scene w s (moves.Legged place x bio lists master leg hand key node) c =
-    let new : Line = copies scene.setup (submitted (leg_at bio hand leg key (tree_at scene.setup bio.dev)) lists) bio master (leg + 1) in
+    let new : Submission = copies scene.setup (submitted (leg_at bio hand leg key (tree_at scene.setup bio.dev)) lists) bio master (leg + 1) in
     let book = s.objects.book bio.writer in
     let v = vacant_at book key c.5 in
     let z : weigh_option (w.node bio.writer key) (node_at book key) ≡ 0 = ap (weigh_option (w.node bio.writer key)) v.0 in
     omega (
       arith,
-      task_delta scene w s place x (with_line x new) c.0 c.1,
-      line_changes w place x (Copies bio master leg (Links hand)) lists new c.2,
+      task_delta scene w s place x (with_submission x new) c.0 c.1,
+      submission_changes w place x (Copies bio master leg (Links hand)) lists new c.2,
       sum_at-upd (book_weight w) scene.books s.objects.book bio.writer (with_node book key (Some (leg_node node.write master))) c.3,
       book_upd w bio.writer book key (Some (leg_node node.write master)) v.1,
     )

@@ -12,7 +12,7 @@ use Rattle.bio_records.specs.declared.bio.Pad.{Pad}
 use Rattle.bio_records.specs.Items.{Item}
 use Rattle.bio_split.specs.Split.{split_rest}
 use Rattle.run_machine.specs.Scene.{Setup, tree_at, tree_number}
-use Rattle.run_machine.specs.Lines.{first_length, mapped, landed, legs_of, leg_at}
+use Rattle.run_machine.specs.Submissions.{first_length, mapped, landed, legs_of, leg_at}
 use Rattle.block_core.specs.Weights.{one}
 use Rattle.std.proofs.lemmas.Option.{slice_get-get_or, slice_get_cases}
 use Rattle.std.proofs.lemmas.List.{length-map}

@@ -14,8 +14,8 @@ use Rattle.bio_lists.specs.Submission.{order, submitted}
 use Rattle.bio_split.specs.Split.{split_rest}
 use Rattle.run_machine.specs.Scene.{Setup, tree_at}
 use Rattle.bioset_pools.specs.Sets.{waits_first}
-use Rattle.run_machine.specs.Lines.{Takes, Links, ToCut, Drives, Copies, settled, goes_on, copies, first_length, landed, legs_of, leg_at}
-use Rattle.block_core.specs.Weights.{Weight, Lined, line_weight}
+use Rattle.run_machine.specs.Submissions.{Takes, Links, ToCut, Drives, Copies, settled, goes_on, copies, first_length, landed, legs_of, leg_at}
+use Rattle.block_core.specs.Weights.{Weight, Lined, submission_weight}
 use Rattle.block_core.proofs.moves.Moves.{cut_lists, piece}
 use Rattle.block_core.proofs.moves.Listed.{asks_weight, order_weight}
 use Rattle.block_core.proofs.sound.SumParts.{unless}
@@ -31,7 +31,7 @@ IsLanding setup w = (limit : ℕ) (item : Item Pad) → IsThere setup item.bio
     → w.bio (Lined limit) (record item { bio = landed (tree_at setup item.bio.dev) item.bio }) ≡ w.bio (Lined limit) item
 
 module _ (setup : Setup) (w : Weight) (lands : IsLanding setup w) where
-  pub settled_there : (limit : ℕ) (items : List (Item Pad)) → AreThere setup items → line_weight w limit (settled setup items) ≡ sum_by (w.bio (Lined limit)) items
+  pub settled_there : (limit : ℕ) (items : List (Item Pad)) → AreThere setup items → submission_weight w limit (settled setup items) ≡ sum_by (w.bio (Lined limit)) items
   settled_there limit [] are = refl
   settled_there limit (item ∷ waiting) are =
       let at : Bio = landed (tree_at setup item.bio.dev) item.bio in
@@ -44,7 +44,7 @@ module _ (setup : Setup) (w : Weight) (lands : IsLanding setup w) where
       )
 
   pub goes_there : (limit : ℕ) (dev : DevId) (lists : TaskLists) → AreThere setup lists.list0 → AreThere setup lists.list1
-      → line_weight w limit (goes_on setup dev lists) ≡ sum_by (w.bio (Lined limit)) lists.list0 + sum_by (w.bio (Lined limit)) lists.list1
+      → submission_weight w limit (goes_on setup dev lists) ≡ sum_by (w.bio (Lined limit)) lists.list0 + sum_by (w.bio (Lined limit)) lists.list1
   goes_there limit dev lists first second =
       let P : Item Pad → Type 0 = λ item. IsThere setup item.bio in
       let low = filter (is_lower dev) lists.list0 in
@@ -54,12 +54,12 @@ module _ (setup : Setup) (w : Weight) (lands : IsLanding setup w) where
       ∙ order_weight (w.bio (Lined limit)) dev lists
 
   pub copies_there : (limit : ℕ) (lists : TaskLists) (bio : Bio) (master leg : ℕ) → AreThere setup lists.list0 → AreThere setup lists.list1
-      → line_weight w limit (copies setup lists bio master leg)
+      → submission_weight w limit (copies setup lists bio master leg)
       ≡ unless (leg == legs_of (tree_at setup bio.dev)) (w.copy bio master leg) + sum_by (w.bio (Lined limit)) lists.list0 + sum_by (w.bio (Lined limit)) lists.list1
   copies_there limit lists bio master leg first second = by_test (leg == legs_of (tree_at setup bio.dev))
     where
       by_test : (b : Bool)
-          → line_weight w limit (if b then goes_on setup bio.dev lists else record { doing = Copies bio master leg (Takes (waits_first (setup.rescuer bio.dev.0) lists)); lists = lists })
+          → submission_weight w limit (if b then goes_on setup bio.dev lists else record { doing = Copies bio master leg (Takes (waits_first (setup.rescuer bio.dev.0) lists)); lists = lists })
           ≡ unless b (w.copy bio master leg) + sum_by (w.bio (Lined limit)) lists.list0 + sum_by (w.bio (Lined limit)) lists.list1
       by_test true = omega (arith, goes_there limit bio.dev lists first second)
       by_test false = omega arith

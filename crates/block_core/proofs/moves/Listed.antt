@@ -14,10 +14,10 @@ use Rattle.bio_records.specs.Sorting.{is_lower, is_same}
 use Rattle.bio_lists.specs.Submission.{order}
 use Rattle.bio_books.specs.Books.{keeping}
 use Rattle.run_machine.specs.Scene.{Setup, tree_at}
-use Rattle.run_machine.specs.Lines.{Want, ToPush, ToCut, ToRecord, ToMaster, Doing, Rests, Drives, Copies, Breaks, Line, settled, goes_on, asks_at, first_length, mapped, landed, is_of, punted, not_punted}
+use Rattle.run_machine.specs.Submissions.{Want, ToPush, ToCut, ToRecord, ToMaster, Doing, Rests, Drives, Copies, Breaks, Submission, settled, goes_on, asks_at, first_length, mapped, landed, is_of, punted, not_punted}
 use Rattle.run_machine.specs.Tasks.{TaskState, Writer, Rescuer, Completer, Keeper}
-use Rattle.block_core.specs.Weights.{Weight, Lined, want_weight, doing_weight, task_weight, line_weight}
-use Rattle.block_core.proofs.moves.Moves.{limit_of, with_line, HasLine, Wants, with_want}
+use Rattle.block_core.specs.Weights.{Weight, Lined, want_weight, doing_weight, task_weight, submission_weight}
+use Rattle.block_core.proofs.moves.Moves.{limit_of, with_submission, HasSubmission, Wants, with_want}
 
 -- what mapping leaves as it is, landing does too
 pub landed_same : (P : Bio → ℕ) → ((to : Slot) (members : ℕ → Tree) (bio : Bio) → P (mapped to members bio) ≡ P bio) → (t : Tree) (bio : Bio) → P (landed t bio) ≡ P bio
@@ -39,7 +39,7 @@ asks_weight w limit setup lists item (Leaf number sectors) = omega arith
 asks_weight w limit setup lists item (Mirrored number sizes members) = omega arith
 asks_weight w limit setup lists item (Split number kind sizes members) = omega arith
 
-pub first_weight : (w : Weight) → IsBlind w → (limit : ℕ) (setup : Setup) (items : List (Item Pad)) → line_weight w limit (settled setup items) ≡ sum_by (w.bio (Lined limit)) items
+pub first_weight : (w : Weight) → IsBlind w → (limit : ℕ) (setup : Setup) (items : List (Item Pad)) → submission_weight w limit (settled setup items) ≡ sum_by (w.bio (Lined limit)) items
 first_weight w keeps limit setup [] = refl
 first_weight w keeps limit setup (item ∷ waiting) =
     let at : Bio = landed (tree_at setup item.bio.dev) item.bio in
@@ -61,16 +61,16 @@ order_weight g dev lists =
     )
 
 pub goes_weight : (w : Weight) → IsBlind w → (limit : ℕ) (setup : Setup) (dev : DevId) (lists : TaskLists)
-    → line_weight w limit (goes_on setup dev lists) ≡ sum_by (w.bio (Lined limit)) lists.list0 + sum_by (w.bio (Lined limit)) lists.list1
+    → submission_weight w limit (goes_on setup dev lists) ≡ sum_by (w.bio (Lined limit)) lists.list0 + sum_by (w.bio (Lined limit)) lists.list1
 goes_weight w keeps limit setup dev lists = first_weight w keeps limit setup (order dev lists) ∙ order_weight (w.bio (Lined limit)) dev lists
 
 -- a task goes on with another submission
-pub line_changes : (w : Weight) (place : ℕ) (x : TaskState) (doing : Doing) (lists : TaskLists) (new : Line) → HasLine x doing lists
-    → task_weight w place (with_line x new) + line_weight w (limit_of x) (record { doing = doing; lists = lists }) ≡ task_weight w place x + line_weight w (limit_of x) new
-line_changes w place (Writer number todo taken line) doing lists new h = let q = ap (line_weight w 32) h in omega (arith, q)
-line_changes w place (Rescuer dev line) doing lists new h = let q = ap (line_weight w dev.0) h in omega (arith, q)
-line_changes w place (Completer disk carried) doing lists new h = absurd h
-line_changes w place (Keeper keeping) doing lists new h = absurd h
+pub submission_changes : (w : Weight) (place : ℕ) (x : TaskState) (doing : Doing) (lists : TaskLists) (new : Submission) → HasSubmission x doing lists
+    → task_weight w place (with_submission x new) + submission_weight w (limit_of x) (record { doing = doing; lists = lists }) ≡ task_weight w place x + submission_weight w (limit_of x) new
+submission_changes w place (Writer number todo taken submission) doing lists new h = let q = ap (submission_weight w 32) h in omega (arith, q)
+submission_changes w place (Rescuer dev submission) doing lists new h = let q = ap (submission_weight w dev.0) h in omega (arith, q)
+submission_changes w place (Completer disk carried) doing lists new h = absurd h
+submission_changes w place (Keeper keeping) doing lists new h = absurd h
 
 -- what is done wants something else
 pub want_changes : (w : Weight) (limit : ℕ) (doing : Doing) (dev : DevId) (old new : Want) → Wants doing dev old

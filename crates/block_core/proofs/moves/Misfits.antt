@@ -12,17 +12,17 @@ use Rattle.bio_records.specs.Items.{Item}
 use Rattle.bio_lists.specs.Submission.{submitted}
 use Rattle.bio_split.specs.Split.{split_front, split_rest}
 use Rattle.run_machine.specs.Scene.{Scene, tree_at}
-use Rattle.run_machine.specs.Lines.{Links, ToCut, Drives, Copies, first_length, mapped, legs_of, leg_at}
+use Rattle.run_machine.specs.Submissions.{Links, ToCut, Drives, Copies, first_length, mapped, legs_of, leg_at}
 use Rattle.run_machine.specs.Tasks.{TaskState, Todo, first_bio}
 use Rattle.run_machine.specs.Runs.{State}
 use Rattle.block_core.specs.Weights.{Weight, total, no_weight}
-use Rattle.block_core.proofs.moves.Moves.{Move, Can, after, limit_of, HasLine, filled_of, cut_lists, piece}
+use Rattle.block_core.proofs.moves.Moves.{Move, Can, after, limit_of, HasSubmission, filled_of, cut_lists, piece}
 use Rattle.block_core.proofs.moves.Moves as moves
 use Rattle.block_core.proofs.moves.Listed.{landed_same, IsBlind, first_weight, goes_weight}
-use Rattle.block_core.proofs.sound.SumParts.{cut_weight, copies_weight, line_part, unless_less}
+use Rattle.block_core.proofs.sound.SumParts.{cut_weight, copies_weight, submission_part, unless_less}
 use Rattle.block_core.proofs.moves.Deltas.{delta}
 use Rattle.block_core.proofs.sound.Facts.{TaskFits, Kept}
-use Rattle.block_core.proofs.sound.TaskLines.{line_fits}
+use Rattle.block_core.proofs.sound.TaskSubmissions.{submission_fits}
 
 -- a number of each bio that is 0 for the parts of a bio for which it is 0, wherever they are
 pub record Follows (bad : Bio → ℕ) : Type 0 where
@@ -103,7 +103,7 @@ module _ (bad : Bio → ℕ) (f : Follows bad) where
         let n = first_length kind sizes bio.bio.range in
         let child = piece bio hand n key kind sizes members in
         let front = split_front bio hand n (Of bio.bio.dev) key in
-        let part = line_part scene w s place x (Drives bio (ToCut (Links hand))) lists c.0 c.1 c.2 in
+        let part = submission_part scene w s place x (Drives bio (ToCut (Links hand))) lists c.0 c.1 c.2 in
         let fits : bad bio.bio ≡ 0 = omega (arith, none, part) in
         let short : n ≤ bio.bio.range.len = omega arith in
         omega (
@@ -128,9 +128,9 @@ module _ (bad : Bio → ℕ) (f : Follows bad) where
         )
     -- links of legs
     stays (moves.Legged place x bio lists master leg hand key node) c =
-        let lt = line_fits scene x (Copies bio master leg (Links hand)) lists (subst (TaskFits scene) c.1 (i.tasks place)) c.2 in
+        let lt = submission_fits scene x (Copies bio master leg (Links hand)) lists (subst (TaskFits scene) c.1 (i.tasks place)) c.2 in
         let item = leg_at bio hand leg key (tree_at scene.setup bio.dev) in
-        let part = line_part scene w s place x (Copies bio master leg (Links hand)) lists c.0 c.1 c.2 in
+        let part = submission_part scene w s place x (Copies bio master leg (Links hand)) lists c.0 c.1 c.2 in
         let fits : bad bio ≡ 0 = omega (arith, none, part) in
         omega (
           arith,
@@ -156,5 +156,5 @@ no_misfits bad f scene s i none m c = stays bad f scene s i none m c
 
 -- the bio that is cut is none
 pub cut_fits : (bad : Bio → ℕ) (scene : Scene) (s : State) → total scene (misfits bad) s ≡ 0 → (place : ℕ) (x : TaskState) (bio hand : Item Pad) (lists : TaskLists)
-    → place < scene.tasks → s.task place ≡ x → HasLine x (Drives bio (ToCut (Links hand))) lists → bad bio.bio ≡ 0
-cut_fits bad scene s none place x bio hand lists lt is h = omega (arith, none, line_part scene (misfits bad) s place x (Drives bio (ToCut (Links hand))) lists lt is h)
+    → place < scene.tasks → s.task place ≡ x → HasSubmission x (Drives bio (ToCut (Links hand))) lists → bad bio.bio ≡ 0
+cut_fits bad scene s none place x bio hand lists lt is h = omega (arith, none, submission_part scene (misfits bad) s place x (Drives bio (ToCut (Links hand))) lists lt is h)

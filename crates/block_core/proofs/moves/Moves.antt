@@ -23,32 +23,32 @@ use Rattle.model_disks.specs.Disks.{DiskState}
 use Rattle.model_disks.specs.Moves.{pushed, Completes}
 use Rattle.run_machine.specs.Maps.{upd}
 use Rattle.run_machine.specs.Scene.{Scene, tree_at}
-use Rattle.run_machine.specs.Lines.{Want, Takes, Punts as WantsPunt, Links, ToPush, ToCut, ToRecord, ToMaster, Doing, Drives, Copies, Line, rests, settled, goes_on, copies, first_length, mapped, legs_of, leg_at, punted, not_punted}
+use Rattle.run_machine.specs.Submissions.{Want, Takes, Punts as WantsPunt, Links, ToPush, ToCut, ToRecord, ToMaster, Doing, Drives, Copies, Submission, rests, settled, goes_on, copies, first_length, mapped, legs_of, leg_at, punted, not_punted}
 use Rattle.run_machine.specs.Tasks.{Todo, Gathered, NoBio, HasBio, HasBoth, Carried, Empty, Brings, Carries, Fails, Duty, Resizes, Starts, Keeps, TaskState, Writer, Rescuer, Completer, Keeper, filled, filled_short, filled_vector}
 use Rattle.run_machine.specs.Objects.{Objects, clear_bio, clear_vector, clear_slip, done_one}
 use Rattle.run_machine.specs.Requests.{Request, TakeBio, TakeVec, TakeSlip}
 use Rattle.run_machine.specs.Tasks.{request, needs_vector}
 use Rattle.run_machine.specs.Runs.{State}
 use Rattle.block_core.specs.Touches.{Touch, Opens, Shuts, Passes}
-use Rattle.block_core.specs.Weights.{Weight, Lined, Rescued, Pending, Brought, line_weight, task_weight, carried_weight}
+use Rattle.block_core.specs.Weights.{Weight, Lined, Rescued, Pending, Brought, submission_weight, task_weight, carried_weight}
 
 -- a task with a submission goes on with another one
-abbrev pub with_line : TaskState → Line → TaskState
-with_line (Writer number todo taken old) line = Writer number todo taken line
-with_line (Rescuer dev old) line = Rescuer dev line
-with_line (Completer disk carried) line = Completer disk carried
-with_line (Keeper keeping) line = Keeper keeping
+abbrev pub with_submission : TaskState → Submission → TaskState
+with_submission (Writer number todo taken old) submission = Writer number todo taken submission
+with_submission (Rescuer dev old) submission = Rescuer dev submission
+with_submission (Completer disk carried) submission = Completer disk carried
+with_submission (Keeper keeping) submission = Keeper keeping
 
-abbrev pub HasLine : TaskState → Doing → TaskLists → Type 0
-HasLine (Writer number todo taken line) doing lists = line ≡ record { doing = doing; lists = lists }
-HasLine (Rescuer dev line) doing lists = line ≡ record { doing = doing; lists = lists }
-HasLine (Completer disk carried) doing lists = ⊥
-HasLine (Keeper keeping) doing lists = ⊥
+abbrev pub HasSubmission : TaskState → Doing → TaskLists → Type 0
+HasSubmission (Writer number todo taken submission) doing lists = submission ≡ record { doing = doing; lists = lists }
+HasSubmission (Rescuer dev submission) doing lists = submission ≡ record { doing = doing; lists = lists }
+HasSubmission (Completer disk carried) doing lists = ⊥
+HasSubmission (Keeper keeping) doing lists = ⊥
 
 -- the device that a task that submits stays below
 abbrev pub limit_of : TaskState → ℕ
-limit_of (Writer number todo taken line) = 32
-limit_of (Rescuer dev line) = dev.0
+limit_of (Writer number todo taken submission) = 32
+limit_of (Rescuer dev submission) = dev.0
 limit_of (Completer disk carried) = 0
 limit_of (Keeper keeping) = 0
 
@@ -160,22 +160,22 @@ Can scene s (TakesVector place writer todo later item move) =
     (place < scene.tasks) × (s.task place ≡ Writer writer (todo ∷ later) (HasBio item) rests) × IsTake move × CanMove (s.objects.pool 64) move
     × (needs_vector todo.write ≡ true)
 Can scene s (TakesSub place x doing lists dev waits move) =
-    (place < scene.tasks) × (s.task place ≡ x) × HasLine x doing lists × Wants doing dev (Takes waits) × IsTake move
+    (place < scene.tasks) × (s.task place ≡ x) × HasSubmission x doing lists × Wants doing dev (Takes waits) × IsTake move
     × CanMove (s.objects.pool (2 * dev.0)) move
 Can scene s (TakesSlip place x bio lists move) =
-    (place < scene.tasks) × (s.task place ≡ x) × HasLine x (Drives bio ToRecord) lists × IsTake move
+    (place < scene.tasks) × (s.task place ≡ x) × HasSubmission x (Drives bio ToRecord) lists × IsTake move
     × CanMove (s.objects.pool (2 * bio.bio.dev.0 + 1)) move
 Can scene s (MissesOne place x number used) =
     (place < scene.tasks) × (s.task place ≡ x) × CanMove (s.objects.pool number) (misses used) × IsTaking (request scene.setup x)
     × (used ≡ true) × IsNumber scene number
 Can scene s (MissesTry place x doing lists dev used) =
-    (place < scene.tasks) × (s.task place ≡ x) × HasLine x doing lists × Wants doing dev (Takes false) × CanMove (s.objects.pool (2 * dev.0)) (misses used)
+    (place < scene.tasks) × (s.task place ≡ x) × HasSubmission x doing lists × Wants doing dev (Takes false) × CanMove (s.objects.pool (2 * dev.0)) (misses used)
 Can scene s (Punts place x doing lists dev) =
-    (place < scene.tasks) × (s.task place ≡ x) × HasLine x doing lists × Wants doing dev WantsPunt × (dev.0 < scene.setup.count)
+    (place < scene.tasks) × (s.task place ≡ x) × HasSubmission x doing lists × Wants doing dev WantsPunt × (dev.0 < scene.setup.count)
 Can scene s (Pops place dev bio bios) =
     (place < scene.tasks) × (s.task place ≡ Rescuer dev rests) × (dev.0 < scene.setup.count) × (s.objects.rescue dev.0 ≡ bio ∷ bios)
 Can scene s (Pushes place x bio lists) =
-    (place < scene.tasks) × (s.task place ≡ x) × HasLine x (Drives bio ToPush) lists × (bio.bio.dev.0 < scene.setup.count)
+    (place < scene.tasks) × (s.task place ≡ x) × HasSubmission x (Drives bio ToPush) lists × (bio.bio.dev.0 < scene.setup.count)
 Can scene s (Completed place disk index bio status new) =
     (place < scene.tasks) × (s.task place ≡ Completer disk Empty) × (disk.0 < scene.setup.count)
     × Completes (s.objects.disk disk.0) index bio status new
@@ -183,14 +183,14 @@ Can scene s (Begins place writer todo later item vector key) =
     (place < scene.tasks) × (s.task place ≡ Writer writer (todo ∷ later) (gathered_of item vector) rests) × (writer < scene.books)
     × IsVacant (s.objects.book writer) key × IsBare todo vector
 Can scene s (Chained place x bio lists hand number kind sizes members key node) =
-    (place < scene.tasks) × (s.task place ≡ x) × HasLine x (Drives bio (ToCut (Links hand))) lists
+    (place < scene.tasks) × (s.task place ≡ x) × HasSubmission x (Drives bio (ToCut (Links hand))) lists
     × (tree_at scene.setup bio.bio.dev ≡ Split number kind sizes members) × (bio.bio.writer < scene.books)
     × (node_at (s.objects.book bio.bio.writer) bio.bio.node ≡ Some node) × IsVacant (s.objects.book bio.bio.writer) key
 Can scene s (Mastered place x bio lists slip key node) =
-    (place < scene.tasks) × (s.task place ≡ x) × HasLine x (Drives bio (ToMaster slip)) lists × (bio.bio.writer < scene.books)
+    (place < scene.tasks) × (s.task place ≡ x) × HasSubmission x (Drives bio (ToMaster slip)) lists × (bio.bio.writer < scene.books)
     × (node_at (s.objects.book bio.bio.writer) bio.bio.node ≡ Some node) × IsVacant (s.objects.book bio.bio.writer) key
 Can scene s (Legged place x bio lists master leg hand key node) =
-    (place < scene.tasks) × (s.task place ≡ x) × HasLine x (Copies bio master leg (Links hand)) lists × (bio.writer < scene.books)
+    (place < scene.tasks) × (s.task place ≡ x) × HasSubmission x (Copies bio master leg (Links hand)) lists × (bio.writer < scene.books)
     × (node_at (s.objects.book bio.writer) master ≡ Some node) × IsVacant (s.objects.book bio.writer) key
 Can scene s (Told place disk carried writer key status part node) =
     (place < scene.tasks) × (s.task place ≡ Completer disk carried) × Tells carried writer key status part × (writer < scene.books)
@@ -227,20 +227,20 @@ after scene s (TakesVector place writer todo later item move) = record {
 }
 after scene s (TakesSub place x doing lists dev waits move) = record {
   objects = with_pool s.objects (2 * dev.0) move;
-  task = upd s.task place (with_line x (record { doing = with_want doing (Links (clear_bio (scene.ledger (2 * dev.0)))); lists = lists }));
+  task = upd s.task place (with_submission x (record { doing = with_want doing (Links (clear_bio (scene.ledger (2 * dev.0)))); lists = lists }));
 }
 after scene s (TakesSlip place x bio lists move) = record {
   objects = with_pool s.objects (2 * bio.bio.dev.0 + 1) move;
-  task = upd s.task place (with_line x (record { doing = Drives bio (ToMaster (clear_slip (scene.ledger (2 * bio.bio.dev.0 + 1)))); lists = lists }));
+  task = upd s.task place (with_submission x (record { doing = Drives bio (ToMaster (clear_slip (scene.ledger (2 * bio.bio.dev.0 + 1)))); lists = lists }));
 }
 after scene s (MissesOne place x number used) = record { objects = with_pool s.objects number (misses used); task = upd s.task place x }
 after scene s (MissesTry place x doing lists dev used) = record {
   objects = with_pool s.objects (2 * dev.0) (misses used);
-  task = upd s.task place (with_line x (record { doing = with_want doing WantsPunt; lists = lists }));
+  task = upd s.task place (with_submission x (record { doing = with_want doing WantsPunt; lists = lists }));
 }
 after scene s (Punts place x doing lists dev) = record {
   objects = record s.objects { rescue = upd s.objects.rescue dev.0 (s.objects.rescue dev.0 ++ punted dev lists) };
-  task = upd s.task place (with_line x (record { doing = with_want doing (Takes true); lists = not_punted dev lists }));
+  task = upd s.task place (with_submission x (record { doing = with_want doing (Takes true); lists = not_punted dev lists }));
 }
 after scene s (Pops place dev bio bios) = record {
   objects = record s.objects { rescue = upd s.objects.rescue dev.0 bios };
@@ -248,7 +248,7 @@ after scene s (Pops place dev bio bios) = record {
 }
 after scene s (Pushes place x bio lists) = record {
   objects = record s.objects { disk = upd s.objects.disk bio.bio.dev.0 (pushed bio (s.objects.disk bio.bio.dev.0)) };
-  task = upd s.task place (with_line x (goes_on scene.setup bio.bio.dev lists));
+  task = upd s.task place (with_submission x (goes_on scene.setup bio.bio.dev lists));
 }
 after scene s (Completed place disk index bio status new) = record {
   objects = record s.objects { disk = upd s.objects.disk disk.0 new };
@@ -262,7 +262,7 @@ after scene s (Chained place x bio lists hand number kind sizes members key node
   objects = with_book s.objects bio.bio.writer (
       with_node (with_node (s.objects.book bio.bio.writer) key (Some (child_node node.write bio.bio.node))) bio.bio.node (Some (raised node))
       );
-  task = upd s.task place (with_line x (goes_on scene.setup bio.bio.dev
+  task = upd s.task place (with_submission x (goes_on scene.setup bio.bio.dev
       (cut_lists bio lists hand (first_length kind sizes bio.bio.range) key kind sizes members)));
 }
 after scene s (Mastered place x bio lists slip key node) = record {
@@ -271,11 +271,11 @@ after scene s (Mastered place x bio lists slip key node) = record {
       (with_node (s.objects.book bio.bio.writer) key (Some (master_node node.write bio.bio.node slip (legs_of (tree_at scene.setup bio.bio.dev)))))
       bio.bio.node (Some (keeping bio node))
       );
-  task = upd s.task place (with_line x (copies scene.setup lists bio.bio key 0));
+  task = upd s.task place (with_submission x (copies scene.setup lists bio.bio key 0));
 }
 after scene s (Legged place x bio lists master leg hand key node) = record {
   objects = with_book s.objects bio.writer (with_node (s.objects.book bio.writer) key (Some (leg_node node.write master)));
-  task = upd s.task place (with_line x (copies scene.setup (submitted (leg_at bio hand leg key (tree_at scene.setup bio.dev)) lists) bio master (leg + 1)));
+  task = upd s.task place (with_submission x (copies scene.setup (submitted (leg_at bio hand leg key (tree_at scene.setup bio.dev)) lists) bio master (leg + 1)));
 }
 after scene s (Told place disk carried writer key status part node) = record {
   objects = with_book s.objects writer (with_node (s.objects.book writer) key (Some (lowered (told node status part))));
@@ -308,15 +308,15 @@ lost scene w s (TakesFirst place writer todo later move) = w.todo writer (todo �
 lost scene w s (TakesVector place writer todo later item move) = w.todo writer (todo ∷ later) (HasBio item)
 lost scene w s (Punts place x doing lists dev) = sum_by (w.bio (Lined (limit_of x))) (punted dev lists)
 lost scene w s (Pops place dev bio bios) = w.bio Rescued bio
-lost scene w s (Pushes place x bio lists) = line_weight w (limit_of x) (record { doing = Drives bio ToPush; lists = lists })
+lost scene w s (Pushes place x bio lists) = submission_weight w (limit_of x) (record { doing = Drives bio ToPush; lists = lists })
 lost scene w s (Completed place disk index bio status new) = w.bio Pending bio
 lost scene w s (Begins place writer todo later item vector key) = task_weight w place (Writer writer (todo ∷ later) (gathered_of item vector) rests)
 lost scene w s (Chained place x bio lists hand number kind sizes members key node) =
-    line_weight w (limit_of x) (record { doing = Drives bio (ToCut (Links hand)); lists = lists }) + w.node bio.bio.writer bio.bio.node node
+    submission_weight w (limit_of x) (record { doing = Drives bio (ToCut (Links hand)); lists = lists }) + w.node bio.bio.writer bio.bio.node node
 lost scene w s (Mastered place x bio lists slip key node) =
-    line_weight w (limit_of x) (record { doing = Drives bio (ToMaster slip); lists = lists }) + w.node bio.bio.writer bio.bio.node node
+    submission_weight w (limit_of x) (record { doing = Drives bio (ToMaster slip); lists = lists }) + w.node bio.bio.writer bio.bio.node node
 lost scene w s (Legged place x bio lists master leg hand key node) =
-    line_weight w (limit_of x) (record { doing = Copies bio master leg (Links hand); lists = lists })
+    submission_weight w (limit_of x) (record { doing = Copies bio master leg (Links hand); lists = lists })
 lost scene w s (Told place disk carried writer key status part node) = carried_weight w place carried + w.node writer key node
 lost scene w s (Closes place disk carried writer key status part node) = carried_weight w place carried + w.node writer key node
 lost scene w s (Gives place disk writer number closed held) = w.closed place writer closed
@@ -331,21 +331,21 @@ gained scene w s (TakesVector place writer todo later item move) =
 gained scene w s (TakesSub place x doing lists dev waits move) = w.hand (clear_bio (scene.ledger (2 * dev.0)))
 gained scene w s (TakesSlip place x bio lists move) = w.slip (clear_slip (scene.ledger (2 * bio.bio.dev.0 + 1)))
 gained scene w s (Punts place x doing lists dev) = sum_by (w.bio Rescued) (punted dev lists)
-gained scene w s (Pops place dev bio bios) = line_weight w dev.0 (settled scene.setup (bio ∷ []))
-gained scene w s (Pushes place x bio lists) = line_weight w (limit_of x) (goes_on scene.setup bio.bio.dev lists) + w.bio Pending bio
+gained scene w s (Pops place dev bio bios) = submission_weight w dev.0 (settled scene.setup (bio ∷ []))
+gained scene w s (Pushes place x bio lists) = submission_weight w (limit_of x) (goes_on scene.setup bio.bio.dev lists) + w.bio Pending bio
 gained scene w s (Completed place disk index bio status new) = w.bio Brought bio
 gained scene w s (Begins place writer todo later item vector key) =
-    line_weight w 32 (settled scene.setup (filled_of writer todo item vector key ∷ [])) + w.todo writer later NoBio
+    submission_weight w 32 (settled scene.setup (filled_of writer todo item vector key ∷ [])) + w.todo writer later NoBio
     + w.node writer key (top_node todo.number (vector_of todo vector))
 gained scene w s (Chained place x bio lists hand number kind sizes members key node) =
-    line_weight w (limit_of x) (goes_on scene.setup bio.bio.dev (cut_lists bio lists hand (first_length kind sizes bio.bio.range) key kind sizes members))
+    submission_weight w (limit_of x) (goes_on scene.setup bio.bio.dev (cut_lists bio lists hand (first_length kind sizes bio.bio.range) key kind sizes members))
     + w.node bio.bio.writer key (child_node node.write bio.bio.node) + w.node bio.bio.writer bio.bio.node (raised node)
 gained scene w s (Mastered place x bio lists slip key node) =
-    line_weight w (limit_of x) (copies scene.setup lists bio.bio key 0)
+    submission_weight w (limit_of x) (copies scene.setup lists bio.bio key 0)
     + w.node bio.bio.writer key (master_node node.write bio.bio.node slip (legs_of (tree_at scene.setup bio.bio.dev)))
     + w.node bio.bio.writer bio.bio.node (keeping bio node)
 gained scene w s (Legged place x bio lists master leg hand key node) =
-    line_weight w (limit_of x) (copies scene.setup (submitted (leg_at bio hand leg key (tree_at scene.setup bio.dev)) lists) bio master (leg + 1))
+    submission_weight w (limit_of x) (copies scene.setup (submitted (leg_at bio hand leg key (tree_at scene.setup bio.dev)) lists) bio master (leg + 1))
     + w.node bio.writer key (leg_node node.write master)
 gained scene w s (Told place disk carried writer key status part node) = w.node writer key (lowered (told node status part))
 gained scene w s (Closes place disk carried writer key status part node) = w.closed place writer (closed_of (told node status part))

@@ -10,7 +10,7 @@ use Rattle.bio_lists.specs.Submission.{no_lists}
 use Rattle.bio_books.specs.Books.{keeping, told}
 use Rattle.run_machine.specs.Maps.{upd}
 use Rattle.run_machine.specs.Scene.{Scene}
-use Rattle.run_machine.specs.Lines.{Doing, Rests, Drives, Copies, Breaks, rests}
+use Rattle.run_machine.specs.Submissions.{Doing, Rests, Drives, Copies, Breaks, rests}
 use Rattle.run_machine.specs.Tasks.{TaskState, Writer, Rescuer, Completer, Keeper, Keeping, Keeps, Stops, Duty, Resizes, Starts, Empty, Brings, Carries, Fails}
 use Rattle.run_machine.specs.Runs.{State}
 use Rattle.block_core.specs.Paying.{end_told}
@@ -26,7 +26,7 @@ use Rattle.run_machine.specs.Tasks.{request, answered, look_of, later_of, after_
 use Rattle.run_machine.specs.Objects.{Serves}
 use Rattle.run_machine.specs.Runs.{IsLet, Steps}
 use Rattle.block_core.proofs.moves.StepsTold.{IsMove, touch_in, paid_in, state_is, nothing_told}
-use Rattle.block_core.proofs.moves.LineSteps.{submits}
+use Rattle.block_core.proofs.moves.SubmissionSteps.{submits}
 use Rattle.block_core.proofs.moves.WriterSteps.{writes}
 use Rattle.block_core.proofs.moves.CompleterSteps.{completes, ends_bio, carries}
 
@@ -85,8 +85,8 @@ module _ (scene : Scene) (s : State) (f : Fair scene) (i : Kept scene s) (place 
   keeps_on (Stops breach) is fits see reply told serves goes = absurd fits
 
   moved : (x : TaskState) → s.task place ≡ x → TaskFits scene x → IsLet scene.ledger s.objects x (look_of x) → (reply : Reply) → Moved x reply
-  moved (Writer number todo taken line) is fits see reply told serves goes = writes scene s f i place here what new number todo taken line.doing line.lists is fits see reply told serves goes
-  moved (Rescuer dev line) is fits see reply told serves goes = rescues dev line.doing line.lists is fits reply told serves goes
+  moved (Writer number todo taken submission) is fits see reply told serves goes = writes scene s f i place here what new number todo taken submission.doing submission.lists is fits see reply told serves goes
+  moved (Rescuer dev submission) is fits see reply told serves goes = rescues dev submission.doing submission.lists is fits reply told serves goes
   moved (Completer disk Empty) is fits see reply told serves goes = completes scene s f i place here what new disk is fits reply told serves goes
   moved (Completer disk (Brings bio status)) is fits see reply told serves goes = ends_bio scene s f i place here what new disk bio status is reply told serves goes
   moved (Completer disk (Carries writer closed)) is fits see reply told serves goes =

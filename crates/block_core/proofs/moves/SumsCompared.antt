@@ -9,10 +9,10 @@ use Rattle.bio_books.specs.Books.{Node, VectorItem, SlipItem, node_at}
 use Rattle.bio_books.specs.Drops.{Closed}
 use Rattle.model_disks.specs.Disks.{DiskState}
 use Rattle.run_machine.specs.Scene.{Scene, tree_at}
-use Rattle.run_machine.specs.Lines.{Want, Takes, Punts, Links, Ask, ToPush, ToCut, ToRecord, ToMaster, Doing, Rests, Drives, Copies, Breaks, Line, legs_of}
+use Rattle.run_machine.specs.Submissions.{Want, Takes, Punts, Links, Ask, ToPush, ToCut, ToRecord, ToMaster, Doing, Rests, Drives, Copies, Breaks, Submission, legs_of}
 use Rattle.run_machine.specs.Tasks.{Todo, Gathered, NoBio, HasBio, HasBoth, Carried, Empty, Brings, Carries, Fails, TaskState, Writer, Rescuer, Completer, Keeper}
 use Rattle.run_machine.specs.Runs.{State}
-use Rattle.block_core.specs.Weights.{Weight, Spot, Lined, Rescued, Pending, Brought, total, sum_at, weigh_option, want_weight, ask_weight, doing_weight, line_weight, gathered_weight, carried_weight, task_weight, book_weight}
+use Rattle.block_core.specs.Weights.{Weight, Spot, Lined, Rescued, Pending, Brought, total, sum_at, weigh_option, want_weight, ask_weight, doing_weight, submission_weight, gathered_weight, carried_weight, task_weight, book_weight}
 use Rattle.block_core.proofs.sound.Facts.{DoingFits, TaskFits, Kept}
 use Rattle.block_core.proofs.moves.Totals.{part_of}
 
@@ -65,20 +65,20 @@ module _ (scene : Scene) (s : State) (i : Kept scene s) (u v : Weight) (le : IsU
   bios_under : (spot : Spot) (items : List (Item Pad)) → IsPart scene s (λ w. sum_by (w.bio spot) items) → sum_by (u.bio spot) items ≤ sum_by (v.bio spot) items
   bios_under spot items part = list_under (u.bio spot) (v.bio spot) items (λ item within. le.bio spot item (λ w. omega (arith, within (w.bio spot), part w)))
 
-  line_under : (limit : ℕ) (doing : Doing) (line : Line) → line.doing ≡ doing → DoingFits scene.setup doing line.lists → IsPart scene s (λ w. line_weight w limit line)
-      → line_weight u limit line ≤ line_weight v limit line
-  line_under limit doing line is fits part =
-      let weighs : (w : Weight) → doing_weight w limit line.doing ≡ doing_weight w limit doing = λ w. ap (doing_weight w limit) is in
+  submission_under : (limit : ℕ) (doing : Doing) (submission : Submission) → submission.doing ≡ doing → DoingFits scene.setup doing submission.lists → IsPart scene s (λ w. submission_weight w limit submission)
+      → submission_weight u limit submission ≤ submission_weight v limit submission
+  submission_under limit doing submission is fits part =
+      let weighs : (w : Weight) → doing_weight w limit submission.doing ≡ doing_weight w limit doing = λ w. ap (doing_weight w limit) is in
       omega (
         arith,
         weighs u,
         weighs v,
         by_doing doing fits (λ w. omega (arith, weighs w, part w)),
-        bios_under (Lined limit) line.lists.list0 (λ w. omega (arith, part w)),
-        bios_under (Lined limit) line.lists.list1 (λ w. omega (arith, part w)),
+        bios_under (Lined limit) submission.lists.list0 (λ w. omega (arith, part w)),
+        bios_under (Lined limit) submission.lists.list1 (λ w. omega (arith, part w)),
       )
     where
-      by_doing : (doing : Doing) → DoingFits scene.setup doing line.lists → IsPart scene s (λ w. doing_weight w limit doing) → doing_weight u limit doing ≤ doing_weight v limit doing
+      by_doing : (doing : Doing) → DoingFits scene.setup doing submission.lists → IsPart scene s (λ w. doing_weight w limit doing) → doing_weight u limit doing ≤ doing_weight v limit doing
       by_doing Rests fits part = omega arith
       by_doing (Drives bio ask) fits part = omega (arith, le.bio (Lined limit) bio (λ w. omega (arith, part w)), ask_under ask)
       by_doing (Copies bio master leg want) fits part = omega (arith, le.copy bio master leg fits (λ w. omega (arith, part w)), want_under want)
@@ -96,14 +96,14 @@ module _ (scene : Scene) (s : State) (i : Kept scene s) (u v : Weight) (le : IsU
   carried_under place (Fails breach kept) part = omega arith
 
   task_under : (place : ℕ) (x : TaskState) → TaskFits scene x → IsPart scene s (λ w. task_weight w place x) → task_weight u place x ≤ task_weight v place x
-  task_under place (Writer number todos taken line) fits part =
+  task_under place (Writer number todos taken submission) fits part =
       omega (
         arith,
         le.todo number todos taken (λ w. omega (arith, part w)),
         taken_under taken,
-        line_under 32 line.doing line refl fits.1 (λ w. omega (arith, part w)),
+        submission_under 32 submission.doing submission refl fits.1 (λ w. omega (arith, part w)),
       )
-  task_under place (Rescuer dev line) fits part = line_under dev.0 line.doing line refl fits.1 part
+  task_under place (Rescuer dev submission) fits part = submission_under dev.0 submission.doing submission refl fits.1 part
   task_under place (Completer disk carried) fits part = carried_under place carried part
   task_under place (Keeper keeping) fits part = omega arith
 

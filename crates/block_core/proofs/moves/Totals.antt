@@ -11,12 +11,12 @@ use Rattle.bio_books.specs.Books.{Node, BookState, VectorItem, SlipItem, node_at
 use Rattle.bio_books.specs.Drops.{Closed}
 use Rattle.model_disks.specs.Disks.{DiskState}
 use Rattle.run_machine.specs.Scene.{Setup, Scene, tree_at}
-use Rattle.run_machine.specs.Lines.{Want, Takes, Punts, Links, Ask, ToPush, ToCut, ToRecord, ToMaster, Doing, Rests, Drives, Copies, Breaks, Line}
+use Rattle.run_machine.specs.Submissions.{Want, Takes, Punts, Links, Ask, ToPush, ToCut, ToRecord, ToMaster, Doing, Rests, Drives, Copies, Breaks, Submission}
 use Rattle.run_machine.specs.Tasks.{TaskState, Writer, Rescuer, Completer, Keeper, Todo, Gathered, NoBio, HasBio, HasBoth, Carried, Empty, Brings, Carries, Fails}
 use Rattle.run_machine.specs.Runs.{State}
-use Rattle.block_core.specs.Weights.{Weight, Spot, Lined, Rescued, Pending, Brought, total, sum_at, one, weigh_option, want_weight, ask_weight, doing_weight, line_weight, gathered_weight, carried_weight, task_weight, book_weight, refs, under, legs_left, no_weight}
+use Rattle.block_core.specs.Weights.{Weight, Spot, Lined, Rescued, Pending, Brought, total, sum_at, one, weigh_option, want_weight, ask_weight, doing_weight, submission_weight, gathered_weight, carried_weight, task_weight, book_weight, refs, under, legs_left, no_weight}
 use Rattle.block_core.specs.Rooms.{legs_need, room}
-use Rattle.block_core.proofs.moves.Moves.{HasLine, limit_of}
+use Rattle.block_core.proofs.moves.Moves.{HasSubmission, limit_of}
 use Rattle.block_core.proofs.moves.Sums.{same_or_not, one-same, one-other}
 use Rattle.block_core.specs.Roles.{named}
 use Rattle.block_core.proofs.unrefused.NodeNeeds.{legs_few}
@@ -42,12 +42,12 @@ both_parts scene w s place x writer lt is some =
     let same : task_weight w place (s.task place) ≡ task_weight w place x = ap (task_weight w place) is in
     omega (arith, same, part_of (task_weight w) scene.tasks s.task place lt, part_of (book_weight w) scene.books s.objects.book writer some)
 
-pub line_part : (w : Weight) (place : ℕ) (x : TaskState) (doing : Doing) (lists : TaskLists) → HasLine x doing lists
-    → line_weight w (limit_of x) (record { doing = doing; lists = lists }) ≤ task_weight w place x
-line_part w place (Writer number todo taken line) doing lists h = let q = ap (line_weight w 32) h in omega (arith, q)
-line_part w place (Rescuer dev line) doing lists h = let q = ap (line_weight w dev.0) h in omega (arith, q)
-line_part w place (Completer disk carried) doing lists h = absurd h
-line_part w place (Keeper keeping) doing lists h = absurd h
+pub submission_part : (w : Weight) (place : ℕ) (x : TaskState) (doing : Doing) (lists : TaskLists) → HasSubmission x doing lists
+    → submission_weight w (limit_of x) (record { doing = doing; lists = lists }) ≤ task_weight w place x
+submission_part w place (Writer number todo taken submission) doing lists h = let q = ap (submission_weight w 32) h in omega (arith, q)
+submission_part w place (Rescuer dev submission) doing lists h = let q = ap (submission_weight w dev.0) h in omega (arith, q)
+submission_part w place (Completer disk carried) doing lists h = absurd h
+submission_part w place (Keeper keeping) doing lists h = absurd h
 
 -- one weight is within three others
 pub record IsWithin (u v x y : Weight) : Type 0 where
@@ -88,13 +88,13 @@ module _ (u v x y : Weight) (le : IsWithin u v x y) where
   doing_within limit (Copies bio master leg want) = omega (arith, le.copy bio master leg, want_within want)
   doing_within limit (Breaks breach kept) = omega arith
 
-  line_within : (limit : ℕ) (line : Line) → line_weight u limit line ≤ line_weight v limit line + line_weight x limit line + line_weight y limit line
-  line_within limit line =
+  submission_within : (limit : ℕ) (submission : Submission) → submission_weight u limit submission ≤ submission_weight v limit submission + submission_weight x limit submission + submission_weight y limit submission
+  submission_within limit submission =
       omega (
         arith,
-        doing_within limit line.doing,
-        list_within (u.bio (Lined limit)) (v.bio (Lined limit)) (x.bio (Lined limit)) (y.bio (Lined limit)) line.lists.list0 (le.bio (Lined limit)),
-        list_within (u.bio (Lined limit)) (v.bio (Lined limit)) (x.bio (Lined limit)) (y.bio (Lined limit)) line.lists.list1 (le.bio (Lined limit)),
+        doing_within limit submission.doing,
+        list_within (u.bio (Lined limit)) (v.bio (Lined limit)) (x.bio (Lined limit)) (y.bio (Lined limit)) submission.lists.list0 (le.bio (Lined limit)),
+        list_within (u.bio (Lined limit)) (v.bio (Lined limit)) (x.bio (Lined limit)) (y.bio (Lined limit)) submission.lists.list1 (le.bio (Lined limit)),
       )
 
   taken_within : (taken : Gathered) → gathered_weight u taken ≤ gathered_weight v taken + gathered_weight x taken + gathered_weight y taken
@@ -109,8 +109,8 @@ module _ (u v x y : Weight) (le : IsWithin u v x y) where
   carried_within place (Fails breach kept) = omega arith
 
   task_within : (place : ℕ) (task : TaskState) → task_weight u place task ≤ task_weight v place task + task_weight x place task + task_weight y place task
-  task_within place (Writer number todo taken line) = omega (arith, le.todo number todo taken, taken_within taken, line_within 32 line)
-  task_within place (Rescuer dev line) = line_within dev.0 line
+  task_within place (Writer number todo taken submission) = omega (arith, le.todo number todo taken, taken_within taken, submission_within 32 submission)
+  task_within place (Rescuer dev submission) = submission_within dev.0 submission
   task_within place (Completer disk carried) = carried_within place carried
   task_within place (Keeper keeping) = omega arith
 
@@ -150,8 +150,8 @@ unfolding sum_at
 nothing_at w zero f none = refl
 nothing_at w (suc n) f none = omega (arith, nothing_at w n f none, none n (f n))
 
-line_carries : (limit : ℕ) (line : Line) → line_weight carrying limit line ≡ 0
-line_carries limit line = omega (arith, by_doing line.doing, nothing_in line.lists.list0, nothing_in line.lists.list1)
+submission_carries : (limit : ℕ) (submission : Submission) → submission_weight carrying limit submission ≡ 0
+submission_carries limit submission = omega (arith, by_doing submission.doing, nothing_in submission.lists.list0, nothing_in submission.lists.list1)
   where
     by_want : (want : Want) → want_weight carrying want ≡ 0
     by_want (Takes waits) = refl
@@ -168,13 +168,13 @@ line_carries limit line = omega (arith, by_doing line.doing, nothing_in line.lis
     by_doing (Breaks breach kept) = refl
 
 task_carries : (place : ℕ) (task : TaskState) → task_weight carrying place task ≤ 1
-task_carries place (Writer number todo taken line) = omega (arith, by_taken taken, line_carries 32 line)
+task_carries place (Writer number todo taken submission) = omega (arith, by_taken taken, submission_carries 32 submission)
   where
     by_taken : (taken : Gathered) → gathered_weight carrying taken ≡ 0
     by_taken NoBio = refl
     by_taken (HasBio bio) = refl
     by_taken (HasBoth bio vector) = refl
-task_carries place (Rescuer dev line) = omega (arith, line_carries dev.0 line)
+task_carries place (Rescuer dev submission) = omega (arith, submission_carries dev.0 submission)
 task_carries place (Completer disk Empty) = omega arith
 task_carries place (Completer disk (Brings bio status)) = omega arith
 task_carries place (Completer disk (Carries writer closed)) = omega arith

@@ -10,7 +10,7 @@ use Rattle.bio_lists.specs.Submission.{no_lists}
 use Rattle.bio_books.specs.Books.{VectorItem, told}
 use Rattle.run_machine.specs.Maps.{upd}
 use Rattle.run_machine.specs.Scene.{Scene}
-use Rattle.run_machine.specs.Lines.{Doing, Rests, Drives, Copies, Breaks, rests}
+use Rattle.run_machine.specs.Submissions.{Doing, Rests, Drives, Copies, Breaks, rests}
 use Rattle.run_machine.specs.Tasks.{TaskState, Writer, Todo, Gathered, NoBio, HasBio, HasBoth}
 use Rattle.run_machine.specs.Runs.{State}
 use Rattle.block_core.specs.Paying.{end_told}
@@ -28,7 +28,7 @@ use Rattle.run_machine.specs.Tasks.{request, answered, look_of, with_bio, needs_
 use Rattle.run_machine.specs.Objects.{Serves}
 use Rattle.run_machine.specs.Runs.{IsLet}
 use Rattle.block_core.proofs.moves.StepsTold.{IsMove, touch_in, paid_in, miss_passes, state_is, nothing_told, used_told, miss_pays}
-use Rattle.block_core.proofs.moves.LineSteps.{submits}
+use Rattle.block_core.proofs.moves.SubmissionSteps.{submits}
 
 module _ (scene : Scene) (s : State) (f : Fair scene) (i : Kept scene s) (place : ℕ) (here : place < scene.tasks) (what : What) (new : State) where
   -- the kind of an end that the task tells next

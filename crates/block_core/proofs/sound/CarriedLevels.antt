@@ -8,18 +8,18 @@ use Rattle.bio_books.specs.Books.{VectorItem, SlipItem, Holding, told}
 use Rattle.bio_books.specs.Drops.{closed_of}
 use Rattle.run_machine.specs.Maps.{upd}
 use Rattle.run_machine.specs.Scene.{Scene}
-use Rattle.run_machine.specs.Lines.{Doing, Line}
+use Rattle.run_machine.specs.Submissions.{Doing, Submission}
 use Rattle.run_machine.specs.Tasks.{Carried, Empty, Brings, Carries, Fails, TaskState, Writer, Rescuer, Completer, Keeper}
 use Rattle.run_machine.specs.Runs.{State}
 use Rattle.block_core.specs.Levels.{HoldsLevel, HoldsOneLevel}
 use Rattle.block_core.specs.Weights.{apart, total, weigh_option, task_weight, carried_weight}
-use Rattle.block_core.proofs.moves.Moves.{Move, Can, after, HasLine, with_line, Hands}
+use Rattle.block_core.proofs.moves.Moves.{Move, Can, after, HasSubmission, with_submission, Hands}
 use Rattle.block_core.proofs.moves.Moves as moves
 use Rattle.block_core.proofs.sound.Facts.{Kept}
 use Rattle.block_core.proofs.sound.LevelsKept.{told_on}
 use Rattle.block_core.proofs.sound.OffLevels.{held_off, off_levels}
 use Rattle.block_core.proofs.moves.Totals.{part_of}
-use Rattle.block_core.proofs.sound.TaskLines.{all-upd}
+use Rattle.block_core.proofs.sound.TaskSubmissions.{all-upd}
 use Rattle.block_core.proofs.start.FactsAtStart.{Begins}
 use Rattle.block_core.proofs.stuck.Idle.{node_part}
 
@@ -46,22 +46,22 @@ CarriedOne (Carries writer closed) = HoldsOneLevel closed.held
 CarriedOne (Fails breach kept) = Unit {0}
 
 abbrev pub TaskOne : TaskState → Type 0
-TaskOne (Writer number todo taken line) = Unit {0}
-TaskOne (Rescuer dev line) = Unit {0}
+TaskOne (Writer number todo taken submission) = Unit {0}
+TaskOne (Rescuer dev submission) = Unit {0}
 TaskOne (Completer disk carried) = CarriedOne carried
 TaskOne (Keeper keeping) = Unit {0}
 
 pub begins_one : (scene : Scene) (x : TaskState) → Begins scene x → TaskOne x
-begins_one scene (Writer number todo taken line) b = tt
-begins_one scene (Rescuer dev line) b = tt
+begins_one scene (Writer number todo taken submission) b = tt
+begins_one scene (Rescuer dev submission) b = tt
 begins_one scene (Completer disk carried) b = subst CarriedOne (sym b.1) tt
 begins_one scene (Keeper keeping) b = tt
 
-lined : (x : TaskState) (doing : Doing) (lists : TaskLists) (line : Line) → HasLine x doing lists → TaskOne (with_line x line)
-lined (Writer number todo taken old) doing lists line h = tt
-lined (Rescuer dev old) doing lists line h = tt
-lined (Completer disk carried) doing lists line h = absurd h
-lined (Keeper keeping) doing lists line h = absurd h
+lined : (x : TaskState) (doing : Doing) (lists : TaskLists) (submission : Submission) → HasSubmission x doing lists → TaskOne (with_submission x submission)
+lined (Writer number todo taken old) doing lists submission h = tt
+lined (Rescuer dev old) doing lists submission h = tt
+lined (Completer disk carried) doing lists submission h = absurd h
+lined (Keeper keeping) doing lists submission h = absurd h
 
 -- with one element less
 without_vector : (l : ℕ) (held : Holding) → HoldsLevel l held → HoldsLevel l (record held { vector = None })

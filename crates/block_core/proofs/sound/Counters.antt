@@ -6,17 +6,17 @@ use Rattle.mempool_core.specs.Move.{PoolState, Move as PoolMove, after_move, tak
 use Rattle.bio_books.specs.Books.{Node, BookState, node_at, top_node, child_node, master_node, leg_node, keeping, raised, lowered, told}
 use Rattle.run_machine.specs.Maps.{upd}
 use Rattle.run_machine.specs.Scene.{Scene, tree_at}
-use Rattle.run_machine.specs.Lines.{ToMaster, Drives, legs_of}
+use Rattle.run_machine.specs.Submissions.{ToMaster, Drives, legs_of}
 use Rattle.run_machine.specs.Runs.{State}
 use Rattle.block_core.specs.Weights.{count_of}
 use Rattle.block_core.proofs.moves.Moves.{Move, Can, after, vector_of}
 use Rattle.block_core.proofs.moves.Moves as moves
 use Rattle.block_core.proofs.moves.Sums.{within_book}
 use Rattle.block_core.proofs.moves.Geometry.{IsCopied}
-use Rattle.block_core.proofs.sound.TaskLines.{all-upd}
+use Rattle.block_core.proofs.sound.TaskSubmissions.{all-upd}
 use Rattle.block_core.proofs.sound.Orders.{TaskPlaced, Placed, Ground}
 use Rattle.block_core.proofs.moves.Deltas.{vacant_at}
-use Rattle.block_core.proofs.sound.OrdersKept.{line_placed}
+use Rattle.block_core.proofs.sound.OrdersKept.{submission_placed}
 use Rattle.block_core.proofs.sound.Alive.{nodes_all, books_all, two_all}
 
 pub record Counted (n : ℕ) (s : State) : Type 0 where
@@ -103,7 +103,7 @@ module _ (scene : Scene) (s : State) (g : Ground scene.setup) (p : Placed scene.
   -- links of masters: the new node waits for its legs, of which there are at most eight, and its parent for as many as before
   ends (moves.Mastered place x bio lists slip key node) c =
       let old = was bio.bio.writer bio.bio.node node c.4 in
-      let d = line_placed scene.setup x (Drives bio (ToMaster slip)) lists (subst (TaskPlaced scene.setup) c.1 (p.tasks place)) c.2 in
+      let d = submission_placed scene.setup x (Drives bio (ToMaster slip)) lists (subst (TaskPlaced scene.setup) c.1 (p.tasks place)) c.2 in
       let legs : legs_of (tree_at scene.setup bio.bio.dev) ≤ 8 = by_tree (tree_at scene.setup bio.bio.dev) (g.copied bio.bio d.1.0.0) in
       of_book bio.bio.writer _
       (two_all Small (s.objects.book bio.bio.writer) key bio.bio.node node (master_node node.write bio.bio.node slip (legs_of (tree_at scene.setup bio.bio.dev))) (keeping bio node) c.5 c.4 (nodes bio.bio.writer)

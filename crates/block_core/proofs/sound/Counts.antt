@@ -12,15 +12,15 @@ use Rattle.bio_records.specs.Items.{Item}
 use Rattle.bio_lists.specs.Submission.{submitted}
 use Rattle.bio_books.specs.Books.{BookState, VectorItem, node_at, top_node, child_node, master_node, leg_node, keeping, raised, lowered, told}
 use Rattle.run_machine.specs.Scene.{Setup, Scene, tree_at}
-use Rattle.run_machine.specs.Lines.{Want, Links, Copies, rests, settled, first_length, legs_of, leg_at}
+use Rattle.run_machine.specs.Submissions.{Want, Links, Copies, rests, settled, first_length, legs_of, leg_at}
 use Rattle.run_machine.specs.Tasks.{TaskState, Writer, Rescuer, Completer, Keeper, Todo, Carried, Empty, Brings, Carries, Fails}
 use Rattle.run_machine.specs.Runs.{State}
-use Rattle.block_core.specs.Weights.{total, one, task_weight, line_weight, carried_weight, refs, names_node, under, count_of}
-use Rattle.block_core.proofs.moves.Moves.{Move, Can, after, lost, gained, limit_of, HasLine, gathered_of, filled_of, vector_of, cut_lists, Tells}
+use Rattle.block_core.specs.Weights.{total, one, task_weight, submission_weight, carried_weight, refs, names_node, under, count_of}
+use Rattle.block_core.proofs.moves.Moves.{Move, Can, after, lost, gained, limit_of, HasSubmission, gathered_of, filled_of, vector_of, cut_lists, Tells}
 use Rattle.block_core.proofs.moves.Moves as moves
 use Rattle.block_core.proofs.moves.Listed.{IsBlind, goes_weight, first_weight, landed_same}
 use Rattle.block_core.proofs.moves.Deltas.{delta}
-use Rattle.block_core.proofs.sound.Facts.{LineFits, TaskFits, Fair, Kept}
+use Rattle.block_core.proofs.sound.Facts.{SubmissionFits, TaskFits, Fair, Kept}
 use Rattle.block_core.proofs.sound.SumParts.{cut_weight, copies_weight, unless}
 use Rattle.block_core.proofs.moves.BookMaps.{made, became, chained}
 
@@ -34,7 +34,7 @@ begun_names g w k is writer todo item None key = let q = ap (λ h. sum_by h (fil
 begun_names g w k is writer todo item (Some vector) key = let q = ap (λ h. sum_by h (filled_of writer todo item (Some vector) key ∷ [])) is in omega (arith, q, sum_by-cons (names_node w k) (filled_of writer todo item (Some vector) key) [])
 
 begun_refs : (setup : Setup) (w k writer : ℕ) (todo : Todo) (later : List Todo) (item : Item Pad) (vector : Option VectorItem) (key : ℕ)
-    → line_weight (refs setup w k) 32 (settled setup (filled_of writer todo item vector key ∷ []))
+    → submission_weight (refs setup w k) 32 (settled setup (filled_of writer todo item vector key ∷ []))
     ≡ task_weight (refs setup w k) 0 (Writer writer (todo ∷ later) (gathered_of item vector) rests) + one writer w * one key k
 begun_refs setup w k writer todo later item None key =
     omega (arith, first_weight (refs setup w k) (blind_refs setup w k) 32 setup (filled_of writer todo item None key ∷ []), begun_names (names_node w k) w k refl writer todo item None key)
@@ -71,12 +71,12 @@ leg_named w k bio hand leg key (Mirrored number sizes members) lt = refl
 
 -- a task that makes a leg has one to make
 pub makes_leg : (scene : Scene) (s : State) (place : ℕ) (x : TaskState) (bio : Bio) (master leg : ℕ) (want : Want) (lists : TaskLists) → Kept scene s → s.task place ≡ x
-    → HasLine x (Copies bio master leg want) lists → leg < legs_of (tree_at scene.setup bio.dev)
+    → HasSubmission x (Copies bio master leg want) lists → leg < legs_of (tree_at scene.setup bio.dev)
 makes_leg scene s place x bio master leg want lists i is h = by_task x h (subst (TaskFits scene) is (i.tasks place))
   where
-    by_task : (x : TaskState) → HasLine x (Copies bio master leg want) lists → TaskFits scene x → leg < legs_of (tree_at scene.setup bio.dev)
-    by_task (Writer number todo taken line) h fits = subst (LineFits scene.setup) h fits.1
-    by_task (Rescuer dev line) h fits = subst (LineFits scene.setup) h fits.1
+    by_task : (x : TaskState) → HasSubmission x (Copies bio master leg want) lists → TaskFits scene x → leg < legs_of (tree_at scene.setup bio.dev)
+    by_task (Writer number todo taken submission) h fits = subst (SubmissionFits scene.setup) h fits.1
+    by_task (Rescuer dev submission) h fits = subst (SubmissionFits scene.setup) h fits.1
     by_task (Completer disk carried) h fits = absurd h
     by_task (Keeper keeping) h fits = absurd h
 

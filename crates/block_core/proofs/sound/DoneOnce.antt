@@ -8,7 +8,7 @@ use Rattle.bio_records.specs.Items.{Item}
 use Rattle.bio_books.specs.Books.{VectorItem, Holding, told}
 use Rattle.bio_books.specs.Drops.{Closed}
 use Rattle.run_machine.specs.Scene.{Setup, Scene}
-use Rattle.run_machine.specs.Lines.{Takes, Punts as WantsPunt, Links, ToPush, ToCut, ToRecord, ToMaster, Doing, Rests, Drives, Copies, Breaks}
+use Rattle.run_machine.specs.Submissions.{Takes, Punts as WantsPunt, Links, ToPush, ToCut, ToRecord, ToMaster, Doing, Rests, Drives, Copies, Breaks}
 use Rattle.run_machine.specs.Tasks.{Completer, Todo, Carried, Empty, Brings, Carries, Fails}
 use Rattle.run_machine.specs.Runs.{State}
 use Rattle.block_core.specs.Weights.{Weight, total, one}
@@ -17,7 +17,7 @@ use Rattle.block_core.proofs.moves.Moves.{Move, IsTaking, place_of, Can, after, 
 use Rattle.block_core.proofs.moves.Moves as moves
 use Rattle.run_machine.specs.declared.event.What.{What}
 use Rattle.run_machine.specs.Events.{what_of, resize_of}
-use Rattle.run_machine.specs.Lines.{line_request}
+use Rattle.run_machine.specs.Submissions.{submission_request}
 use Rattle.run_machine.specs.Requests as requests
 use Rattle.run_machine.specs.Requests.{Request, Reply}
 use Rattle.run_machine.specs.Tasks.{request, closed_request, with_bio, needs_vector}
@@ -26,8 +26,8 @@ use Rattle.bio_books.specs.Drops as end
 use Rattle.block_core.specs.Dones.{done_in}
 use Rattle.block_core.specs.Rounds.{by_stage}
 use Rattle.block_core.proofs.sound.EventStages.{ended_worth, to_come_before, to_come_after, staged as worth_staged}
-use Rattle.block_core.proofs.sound.TaskLines.{wants_busy}
-use Rattle.block_core.proofs.moves.LineSteps.{asks_line}
+use Rattle.block_core.proofs.sound.TaskSubmissions.{wants_busy}
+use Rattle.block_core.proofs.moves.SubmissionSteps.{asks_submission}
 
 -- 1 where a request tells this write done
 abbrev pub asked : ℕ → Request → ℕ
@@ -95,18 +95,18 @@ told_done w requests.LookLeft reply what told = none_told what told
 told_done w requests.Rest reply what told = none_told what told
 
 -- no submission tells a write done
-line_asks_none : (w : ℕ) (setup : Setup) (doing : Doing) (lists : TaskLists) → asked w (line_request setup doing lists) ≡ 0
-line_asks_none w setup Rests lists = refl
-line_asks_none w setup (Breaks breach kept) lists = refl
-line_asks_none w setup (Drives bio ToPush) lists = refl
-line_asks_none w setup (Drives bio (ToCut (Takes waits))) lists = refl
-line_asks_none w setup (Drives bio (ToCut WantsPunt)) lists = refl
-line_asks_none w setup (Drives bio (ToCut (Links hand))) lists = refl
-line_asks_none w setup (Drives bio ToRecord) lists = refl
-line_asks_none w setup (Drives bio (ToMaster slip)) lists = refl
-line_asks_none w setup (Copies bio master leg (Takes waits)) lists = refl
-line_asks_none w setup (Copies bio master leg WantsPunt) lists = refl
-line_asks_none w setup (Copies bio master leg (Links hand)) lists = refl
+submission_asks_none : (w : ℕ) (setup : Setup) (doing : Doing) (lists : TaskLists) → asked w (submission_request setup doing lists) ≡ 0
+submission_asks_none w setup Rests lists = refl
+submission_asks_none w setup (Breaks breach kept) lists = refl
+submission_asks_none w setup (Drives bio ToPush) lists = refl
+submission_asks_none w setup (Drives bio (ToCut (Takes waits))) lists = refl
+submission_asks_none w setup (Drives bio (ToCut WantsPunt)) lists = refl
+submission_asks_none w setup (Drives bio (ToCut (Links hand))) lists = refl
+submission_asks_none w setup (Drives bio ToRecord) lists = refl
+submission_asks_none w setup (Drives bio (ToMaster slip)) lists = refl
+submission_asks_none w setup (Copies bio master leg (Takes waits)) lists = refl
+submission_asks_none w setup (Copies bio master leg WantsPunt) lists = refl
+submission_asks_none w setup (Copies bio master leg (Links hand)) lists = refl
 
 taking_asks_none : (w : ℕ) (request : Request) → IsTaking request → asked w request ≡ 0
 taking_asks_none w (requests.TakeBio set waits) h = refl
@@ -148,17 +148,17 @@ asked_by scene s w (moves.TakesVector place writer todo later item move) c = ap 
     with_vector true = refl
     with_vector false = refl
 asked_by scene s w (moves.TakesSub place x doing lists dev waits move) c =
-    ap (λ x. asked w (request scene.setup x)) c.1 ∙ ap (asked w) (asks_line scene.setup x doing lists c.2 (wants_busy doing dev (Takes waits) c.3)) ∙ line_asks_none w scene.setup doing lists
+    ap (λ x. asked w (request scene.setup x)) c.1 ∙ ap (asked w) (asks_submission scene.setup x doing lists c.2 (wants_busy doing dev (Takes waits) c.3)) ∙ submission_asks_none w scene.setup doing lists
 asked_by scene s w (moves.TakesSlip place x bio lists move) c =
-    ap (λ x. asked w (request scene.setup x)) c.1 ∙ ap (asked w) (asks_line scene.setup x (Drives bio ToRecord) lists c.2 tt)
+    ap (λ x. asked w (request scene.setup x)) c.1 ∙ ap (asked w) (asks_submission scene.setup x (Drives bio ToRecord) lists c.2 tt)
 asked_by scene s w (moves.MissesOne place x number used) c = ap (λ x. asked w (request scene.setup x)) c.1 ∙ taking_asks_none w (request scene.setup x) c.3
 asked_by scene s w (moves.MissesTry place x doing lists dev used) c =
-    ap (λ x. asked w (request scene.setup x)) c.1 ∙ ap (asked w) (asks_line scene.setup x doing lists c.2 (wants_busy doing dev (Takes false) c.3)) ∙ line_asks_none w scene.setup doing lists
+    ap (λ x. asked w (request scene.setup x)) c.1 ∙ ap (asked w) (asks_submission scene.setup x doing lists c.2 (wants_busy doing dev (Takes false) c.3)) ∙ submission_asks_none w scene.setup doing lists
 asked_by scene s w (moves.Punts place x doing lists dev) c =
-    ap (λ x. asked w (request scene.setup x)) c.1 ∙ ap (asked w) (asks_line scene.setup x doing lists c.2 (wants_busy doing dev WantsPunt c.3)) ∙ line_asks_none w scene.setup doing lists
+    ap (λ x. asked w (request scene.setup x)) c.1 ∙ ap (asked w) (asks_submission scene.setup x doing lists c.2 (wants_busy doing dev WantsPunt c.3)) ∙ submission_asks_none w scene.setup doing lists
 asked_by scene s w (moves.Pops place dev bio bios) c = ap (λ x. asked w (request scene.setup x)) c.1
 asked_by scene s w (moves.Pushes place x bio lists) c =
-    ap (λ x. asked w (request scene.setup x)) c.1 ∙ ap (asked w) (asks_line scene.setup x (Drives bio ToPush) lists c.2 tt)
+    ap (λ x. asked w (request scene.setup x)) c.1 ∙ ap (asked w) (asks_submission scene.setup x (Drives bio ToPush) lists c.2 tt)
 asked_by scene s w (moves.Completed place disk index bio status new) c = ap (λ x. asked w (request scene.setup x)) c.1
 asked_by scene s w (moves.Begins place writer todo later item None key) c = ap (λ x. asked w (request scene.setup x)) c.1 ∙ with_none (needs_vector todo.write)
   where
@@ -167,11 +167,11 @@ asked_by scene s w (moves.Begins place writer todo later item None key) c = ap (
     with_none false = refl
 asked_by scene s w (moves.Begins place writer todo later item (Some vector) key) c = ap (λ x. asked w (request scene.setup x)) c.1
 asked_by scene s w (moves.Chained place x bio lists hand number kind sizes members key node) c =
-    ap (λ x. asked w (request scene.setup x)) c.1 ∙ ap (asked w) (asks_line scene.setup x (Drives bio (ToCut (Links hand))) lists c.2 tt)
+    ap (λ x. asked w (request scene.setup x)) c.1 ∙ ap (asked w) (asks_submission scene.setup x (Drives bio (ToCut (Links hand))) lists c.2 tt)
 asked_by scene s w (moves.Mastered place x bio lists slip key node) c =
-    ap (λ x. asked w (request scene.setup x)) c.1 ∙ ap (asked w) (asks_line scene.setup x (Drives bio (ToMaster slip)) lists c.2 tt)
+    ap (λ x. asked w (request scene.setup x)) c.1 ∙ ap (asked w) (asks_submission scene.setup x (Drives bio (ToMaster slip)) lists c.2 tt)
 asked_by scene s w (moves.Legged place x bio lists master leg hand key node) c =
-    ap (λ x. asked w (request scene.setup x)) c.1 ∙ ap (asked w) (asks_line scene.setup x (Copies bio master leg (Links hand)) lists c.2 tt)
+    ap (λ x. asked w (request scene.setup x)) c.1 ∙ ap (asked w) (asks_submission scene.setup x (Copies bio master leg (Links hand)) lists c.2 tt)
 asked_by scene s w (moves.Told place disk carried writer key status part node) c =
     ap (λ x. asked w (request scene.setup x)) c.1 ∙ tells_asks_none w disk carried writer key status part scene.setup c.2
 asked_by scene s w (moves.Closes place disk carried writer key status part node) c =

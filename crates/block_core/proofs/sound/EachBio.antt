@@ -8,11 +8,11 @@ use Rattle.bio_records.specs.declared.bio.Pad.{Pad}
 use Rattle.bio_records.specs.Items.{Item}
 use Rattle.model_disks.specs.Disks.{DiskState}
 use Rattle.run_machine.specs.Scene.{Scene}
-use Rattle.run_machine.specs.Lines.{Doing, Rests, Drives, Copies, Breaks, Line}
+use Rattle.run_machine.specs.Submissions.{Doing, Rests, Drives, Copies, Breaks, Submission}
 use Rattle.run_machine.specs.Tasks.{Carried, Empty, Brings, Carries, Fails, TaskState, Writer, Rescuer, Completer, Keeper}
 use Rattle.run_machine.specs.Runs.{State}
-use Rattle.block_core.specs.Weights.{Weight, Spot, Lined, Rescued, Pending, Brought, total, doing_weight, line_weight, task_weight, carried_weight}
-use Rattle.block_core.specs.EachBio.{DoingHas, LineHas, CarriedHas, TaskHas, EachBio, DoingCopies, TaskCopies, EachCopied}
+use Rattle.block_core.specs.Weights.{Weight, Spot, Lined, Rescued, Pending, Brought, total, doing_weight, submission_weight, task_weight, carried_weight}
+use Rattle.block_core.specs.EachBio.{DoingHas, SubmissionHas, CarriedHas, TaskHas, EachBio, DoingCopies, TaskCopies, EachCopied}
 use Rattle.block_core.proofs.moves.Totals.{part_of}
 
 module _ (P : Item Pad → Type 0) (w : Weight) (is : (spot : Spot) (item : Item Pad) → w.bio spot item ≡ 0 → P item) where
@@ -27,11 +27,11 @@ module _ (P : Item Pad → Type 0) (w : Weight) (is : (spot : Spot) (item : Item
   of_doing limit (Copies bio master leg want) none = tt
   of_doing limit (Breaks breach kept) none = tt
 
-  of_line : (limit : ℕ) (line : Line) → line_weight w limit line ≡ 0 → LineHas P line
-  of_line limit line none = (
-    of_doing limit line.doing (omega (arith, none)),
-    of_list (Lined limit) line.lists.list0 (omega (arith, none)),
-    of_list (Lined limit) line.lists.list1 (omega (arith, none)),
+  of_submission : (limit : ℕ) (submission : Submission) → submission_weight w limit submission ≡ 0 → SubmissionHas P submission
+  of_submission limit submission none = (
+    of_doing limit submission.doing (omega (arith, none)),
+    of_list (Lined limit) submission.lists.list0 (omega (arith, none)),
+    of_list (Lined limit) submission.lists.list1 (omega (arith, none)),
   )
 
   of_carried : (place : ℕ) (carried : Carried) → carried_weight w place carried ≡ 0 → CarriedHas P carried
@@ -41,8 +41,8 @@ module _ (P : Item Pad → Type 0) (w : Weight) (is : (spot : Spot) (item : Item
   of_carried place (Fails breach kept) none = tt
 
   of_task : (place : ℕ) (x : TaskState) → task_weight w place x ≡ 0 → TaskHas P x
-  of_task place (Writer number todo taken line) none = of_line 32 line (omega (arith, none))
-  of_task place (Rescuer dev line) none = of_line dev.0 line none
+  of_task place (Writer number todo taken submission) none = of_submission 32 submission (omega (arith, none))
+  of_task place (Rescuer dev submission) none = of_submission dev.0 submission none
   of_task place (Completer disk carried) none = of_carried place carried none
   of_task place (Keeper keeping) none = tt
 
@@ -64,8 +64,8 @@ module _ (P : Bio → ℕ → Type 0) (w : Weight) (is : (bio : Bio) (master leg
   of_copying limit (Breaks breach kept) none = tt
 
   of_copier : (place : ℕ) (x : TaskState) → task_weight w place x ≡ 0 → TaskCopies P x
-  of_copier place (Writer number todo taken line) none = of_copying 32 line.doing (omega (arith, none))
-  of_copier place (Rescuer dev line) none = of_copying dev.0 line.doing (omega (arith, none))
+  of_copier place (Writer number todo taken submission) none = of_copying 32 submission.doing (omega (arith, none))
+  of_copier place (Rescuer dev submission) none = of_copying dev.0 submission.doing (omega (arith, none))
   of_copier place (Completer disk carried) none = tt
   of_copier place (Keeper keeping) none = tt
 

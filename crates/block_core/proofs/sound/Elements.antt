@@ -13,20 +13,20 @@ use Rattle.stack_base.specs.declared.ids.Status.{Status}
 use Rattle.bio_books.specs.Books.{Node, VectorItem, SlipItem, Holding, node_at, later_part}
 use Rattle.model_disks.specs.Disks.{DiskState}
 use Rattle.run_machine.specs.Scene.{Setup, Scene, tree_at}
-use Rattle.run_machine.specs.Lines.{Takes, Punts, Links, ToPush, ToCut, ToRecord, ToMaster, Doing, Rests, Drives, Copies, Breaks, Line, rests, copies, first_length, landed, legs_of, leg_at}
+use Rattle.run_machine.specs.Submissions.{Takes, Punts, Links, ToPush, ToCut, ToRecord, ToMaster, Doing, Rests, Drives, Copies, Breaks, Submission, rests, copies, first_length, landed, legs_of, leg_at}
 use Rattle.run_machine.specs.Tasks.{TaskState, Writer, Rescuer, Completer, Keeper, Todo, Gathered, NoBio, HasBio, HasBoth, Carried, Empty, Brings, Carries, Fails}
 use Rattle.run_machine.specs.Runs.{State}
-use Rattle.block_core.specs.Weights.{Weight, Spot, Lined, Rescued, Pending, total, sum_at, weigh_option, doing_weight, line_weight, gathered_weight, carried_weight, task_weight, book_weight, elements_of_pool, holding_elements, one, no_weight}
+use Rattle.block_core.specs.Weights.{Weight, Spot, Lined, Rescued, Pending, total, sum_at, weigh_option, doing_weight, submission_weight, gathered_weight, carried_weight, task_weight, book_weight, elements_of_pool, holding_elements, one, no_weight}
 use Rattle.block_core.specs.Charges.{there}
 use Rattle.block_core.specs.Rooms.{to_open, todo_need, legs_need}
-use Rattle.block_core.proofs.moves.Moves.{Move, Can, after, lost, gained, limit_of, HasLine, Tells, gathered_of, filled_of, cut_lists}
+use Rattle.block_core.proofs.moves.Moves.{Move, Can, after, lost, gained, limit_of, HasSubmission, Tells, gathered_of, filled_of, cut_lists}
 use Rattle.block_core.proofs.moves.Moves as moves
-use Rattle.block_core.proofs.sound.Facts.{DoingFits, LineFits, TaskFits, Kept}
+use Rattle.block_core.proofs.sound.Facts.{DoingFits, SubmissionFits, TaskFits, Kept}
 use Rattle.block_core.proofs.moves.Geometry.{IsThere}
-use Rattle.block_core.proofs.sound.Orders.{Each, IsOwn, DoingPlaced, LinePlaced, TodoThere, TaskPlaced, Placed, Ground}
+use Rattle.block_core.proofs.sound.Orders.{Each, IsOwn, DoingPlaced, SubmissionPlaced, TodoThere, TaskPlaced, Placed, Ground}
 use Rattle.block_core.proofs.moves.Deltas.{delta}
-use Rattle.block_core.proofs.sound.TaskLines.{line_fits}
-use Rattle.block_core.proofs.sound.OrdersKept.{line_placed}
+use Rattle.block_core.proofs.sound.TaskSubmissions.{submission_fits}
+use Rattle.block_core.proofs.sound.OrdersKept.{submission_placed}
 use Rattle.block_core.proofs.sound.SumParts.{cut_weight, unless_less}
 use Rattle.block_core.proofs.unrefused.NodeNeeds.{Needs, mirror_need, cut_need, legs_on, legs_few}
 use Rattle.block_core.proofs.moves.Landings.{AreThere, IsLanding, settled_there, goes_there, copies_there, all_there, none_there, cut_there, leg_there}
@@ -64,7 +64,7 @@ landed_worth : (setup : Setup) → Needs setup → (limit : ℕ) (item : Item Pa
 landed_worth setup n limit item is = ap (λ v. 1 + v) (n.lands item.bio is)
 
 copies_worth : (setup : Setup) (n : Needs setup) (limit : ℕ) (lists : TaskLists) (bio : Bio) (master leg : ℕ) → AreThere setup lists.list0 → AreThere setup lists.list1
-    → line_weight (worth setup) limit (copies setup lists bio master leg)
+    → submission_weight (worth setup) limit (copies setup lists bio master leg)
     ≤ legs_need setup bio leg + sum_by ((worth setup).bio (Lined limit)) lists.list0 + sum_by ((worth setup).bio (Lined limit)) lists.list1
 copies_worth setup n limit lists bio master leg first second = omega (
   arith,
@@ -89,8 +89,8 @@ module _ (scene : Scene) (s : State) (g : Ground scene.setup) (n : Needs scene.s
   abbrev Fits : Move → Type 0
   Fits m = gained scene (worth scene.setup) s m ≤ lost scene (worth scene.setup) s m
 
-  has : (place : ℕ) (x : TaskState) (doing : Doing) (lists : TaskLists) → s.task place ≡ x → HasLine x doing lists → DoingPlaced scene.setup (limit_of x) doing lists
-  has place x doing lists is h = line_placed scene.setup x doing lists (subst (TaskPlaced scene.setup) is (a.tasks place)) h
+  has : (place : ℕ) (x : TaskState) (doing : Doing) (lists : TaskLists) → s.task place ≡ x → HasSubmission x doing lists → DoingPlaced scene.setup (limit_of x) doing lists
+  has place x doing lists is h = submission_placed scene.setup x doing lists (subst (TaskPlaced scene.setup) is (a.tasks place)) h
 
   lands : IsLanding scene.setup (worth scene.setup)
   lands = landed_worth scene.setup n
@@ -144,7 +144,7 @@ module _ (scene : Scene) (s : State) (g : Ground scene.setup) (n : Needs scene.s
       omega (arith, copies_worth scene.setup n (limit_of x) lists bio.bio key 0 (none_there scene.setup (limit_of x) lists d.0) (all_there scene.setup (limit_of x) lists.list1 d.1.1), part)
   fits (moves.Legged place x bio lists master leg hand key node) c =
       let d = has place x (Copies bio master leg (Links hand)) lists c.1 c.2 in
-      let lt = line_fits scene x (Copies bio master leg (Links hand)) lists (subst (TaskFits scene) c.1 (i.tasks place)) c.2 in
+      let lt = submission_fits scene x (Copies bio master leg (Links hand)) lists (subst (TaskFits scene) c.1 (i.tasks place)) c.2 in
       let item = leg_at bio hand leg key (tree_at scene.setup bio.dev) in
       let more = submitted item lists in
       let first = leg_there scene.setup (limit_of x) g bio hand lists master leg key d lt in
@@ -190,8 +190,8 @@ module _ (scene : Scene) (s : State) (g : Ground scene.setup) (n : Needs scene.s
   bios_out : (q : ℕ) (spot : Spot) (bios : List (Item Pad)) → sum_by ((elements_of_pool q).bio spot) bios ≤ sum_by ((worth scene.setup).bio spot) bios
   bios_out q spot bios = sum_by-le-sum_by ((elements_of_pool q).bio spot) ((worth scene.setup).bio spot) bios (λ item. omega (arith, few item.share q))
 
-  line_out : (q limit : ℕ) (line : Line) → LineFits scene.setup line → LinePlaced scene.setup limit line → line_weight (elements_of_pool q) limit line ≤ line_weight (worth scene.setup) limit line
-  line_out q limit line fit d = omega (arith, doing_out q limit line.doing line.lists fit d, bios_out q (Lined limit) line.lists.list0, bios_out q (Lined limit) line.lists.list1)
+  submission_out : (q limit : ℕ) (submission : Submission) → SubmissionFits scene.setup submission → SubmissionPlaced scene.setup limit submission → submission_weight (elements_of_pool q) limit submission ≤ submission_weight (worth scene.setup) limit submission
+  submission_out q limit submission fit d = omega (arith, doing_out q limit submission.doing submission.lists fit d, bios_out q (Lined limit) submission.lists.list0, bios_out q (Lined limit) submission.lists.list1)
 
   held_out : (q : ℕ) (held : Holding) → holding_elements q held ≤ held_count held
   held_out q held = omega (arith, by_bio held.bio, by_vector held.vector, by_slip held.slip)
@@ -221,8 +221,8 @@ module _ (scene : Scene) (s : State) (g : Ground scene.setup) (n : Needs scene.s
   hand_free (HasBoth bio vector) = refl
 
   task_out : (q place : ℕ) (x : TaskState) → TaskFits scene x → TaskPlaced scene.setup x → task_weight (elements_of_pool q) place x ≤ task_weight (worth scene.setup) place x
-  task_out q place (Writer number todo taken line) fit t = omega (arith, taken_out q todo taken, hand_free taken, line_out q 32 line fit.1 t.1)
-  task_out q place (Rescuer dev line) fit t = line_out q dev.0 line fit.1 t
+  task_out q place (Writer number todo taken submission) fit t = omega (arith, taken_out q todo taken, hand_free taken, submission_out q 32 submission fit.1 t.1)
+  task_out q place (Rescuer dev submission) fit t = submission_out q dev.0 submission fit.1 t
   task_out q place (Completer disk Empty) fit t = omega arith
   task_out q place (Completer disk (Brings bio status)) fit t = omega (arith, few bio.share q)
   task_out q place (Completer disk (Carries writer closed)) fit t = held_out q closed.held

@@ -10,11 +10,11 @@ use Rattle.bio_books.specs.declared.node.Role.{Role}
 use Rattle.bio_books.specs.declared.node.Role.TheVariants as role
 use Rattle.bio_books.specs.Books.{parent_of}
 use Rattle.run_machine.specs.Scene.{Scene, tree_at}
-use Rattle.run_machine.specs.Lines.{Takes, Punts as WantsPunt, Links, ToPush, ToCut, ToRecord, ToMaster, Doing, Rests, Drives, Copies, Breaks, Line, settled, goes_on, copies, first_length, leg_at, punted}
+use Rattle.run_machine.specs.Submissions.{Takes, Punts as WantsPunt, Links, ToPush, ToCut, ToRecord, ToMaster, Doing, Rests, Drives, Copies, Breaks, Submission, settled, goes_on, copies, first_length, leg_at, punted}
 use Rattle.run_machine.specs.Tasks.{Todo, Gathered, NoBio, HasBio, HasBoth, Carried, Empty, Brings, Carries, Fails}
 use Rattle.run_machine.specs.Objects.{clear_bio, clear_vector}
 use Rattle.run_machine.specs.Runs.{State}
-use Rattle.block_core.specs.Weights.{Weight, total, doing_weight, line_weight, carried_weight}
+use Rattle.block_core.specs.Weights.{Weight, total, doing_weight, submission_weight, carried_weight}
 use Rattle.block_core.proofs.moves.Moves.{Move, Can, after, limit_of, gathered_of, filled_of, cut_lists, Tells}
 use Rattle.block_core.proofs.moves.Moves as moves
 use Rattle.block_core.proofs.moves.Deltas.{delta}
@@ -56,8 +56,8 @@ module _ (f : List Todo → Gathered → ℕ) (worth : ℕ → ℕ) where
   abbrev w : Weight
   w = by_stage f worth
 
-  pub line_zero : (limit : ℕ) (line : Line) → line_weight w limit line ≡ 0
-  line_zero limit line = omega (arith, doing_zero line.doing, zeros line.lists.list0, zeros line.lists.list1)
+  pub submission_zero : (limit : ℕ) (submission : Submission) → submission_weight w limit submission ≡ 0
+  submission_zero limit submission = omega (arith, doing_zero submission.doing, zeros submission.lists.list0, zeros submission.lists.list1)
     where
       doing_zero : (doing : Doing) → doing_weight w limit doing ≡ 0
       doing_zero Rests = refl
@@ -91,39 +91,39 @@ module _ (f : List Todo → Gathered → ℕ) (worth : ℕ → ℕ) where
   staged scene s (moves.MissesTry place x doing lists dev used) c = omega (arith, delta scene w s (moves.MissesTry place x doing lists dev used) c)
   staged scene s (moves.Punts place x doing lists dev) c =
       omega (arith, delta scene w s (moves.Punts place x doing lists dev) c, zeros (punted dev lists))
-  staged scene s (moves.Pops place dev bio bios) c = omega (arith, delta scene w s (moves.Pops place dev bio bios) c, line_zero dev.0 (settled scene.setup (bio ∷ [])))
+  staged scene s (moves.Pops place dev bio bios) c = omega (arith, delta scene w s (moves.Pops place dev bio bios) c, submission_zero dev.0 (settled scene.setup (bio ∷ [])))
   staged scene s (moves.Pushes place x bio lists) c =
       omega (
         arith,
         delta scene w s (moves.Pushes place x bio lists) c,
-        line_zero (limit_of x) (goes_on scene.setup bio.bio.dev lists),
-        line_zero (limit_of x) (record { doing = Drives bio ToPush; lists = lists }),
+        submission_zero (limit_of x) (goes_on scene.setup bio.bio.dev lists),
+        submission_zero (limit_of x) (record { doing = Drives bio ToPush; lists = lists }),
       )
   staged scene s (moves.Completed place disk index bio status new) c = omega (arith, delta scene w s (moves.Completed place disk index bio status new) c)
   staged scene s (moves.Begins place writer todo later item None key) c =
-      omega (arith, delta scene w s (moves.Begins place writer todo later item None key) c, line_zero 32 (settled scene.setup (filled_of writer todo item None key ∷ [])))
+      omega (arith, delta scene w s (moves.Begins place writer todo later item None key) c, submission_zero 32 (settled scene.setup (filled_of writer todo item None key ∷ [])))
   staged scene s (moves.Begins place writer todo later item (Some vector) key) c =
-      omega (arith, delta scene w s (moves.Begins place writer todo later item (Some vector) key) c, line_zero 32 (settled scene.setup (filled_of writer todo item (Some vector) key ∷ [])))
+      omega (arith, delta scene w s (moves.Begins place writer todo later item (Some vector) key) c, submission_zero 32 (settled scene.setup (filled_of writer todo item (Some vector) key ∷ [])))
   staged scene s (moves.Chained place x bio lists hand number kind sizes members key node) c =
       omega (
         arith,
         delta scene w s (moves.Chained place x bio lists hand number kind sizes members key node) c,
-        line_zero (limit_of x) (goes_on scene.setup bio.bio.dev (cut_lists bio lists hand (first_length kind sizes bio.bio.range) key kind sizes members)),
-        line_zero (limit_of x) (record { doing = Drives bio (ToCut (Links hand)); lists = lists }),
+        submission_zero (limit_of x) (goes_on scene.setup bio.bio.dev (cut_lists bio lists hand (first_length kind sizes bio.bio.range) key kind sizes members)),
+        submission_zero (limit_of x) (record { doing = Drives bio (ToCut (Links hand)); lists = lists }),
       )
   staged scene s (moves.Mastered place x bio lists slip key node) c =
       omega (
         arith,
         delta scene w s (moves.Mastered place x bio lists slip key node) c,
-        line_zero (limit_of x) (copies scene.setup lists bio.bio key 0),
-        line_zero (limit_of x) (record { doing = Drives bio (ToMaster slip); lists = lists }),
+        submission_zero (limit_of x) (copies scene.setup lists bio.bio key 0),
+        submission_zero (limit_of x) (record { doing = Drives bio (ToMaster slip); lists = lists }),
       )
   staged scene s (moves.Legged place x bio lists master leg hand key node) c =
       omega (
         arith,
         delta scene w s (moves.Legged place x bio lists master leg hand key node) c,
-        line_zero (limit_of x) (copies scene.setup (submitted (leg_at bio hand leg key (tree_at scene.setup bio.dev)) lists) bio master (leg + 1)),
-        line_zero (limit_of x) (record { doing = Copies bio master leg (Links hand); lists = lists }),
+        submission_zero (limit_of x) (copies scene.setup (submitted (leg_at bio hand leg key (tree_at scene.setup bio.dev)) lists) bio master (leg + 1)),
+        submission_zero (limit_of x) (record { doing = Copies bio master leg (Links hand); lists = lists }),
       )
   staged scene s (moves.Told place disk carried writer key status part node) c =
       omega (arith, delta scene w s (moves.Told place disk carried writer key status part node) c, carried_child place carried writer key status part c.2)

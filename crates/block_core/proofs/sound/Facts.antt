@@ -10,7 +10,7 @@ use Rattle.bio_books.specs.declared.node.Role.{Role}
 use Rattle.bio_books.specs.declared.node.Role.TheVariants as role
 use Rattle.bio_books.specs.Books.{Node, node_at, keeping}
 use Rattle.run_machine.specs.Scene.{Setup, Scene, tree_at}
-use Rattle.run_machine.specs.Lines.{Ask, ToPush, ToCut, ToRecord, ToMaster, Doing, Rests, Drives, Copies, Breaks, Line, rests, legs_of}
+use Rattle.run_machine.specs.Submissions.{Ask, ToPush, ToCut, ToRecord, ToMaster, Doing, Rests, Drives, Copies, Breaks, Submission, rests, legs_of}
 use Rattle.run_machine.specs.Tasks.{TaskState, Writer, Rescuer, Completer, Keeper, Keeping, Keeps, Stops, Gathered, NoBio, HasBio, HasBoth}
 use Rattle.run_machine.specs.Runs.{State}
 use Rattle.block_core.specs.Weights.{total, elements_of_pool, refs, count_of}
@@ -45,14 +45,14 @@ DoingFits setup (Drives bio ask) lists = Suits (tree_at setup bio.bio.dev) ask
 DoingFits setup (Copies bio master leg want) lists = leg < legs_of (tree_at setup bio.dev)
 DoingFits setup (Breaks breach kept) lists = ⊥
 
-abbrev pub LineFits : Setup → Line → Type 0
-LineFits setup line = DoingFits setup line.doing line.lists
+abbrev pub SubmissionFits : Setup → Submission → Type 0
+SubmissionFits setup submission = DoingFits setup submission.doing submission.lists
 
 -- a writer has something in hand only where nothing is submitted
-abbrev pub HandFits : Gathered → Line → Type 0
-HandFits NoBio line = Unit {0}
-HandFits (HasBio item) line = line ≡ rests
-HandFits (HasBoth item vector) line = line ≡ rests
+abbrev pub HandFits : Gathered → Submission → Type 0
+HandFits NoBio submission = Unit {0}
+HandFits (HasBio item) submission = submission ≡ rests
+HandFits (HasBoth item vector) submission = submission ≡ rests
 
 -- the keeper met no pool with an element out
 abbrev pub GoesOn : Keeping → Type 0
@@ -60,8 +60,8 @@ GoesOn (Keeps duties) = Unit {0}
 GoesOn (Stops breach) = ⊥
 
 abbrev pub TaskFits : Scene → TaskState → Type 0
-TaskFits scene (Writer number todo taken line) = (number < scene.books) × LineFits scene.setup line × HandFits taken line
-TaskFits scene (Rescuer dev line) = (dev.0 < scene.setup.count) × LineFits scene.setup line
+TaskFits scene (Writer number todo taken submission) = (number < scene.books) × SubmissionFits scene.setup submission × HandFits taken submission
+TaskFits scene (Rescuer dev submission) = (dev.0 < scene.setup.count) × SubmissionFits scene.setup submission
 TaskFits scene (Completer disk carried) = disk.0 < scene.setup.count
 TaskFits scene (Keeper keeping) = GoesOn keeping
 
@@ -73,8 +73,8 @@ DoingIsIn setup (Copies bio master leg want) = bio.dev.0 < setup.count
 DoingIsIn setup (Breaks breach kept) = Unit {0}
 
 abbrev pub IsIn : Setup → TaskState → Type 0
-IsIn setup (Writer number todo taken line) = DoingIsIn setup line.doing
-IsIn setup (Rescuer dev line) = DoingIsIn setup line.doing
+IsIn setup (Writer number todo taken submission) = DoingIsIn setup submission.doing
+IsIn setup (Rescuer dev submission) = DoingIsIn setup submission.doing
 IsIn setup (Completer disk carried) = Unit {0}
 IsIn setup (Keeper keeping) = Unit {0}
 

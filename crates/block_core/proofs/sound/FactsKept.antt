@@ -15,7 +15,7 @@ use Rattle.mempool_core.proofs.MoveLemmas.{after_move_adds_up}
 use Rattle.block_core.proofs.sound.Outs.{outs}
 use Rattle.block_core.proofs.sound.Counts.{counts}
 use Rattle.block_core.proofs.sound.Owns.{owns}
-use Rattle.block_core.proofs.sound.TaskLines.{tasks, all-upd}
+use Rattle.block_core.proofs.sound.TaskSubmissions.{tasks, all-upd}
 
 module _ (scene : Scene) (s : State) (f : Fair scene) (i : Kept scene s) where
   other_book : (writer : ℕ) (b : BookState) → writer < scene.books → (w : ℕ) → scene.books ≤ w → (upd s.objects.book writer b w).nodes ≡ []

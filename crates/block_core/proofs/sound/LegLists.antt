@@ -15,20 +15,20 @@ use Rattle.bio_books.specs.Books.{Node, BookState, node_at, with_node, top_node,
 use Rattle.bio_books.specs.Links.{IsVacant}
 use Rattle.run_machine.specs.Maps.{upd}
 use Rattle.run_machine.specs.Scene.{Setup, Scene, tree_at}
-use Rattle.run_machine.specs.Lines.{Want, Takes, Punts as WantsPunt, Links, ToPush, ToCut, ToRecord, ToMaster, Doing, Rests, Drives, Copies, Breaks, Line, settled, goes_on, copies, asks_at, first_length, landed, legs_of, leg_at, is_of, not_punted}
+use Rattle.run_machine.specs.Submissions.{Want, Takes, Punts as WantsPunt, Links, ToPush, ToCut, ToRecord, ToMaster, Doing, Rests, Drives, Copies, Breaks, Submission, settled, goes_on, copies, asks_at, first_length, landed, legs_of, leg_at, is_of, not_punted}
 use Rattle.run_machine.specs.Tasks.{TaskState, Writer, Rescuer, Completer, Keeper}
 use Rattle.run_machine.specs.Runs.{State}
 use Rattle.block_core.specs.Weights.{Lined, total, refs, names_node, count_of}
 use Rattle.block_core.specs.Orders.{IsLegOf}
-use Rattle.block_core.proofs.moves.Moves.{Move, place_of, Can, after, limit_of, with_line, HasLine, Wants, with_want, filled_of, vector_of, cut_lists}
+use Rattle.block_core.proofs.moves.Moves.{Move, place_of, Can, after, limit_of, with_submission, HasSubmission, Wants, with_want, filled_of, vector_of, cut_lists}
 use Rattle.block_core.proofs.moves.Moves as moves
 use Rattle.block_core.proofs.moves.Sums.{upd-same, upd-other, same_or_not, within_book}
 use Rattle.block_core.proofs.sound.Facts.{TaskFits, Kept}
 use Rattle.block_core.proofs.moves.Deltas.{vacant_at}
-use Rattle.block_core.proofs.sound.TaskLines.{line_fits}
+use Rattle.block_core.proofs.sound.TaskSubmissions.{submission_fits}
 use Rattle.block_core.proofs.sound.Orders.{Each, DoingPlaced, TaskPlaced, Placed, each_map, each_less, each_append}
-use Rattle.block_core.proofs.sound.OrdersKept.{line_placed}
-use Rattle.block_core.proofs.moves.Totals.{task_part, line_part}
+use Rattle.block_core.proofs.sound.OrdersKept.{submission_placed}
+use Rattle.block_core.proofs.moves.Totals.{task_part, submission_part}
 use Rattle.block_core.proofs.images.Ancestors.{names_one}
 
 -- what stands at a place of a book becomes of a node: it stays open with its role, or closes
@@ -139,20 +139,20 @@ HasLegs s (Drives bio ask) lists = Unit {0}
 HasLegs s (Breaks breach kept) lists = Unit {0}
 
 abbrev pub TaskHasLegs : State → TaskState → Type 0
-TaskHasLegs s (Writer number todo taken line) = HasLegs s line.doing line.lists
-TaskHasLegs s (Rescuer dev line) = HasLegs s line.doing line.lists
+TaskHasLegs s (Writer number todo taken submission) = HasLegs s submission.doing submission.lists
+TaskHasLegs s (Rescuer dev submission) = HasLegs s submission.doing submission.lists
 TaskHasLegs s (Completer disk carried) = Unit {0}
 TaskHasLegs s (Keeper keeping) = Unit {0}
 
-line_has : (s : State) (x : TaskState) (doing : Doing) (lists : TaskLists) → TaskHasLegs s x → HasLine x doing lists → HasLegs s doing lists
-line_has s (Writer number todo taken line) doing lists t h = subst (λ (l : Line). HasLegs s l.doing l.lists) h t
-line_has s (Rescuer dev line) doing lists t h = subst (λ (l : Line). HasLegs s l.doing l.lists) h t
-line_has s (Completer disk carried) doing lists t h = absurd h
-line_has s (Keeper keeping) doing lists t h = absurd h
+submission_has : (s : State) (x : TaskState) (doing : Doing) (lists : TaskLists) → TaskHasLegs s x → HasSubmission x doing lists → HasLegs s doing lists
+submission_has s (Writer number todo taken submission) doing lists t h = subst (λ (l : Submission). HasLegs s l.doing l.lists) h t
+submission_has s (Rescuer dev submission) doing lists t h = subst (λ (l : Submission). HasLegs s l.doing l.lists) h t
+submission_has s (Completer disk carried) doing lists t h = absurd h
+submission_has s (Keeper keeping) doing lists t h = absurd h
 
-relined : (s : State) (x : TaskState) (new : Line) → HasLegs s new.doing new.lists → TaskHasLegs s (with_line x new)
-relined s (Writer number todo taken line) new n = n
-relined s (Rescuer dev line) new n = n
+relined : (s : State) (x : TaskState) (new : Submission) → HasLegs s new.doing new.lists → TaskHasLegs s (with_submission x new)
+relined s (Writer number todo taken submission) new n = n
+relined s (Rescuer dev submission) new n = n
 relined s (Completer disk carried) new n = tt
 relined s (Keeper keeping) new n = tt
 
@@ -173,8 +173,8 @@ next_has : (s : State) (setup : Setup) (lists : TaskLists) (bio : Bio) (master l
     → (2 * bio.dev.0 + 1 < pool_number (bios_of bio.set)) → HasLegs s (copies setup lists bio master leg).doing (copies setup lists bio master leg).lists
 next_has s setup lists bio master leg legs up = by_test (leg == legs_of (tree_at setup bio.dev))
   where
-    by_test : (v : Bool) → let line : Line = if v then goes_on setup bio.dev lists else record { doing = Copies bio master leg (Takes (waits_first (setup.rescuer bio.dev.0) lists)); lists = lists } in
-        HasLegs s line.doing line.lists
+    by_test : (v : Bool) → let submission : Submission = if v then goes_on setup bio.dev lists else record { doing = Copies bio master leg (Takes (waits_first (setup.rescuer bio.dev.0) lists)); lists = lists } in
+        HasLegs s submission.doing submission.lists
     by_test true = settled_none s setup (order bio.dev lists)
     by_test false = (legs, up)
 
@@ -216,12 +216,12 @@ module _ (scene : Scene) (s : State) (i : Kept scene s) (p : Placed scene.setup 
   )
 
   -- so a task that goes on as it was has legs of its master still
-  has_still : (place : ℕ) (x : TaskState) (doing : Doing) (lists : TaskLists) → place < scene.tasks → new.task place ≡ x → HasLine x doing lists → HasLegs s doing lists → HasLegs new doing lists
+  has_still : (place : ℕ) (x : TaskState) (doing : Doing) (lists : TaskLists) → place < scene.tasks → new.task place ≡ x → HasSubmission x doing lists → HasLegs s doing lists → HasLegs new doing lists
   has_still place x (Copies bio master leg want) lists lt is h d = (
     legs_stay bio.writer master lists.list0
         (λ item within.
         let w = refs scene.setup item.bio.writer item.bio.node in
-        omega (arith, within (w.bio (Lined (limit_of x))), line_part w place x (Copies bio master leg want) lists h, task_part scene w new place x lt is)) d.0,
+        omega (arith, within (w.bio (Lined (limit_of x))), submission_part w place x (Copies bio master leg want) lists h, task_part scene w new place x lt is)) d.0,
     d.1,
   )
   has_still place x Rests lists lt is h d = tt
@@ -229,8 +229,8 @@ module _ (scene : Scene) (s : State) (i : Kept scene s) (p : Placed scene.setup 
   has_still place x (Breaks breach kept) lists lt is h d = tt
 
   task_still : (place : ℕ) (x : TaskState) → place < scene.tasks → new.task place ≡ x → TaskHasLegs s x → TaskHasLegs new x
-  task_still place (Writer number todo taken line) lt is d = has_still place (Writer number todo taken line) line.doing line.lists lt is refl d
-  task_still place (Rescuer dev line) lt is d = has_still place (Rescuer dev line) line.doing line.lists lt is refl d
+  task_still place (Writer number todo taken submission) lt is d = has_still place (Writer number todo taken submission) submission.doing submission.lists lt is refl d
+  task_still place (Rescuer dev submission) lt is d = has_still place (Rescuer dev submission) submission.doing submission.lists lt is refl d
   task_still place (Completer disk carried) lt is d = tt
   task_still place (Keeper keeping) lt is d = tt
 
@@ -238,11 +238,11 @@ pub record Legged (scene : Scene) (s : State) : Type 0 where
   pub tasks : (place : ℕ) → place < scene.tasks → TaskHasLegs s (s.task place)
 
 module _ (scene : Scene) (s : State) (i : Kept scene s) (p : Placed scene.setup s) (l : Legged scene s) where
-  has : (place : ℕ) (x : TaskState) (doing : Doing) (lists : TaskLists) → place < scene.tasks → s.task place ≡ x → HasLine x doing lists → HasLegs s doing lists
-  has place x doing lists lt is h = line_has s x doing lists (subst (TaskHasLegs s) is (l.tasks place lt)) h
+  has : (place : ℕ) (x : TaskState) (doing : Doing) (lists : TaskLists) → place < scene.tasks → s.task place ≡ x → HasSubmission x doing lists → HasLegs s doing lists
+  has place x doing lists lt is h = submission_has s x doing lists (subst (TaskHasLegs s) is (l.tasks place lt)) h
 
-  at : (place : ℕ) (x : TaskState) (doing : Doing) (lists : TaskLists) → s.task place ≡ x → HasLine x doing lists → DoingPlaced scene.setup (limit_of x) doing lists
-  at place x doing lists is h = line_placed scene.setup x doing lists (subst (TaskPlaced scene.setup) is (p.tasks place)) h
+  at : (place : ℕ) (x : TaskState) (doing : Doing) (lists : TaskLists) → s.task place ≡ x → HasSubmission x doing lists → DoingPlaced scene.setup (limit_of x) doing lists
+  at place x doing lists is h = submission_placed scene.setup x doing lists (subst (TaskPlaced scene.setup) is (p.tasks place)) h
 
   -- the task of the event goes on so, and the others as they were
   goes : (m : Move) (c : Can scene s m) → Kept scene (after scene s m) → (y : TaskState) → (after scene s m).task ≡ upd s.task (place_of m) y → TaskHasLegs (after scene s m) y
@@ -303,7 +303,7 @@ module _ (scene : Scene) (s : State) (i : Kept scene s) (p : Placed scene.setup 
       let m : Move = moves.Legged place x bio lists master leg hand key node in
       let new = after scene s m in
       let d = has place x (Copies bio master leg (Links hand)) lists c.0 c.1 c.2 in
-      let lt = line_fits scene x (Copies bio master leg (Links hand)) lists (subst (TaskFits scene) c.1 (i.tasks place)) c.2 in
+      let lt = submission_fits scene x (Copies bio master leg (Links hand)) lists (subst (TaskFits scene) c.1 (i.tasks place)) c.2 in
       let item = leg_at bio hand leg key (tree_at scene.setup bio.dev) in
       let book : new.objects.book bio.writer ≡ with_node (s.objects.book bio.writer) key (Some (leg_node node.write master)) =
       upd-same s.objects.book bio.writer (with_node (s.objects.book bio.writer) key (Some (leg_node node.write master))) in

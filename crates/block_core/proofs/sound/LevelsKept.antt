@@ -13,19 +13,19 @@ use Rattle.bio_books.specs.Books.{Node, VectorItem, SlipItem, Holding, node_at, 
 use Rattle.bio_books.specs.Drops.{Closed, closed_of}
 use Rattle.bio_books.specs.Links.{IsVacant}
 use Rattle.run_machine.specs.Scene.{Scene, tree_at}
-use Rattle.run_machine.specs.Lines.{Links, ToCut, ToMaster, Doing, Drives, Copies, first_length, legs_of, leg_at}
+use Rattle.run_machine.specs.Submissions.{Links, ToCut, ToMaster, Doing, Drives, Copies, first_length, legs_of, leg_at}
 use Rattle.run_machine.specs.Tasks.{TaskState, Completer, Todo, Carried, Empty, Brings, Carries, Fails}
 use Rattle.run_machine.specs.Runs.{State}
 use Rattle.block_core.specs.Weights.{total, weigh_option, task_weight, carried_weight}
-use Rattle.block_core.proofs.moves.Moves.{Move, Can, after, lost, gained, limit_of, HasLine, gathered_of, filled_of, vector_of, cut_lists, Tells, Hands, piece}
+use Rattle.block_core.proofs.moves.Moves.{Move, Can, after, lost, gained, limit_of, HasSubmission, gathered_of, filled_of, vector_of, cut_lists, Tells, Hands, piece}
 use Rattle.block_core.proofs.moves.Moves as moves
 use Rattle.block_core.proofs.sound.Facts.{TaskFits, Kept}
-use Rattle.block_core.proofs.sound.TaskLines.{line_fits}
+use Rattle.block_core.proofs.sound.TaskSubmissions.{submission_fits}
 use Rattle.block_core.proofs.sound.Orders.{AskFits, DoingPlaced, HandHome, TaskPlaced, Placed, Ground}
 use Rattle.std.specs.Prelude.{min}
-use Rattle.block_core.proofs.sound.OrdersKept.{line_placed}
+use Rattle.block_core.proofs.sound.OrdersKept.{submission_placed}
 use Rattle.block_core.proofs.moves.Deltas.{vacant_at, delta}
-use Rattle.block_core.proofs.sound.SumParts.{copies_weight, unless, unless_none, cut_weight, line_part}
+use Rattle.block_core.proofs.sound.SumParts.{copies_weight, unless, unless_none, cut_weight, submission_part}
 use Rattle.block_core.proofs.moves.Totals.{part_of}
 use Rattle.block_core.proofs.moves.Listed.{IsBlind, landed_same, first_weight, goes_weight}
 use Rattle.block_core.specs.Weights.{apart}
@@ -135,8 +135,8 @@ module _ (scene : Scene) (s : State) (g : Ground scene.setup) (i : Kept scene s)
   one_more m c writer key n v le =
       (with_mark level writer key n, omega (arith, total_null level writer key n scene s i v off, delta scene (off_levels (with_mark level writer key n)) s m c, le))
 
-  at : (place : ℕ) (x : TaskState) (doing : Doing) (lists : TaskLists) → s.task place ≡ x → HasLine x doing lists → DoingPlaced scene.setup (limit_of x) doing lists
-  at place x doing lists is h = line_placed scene.setup x doing lists (subst (TaskPlaced scene.setup) is (p.tasks place)) h
+  at : (place : ℕ) (x : TaskState) (doing : Doing) (lists : TaskLists) → s.task place ≡ x → HasSubmission x doing lists → DoingPlaced scene.setup (limit_of x) doing lists
+  at place x doing lists is h = submission_placed scene.setup x doing lists (subst (TaskPlaced scene.setup) is (p.tasks place)) h
 
   -- what a completer carries is on its level
   carried_off : (place : ℕ) (disk : DevId) (carried : Carried) → place < scene.tasks → s.task place ≡ Completer disk carried → carried_weight (off_levels level) 0 carried ≡ 0
@@ -188,7 +188,7 @@ module _ (scene : Scene) (s : State) (g : Ground scene.setup) (i : Kept scene s)
       let known = d.1.0.0.device in
       let few = g.few in
       let suits : AskFits (Split number kind sizes members) bio.bio.range dev (ToCut (Links hand)) = subst (λ t. AskFits t bio.bio.range dev (ToCut (Links hand))) c.3 d.3 in
-      let part = line_part scene (off_levels level) s place x (Drives bio (ToCut (Links hand))) lists c.0 c.1 c.2 in
+      let part = submission_part scene (off_levels level) s place x (Drives bio (ToCut (Links hand))) lists c.0 c.1 c.2 in
       let parent : new bio.bio.writer bio.bio.node ≡ level bio.bio.writer bio.bio.node =
       mark_other level bio.bio.writer key (2 * dev) bio.bio.writer bio.bio.node (inr (other_place bio.bio.writer key bio.bio.node node c.6 c.5)) in
       let up = d.1.0.1 in
@@ -213,7 +213,7 @@ module _ (scene : Scene) (s : State) (g : Ground scene.setup) (i : Kept scene s)
       let known = d.1.0.0.device in
       let few = g.few in
       let own : slip.share.no ≡ 2 * dev + 1 = by_tree (tree_at scene.setup bio.bio.dev) d.3 in
-      let part = line_part scene (off_levels level) s place x (Drives bio (ToMaster slip)) lists c.0 c.1 c.2 in
+      let part = submission_part scene (off_levels level) s place x (Drives bio (ToMaster slip)) lists c.0 c.1 c.2 in
       let parent : new bio.bio.writer bio.bio.node ≡ level bio.bio.writer bio.bio.node =
       mark_other level bio.bio.writer key (2 * dev + 1) bio.bio.writer bio.bio.node (inr (other_place bio.bio.writer key bio.bio.node node c.5 c.4)) in
       let up = d.1.0.1 in
@@ -248,8 +248,8 @@ module _ (scene : Scene) (s : State) (g : Ground scene.setup) (i : Kept scene s)
       let d = at place x (Copies bio master leg (Links hand)) lists c.1 c.2 in
       let known = d.0.device in
       let few = g.few in
-      let lt = line_fits scene x (Copies bio master leg (Links hand)) lists (subst (TaskFits scene) c.1 (i.tasks place)) c.2 in
-      let part = line_part scene (off_levels level) s place x (Copies bio master leg (Links hand)) lists c.0 c.1 c.2 in
+      let lt = submission_fits scene x (Copies bio master leg (Links hand)) lists (subst (TaskFits scene) c.1 (i.tasks place)) c.2 in
+      let part = submission_part scene (off_levels level) s place x (Copies bio master leg (Links hand)) lists c.0 c.1 c.2 in
       let parent : new bio.writer master ≡ level bio.writer master =
       mark_other level bio.writer key (2 * dev) bio.writer master (inr (other_place bio.writer key master node c.5 c.4)) in
       let above : level bio.writer master ≡ 2 * dev + 1 = omega (arith, part, off) in

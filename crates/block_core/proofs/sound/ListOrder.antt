@@ -1,4 +1,4 @@
--- What is known of lines and rescue lists, in the words of sets and devices.
+-- What is known of submissions and rescue lists, in the words of sets and devices.
 use Rattle.std.proofs.Common.{◌≡◌, ◌+◌, ◌*◌, ◌<◌, ℕ, List, [], ◌∷◌, sym, ◌∙◌, subst, arith}
 use Rattle.std.specs.Prelude.{All}
 use Rattle.std.proofs.lemmas.List.Elements.{All-nil, All-cons}
@@ -14,7 +14,7 @@ use Rattle.bio_records.specs.declared.tasks.TaskLists.{TaskLists}
 use Rattle.bio_records.specs.Items.{Item}
 use Rattle.bioset_pools.specs.Sets.{bios_of}
 use Rattle.run_machine.specs.Scene.{Setup, Scene, tree_at}
-use Rattle.run_machine.specs.Lines.{Want, Takes, Punts as WantsPunt, Links, Ask, ToPush, ToCut, ToRecord, ToMaster, Doing, Rests, Drives, Copies, Breaks, Line}
+use Rattle.run_machine.specs.Submissions.{Want, Takes, Punts as WantsPunt, Links, Ask, ToPush, ToCut, ToRecord, ToMaster, Doing, Rests, Drives, Copies, Breaks, Submission}
 use Rattle.run_machine.specs.Tasks.{TaskState, Writer, Rescuer, Completer, Keeper, Gathered, NoBio, HasBio, HasBoth, Empty, Brings, Carries, Fails}
 use Rattle.run_machine.specs.Runs.{State}
 use Rattle.block_core.specs.Orders.{IsAbove, AreAbove, GoUp, IsSetOf, IsOwnBelow, IsLegOf, DoingInOrder, DoingBelow, AreBelow, TaskInOrder, AreInListOrder}
@@ -79,9 +79,9 @@ module _ (setup : Setup) where
   all_below limit items placed = all_of (IsPlaced setup limit) (λ (item : Item Pad). item.bio.dev.0 < limit) (λ item p. p.2) items placed
 
   -- what a rescuer has
-  rescued_below : (dev : ℕ) (line : Line) → DoingFits setup line.doing line.lists → DoingPlaced setup dev line.doing line.lists
-      → DoingBelow dev line.doing × AreBelow dev line.lists.list0 × AreBelow dev line.lists.list1
-  rescued_below dev line fits d = by_doing line.doing line.lists fits d
+  rescued_below : (dev : ℕ) (submission : Submission) → DoingFits setup submission.doing submission.lists → DoingPlaced setup dev submission.doing submission.lists
+      → DoingBelow dev submission.doing × AreBelow dev submission.lists.list0 × AreBelow dev submission.lists.list1
+  rescued_below dev submission fits d = by_doing submission.doing submission.lists fits d
     where
       below : Item Pad → Type 0
       below item = item.bio.dev.0 < dev
@@ -123,18 +123,18 @@ module _ (setup : Setup) where
   doing_right limit (Copies bio master leg want) lists fits d = (fits, want_right bio.dev want d.6)
   doing_right limit (Breaks breach kept) lists fits d = fits
 
-  taken_right : (taken : Gathered) (line : Line) → HandFits taken line → HandHome taken → GatheredIsRight taken line
-  taken_right NoBio line fits home = tt
-  taken_right (HasBio item) line fits home = (home, fits)
-  taken_right (HasBoth item vector) line fits home = (home.0, home.1, fits)
+  taken_right : (taken : Gathered) (submission : Submission) → HandFits taken submission → HandHome taken → GatheredIsRight taken submission
+  taken_right NoBio submission fits home = tt
+  taken_right (HasBio item) submission fits home = (home, fits)
+  taken_right (HasBoth item vector) submission fits home = (home.0, home.1, fits)
 
 module _ (scene : Scene) (s : State) (i : Kept scene s) (p : Placed scene.setup s) where
   pub hands_right : (ends : Fragment → Status) → ((place : ℕ) → HasEnding ends (s.task place)) → ((place : ℕ) → TaskOne (s.task place)) → HandsAreRight scene ends s
   hands_right ends endings ones place = by_task (s.task place) (i.tasks place) (p.tasks place) (endings place) (ones place)
     where
       by_task : (x : TaskState) → TaskFits scene x → TaskPlaced scene.setup x → HasEnding ends x → TaskOne x → HandIsRight scene.setup ends x
-      by_task (Writer number todo taken line) fits t e one = (taken_right scene.setup taken line fits.2 t.2, doing_right scene.setup 32 line.doing line.lists fits.1 t.1)
-      by_task (Rescuer dev line) fits t e one = doing_right scene.setup dev.0 line.doing line.lists fits.1 t
+      by_task (Writer number todo taken submission) fits t e one = (taken_right scene.setup taken submission fits.2 t.2, doing_right scene.setup 32 submission.doing submission.lists fits.1 t.1)
+      by_task (Rescuer dev submission) fits t e one = doing_right scene.setup dev.0 submission.doing submission.lists fits.1 t
       by_task (Completer disk Empty) fits t e one = tt
       by_task (Completer disk (Brings bio status)) fits t e one = e
       by_task (Completer disk (Carries writer closed)) fits t e one = one
@@ -148,9 +148,9 @@ module _ (scene : Scene) (s : State) (i : Kept scene s) (p : Placed scene.setup 
   }
     where
       by_task : (x : TaskState) → TaskFits scene x → TaskPlaced scene.setup x → TaskHasLegs s x → TaskInOrder s x
-      by_task (Writer number todo taken line) fits t legs = doing_in_order scene.setup s 32 line.doing line.lists fits.1 t.1 legs
-      by_task (Rescuer dev line) fits t legs = let below = rescued_below scene.setup dev.0 line fits.1 t in (
-        doing_in_order scene.setup s dev.0 line.doing line.lists fits.1 t legs,
+      by_task (Writer number todo taken submission) fits t legs = doing_in_order scene.setup s 32 submission.doing submission.lists fits.1 t.1 legs
+      by_task (Rescuer dev submission) fits t legs = let below = rescued_below scene.setup dev.0 submission fits.1 t in (
+        doing_in_order scene.setup s dev.0 submission.doing submission.lists fits.1 t legs,
         below.0,
         below.1,
         below.2,

@@ -12,7 +12,7 @@ use Rattle.bio_books.specs.Books.{Node, VectorItem, node_at, parent_of}
 use Rattle.bio_books.specs.Links.{IsVacant}
 use Rattle.run_machine.specs.Maps.{upd}
 use Rattle.run_machine.specs.Scene.{Scene, tree_at}
-use Rattle.run_machine.specs.Lines.{Links, ToCut, ToMaster, Drives, Copies, first_length, legs_of, leg_at}
+use Rattle.run_machine.specs.Submissions.{Links, ToCut, ToMaster, Drives, Copies, first_length, legs_of, leg_at}
 use Rattle.run_machine.specs.Tasks.{Todo}
 use Rattle.run_machine.specs.Runs.{State}
 use Rattle.block_core.specs.Weights.{Weight, total, task_weight, carried_weight, under, no_weight}
@@ -22,9 +22,9 @@ use Rattle.block_core.proofs.moves.Moves.{Move, Can, after, lost, gained, limit_
 use Rattle.block_core.proofs.moves.Moves as moves
 use Rattle.block_core.proofs.moves.Sums.{upd-same, upd-other}
 use Rattle.block_core.proofs.sound.Facts.{TaskFits, Kept}
-use Rattle.block_core.proofs.sound.TaskLines.{line_fits}
+use Rattle.block_core.proofs.sound.TaskSubmissions.{submission_fits}
 use Rattle.block_core.proofs.moves.Deltas.{vacant_at, delta}
-use Rattle.block_core.proofs.sound.SumParts.{copies_weight, unless, unless_none, cut_weight, line_part}
+use Rattle.block_core.proofs.sound.SumParts.{copies_weight, unless, unless_none, cut_weight, submission_part}
 use Rattle.block_core.proofs.moves.Listed.{IsBlind, landed_same, first_weight, goes_weight}
 use Rattle.block_core.proofs.moves.Marked.{with_mark, mark_here, mark_other, mark_still, IsUnmoved, none_moves}
 use Rattle.block_core.proofs.sound.Splitting.{IsSameButClosed, total_but}
@@ -164,7 +164,7 @@ module _ (scene : Scene) (s : State) (i : Kept scene s) (was_master : ℕ → Bo
       let n = first_length kind sizes bio.bio.range in
       let new = with_mark mark bio.bio.writer key false in
       let here = mark_here mark bio.bio.writer key false in
-      let part = line_part scene (w mark) s place x (Drives bio (ToCut (Links hand))) lists c.0 c.1 c.2 in
+      let part = submission_part scene (w mark) s place x (Drives bio (ToCut (Links hand))) lists c.0 c.1 c.2 in
       let parent : new bio.bio.writer bio.bio.node ≡ mark bio.bio.writer bio.bio.node =
       mark_other mark bio.bio.writer key false bio.bio.writer bio.bio.node (inr (other_place bio.bio.writer key bio.bio.node node c.6 c.5)) in
       let free : yes (mark bio.bio.writer bio.bio.node) ≡ 0 = omega (arith, part, none) in
@@ -182,7 +182,7 @@ module _ (scene : Scene) (s : State) (i : Kept scene s) (was_master : ℕ → Bo
       let new = with_mark mark bio.bio.writer key true in
       let here = mark_here mark bio.bio.writer key true in
       let legs = legs_of (tree_at scene.setup bio.bio.dev) in
-      let part = line_part scene (w mark) s place x (Drives bio (ToMaster slip)) lists c.0 c.1 c.2 in
+      let part = submission_part scene (w mark) s place x (Drives bio (ToMaster slip)) lists c.0 c.1 c.2 in
       let parent : new bio.bio.writer bio.bio.node ≡ mark bio.bio.writer bio.bio.node =
       mark_other mark bio.bio.writer key true bio.bio.writer bio.bio.node (inr (other_place bio.bio.writer key bio.bio.node node c.5 c.4)) in
       let free : yes (mark bio.bio.writer bio.bio.node) ≡ 0 = omega (arith, part, none) in
@@ -203,8 +203,8 @@ module _ (scene : Scene) (s : State) (i : Kept scene s) (was_master : ℕ → Bo
       let here = mark_here mark bio.writer key false in
       let legs = legs_of (tree_at scene.setup bio.dev) in
       let item = leg_at bio hand leg key (tree_at scene.setup bio.dev) in
-      let lt = line_fits scene x (Copies bio master leg (Links hand)) lists (subst (TaskFits scene) c.1 (i.tasks place)) c.2 in
-      let part = line_part scene (w mark) s place x (Copies bio master leg (Links hand)) lists c.0 c.1 c.2 in
+      let lt = submission_fits scene x (Copies bio master leg (Links hand)) lists (subst (TaskFits scene) c.1 (i.tasks place)) c.2 in
+      let part = submission_part scene (w mark) s place x (Copies bio master leg (Links hand)) lists c.0 c.1 c.2 in
       let parent : new bio.writer master ≡ mark bio.writer master =
       mark_other mark bio.writer key false bio.writer master (inr (other_place bio.writer key master node c.5 c.4)) in
       let free : yes (not (mark bio.writer master)) ≡ 0 = omega (arith, part, none) in

@@ -12,7 +12,7 @@ use Rattle.bio_books.specs.Books.{Node, VectorItem, node_at, parent_of}
 use Rattle.bio_books.specs.Links.{IsVacant}
 use Rattle.run_machine.specs.declared.event.Event.{Event}
 use Rattle.run_machine.specs.Scene.{Scene, tree_at}
-use Rattle.run_machine.specs.Lines.{Want, Ask, Links, ToCut, ToMaster, Drives, Copies, first_length, legs_of, leg_at}
+use Rattle.run_machine.specs.Submissions.{Want, Ask, Links, ToCut, ToMaster, Drives, Copies, first_length, legs_of, leg_at}
 use Rattle.run_machine.specs.Tasks.{TaskState, Todo}
 use Rattle.run_machine.specs.Opened.{Scenario, scene, start, setup as setup_in}
 use Rattle.run_machine.specs.Runs.{State, IsRun}
@@ -20,14 +20,14 @@ use Rattle.block_core.specs.Weights.{total, under}
 use Rattle.block_core.specs.Weights.{apart}
 use Rattle.block_core.specs.Scenarios.{IsScenario}
 use Rattle.block_core.specs.OfOneWrite.{bio_strays, parent_strays, strays, AreOfOneWrite, AllAreOfOneWrite}
-use Rattle.block_core.proofs.moves.Moves.{Move, Can, after, lost, gained, limit_of, HasLine, filled_of, cut_lists}
+use Rattle.block_core.proofs.moves.Moves.{Move, Can, after, lost, gained, limit_of, HasSubmission, filled_of, cut_lists}
 use Rattle.block_core.proofs.moves.Moves as moves
 use Rattle.block_core.proofs.sound.Facts.{TaskFits, Fair, Kept}
-use Rattle.block_core.proofs.sound.TaskLines.{line_fits}
+use Rattle.block_core.proofs.sound.TaskSubmissions.{submission_fits}
 use Rattle.block_core.proofs.sound.Orders.{Ground}
 use Rattle.block_core.proofs.moves.Devices.{ground}
 use Rattle.block_core.proofs.moves.Deltas.{vacant_at, delta}
-use Rattle.block_core.proofs.sound.SumParts.{copies_weight, unless, unless_none, cut_weight, line_part}
+use Rattle.block_core.proofs.sound.SumParts.{copies_weight, unless, unless_none, cut_weight, submission_part}
 use Rattle.block_core.proofs.moves.Listed.{IsBlind, landed_same, first_weight, goes_weight}
 use Rattle.block_core.proofs.moves.Marked.{with_mark, mark_here, mark_other, mark_still, IsUnmoved, none_moves}
 use Rattle.block_core.proofs.stuck.Idle.{node_part}
@@ -125,7 +125,7 @@ module _ (scene : Scene) (s : State) (i : Kept scene s) (write_of : ℕ → ℕ 
       let n = first_length kind sizes bio.bio.range in
       let new = with_mark write_of bio.bio.writer key node.write in
       let here = mark_here write_of bio.bio.writer key node.write in
-      let part = line_part scene (strays write_of) s place x (Drives bio (ToCut (Links hand))) lists c.0 c.1 c.2 in
+      let part = submission_part scene (strays write_of) s place x (Drives bio (ToCut (Links hand))) lists c.0 c.1 c.2 in
       let parent : new bio.bio.writer bio.bio.node ≡ write_of bio.bio.writer bio.bio.node =
       mark_other write_of bio.bio.writer key node.write bio.bio.writer bio.bio.node (inr (other_place bio.bio.writer key bio.bio.node node c.6 c.5)) in
       let of_node = node_write bio.bio.writer bio.bio.node node c.5 in
@@ -145,7 +145,7 @@ module _ (scene : Scene) (s : State) (i : Kept scene s) (write_of : ℕ → ℕ 
       let new = with_mark write_of bio.bio.writer key node.write in
       let here = mark_here write_of bio.bio.writer key node.write in
       let legs = legs_of (tree_at scene.setup bio.bio.dev) in
-      let part = line_part scene (strays write_of) s place x (Drives bio (ToMaster slip)) lists c.0 c.1 c.2 in
+      let part = submission_part scene (strays write_of) s place x (Drives bio (ToMaster slip)) lists c.0 c.1 c.2 in
       let parent : new bio.bio.writer bio.bio.node ≡ write_of bio.bio.writer bio.bio.node =
       mark_other write_of bio.bio.writer key node.write bio.bio.writer bio.bio.node (inr (other_place bio.bio.writer key bio.bio.node node c.5 c.4)) in
       let of_node = node_write bio.bio.writer bio.bio.node node c.4 in
@@ -167,8 +167,8 @@ module _ (scene : Scene) (s : State) (i : Kept scene s) (write_of : ℕ → ℕ 
       let here = mark_here write_of bio.writer key node.write in
       let legs = legs_of (tree_at scene.setup bio.dev) in
       let item = leg_at bio hand leg key (tree_at scene.setup bio.dev) in
-      let lt = line_fits scene x (Copies bio master leg (Links hand)) lists (subst (TaskFits scene) c.1 (i.tasks place)) c.2 in
-      let part = line_part scene (strays write_of) s place x (Copies bio master leg (Links hand)) lists c.0 c.1 c.2 in
+      let lt = submission_fits scene x (Copies bio master leg (Links hand)) lists (subst (TaskFits scene) c.1 (i.tasks place)) c.2 in
+      let part = submission_part scene (strays write_of) s place x (Copies bio master leg (Links hand)) lists c.0 c.1 c.2 in
       let parent : new bio.writer master ≡ write_of bio.writer master =
       mark_other write_of bio.writer key node.write bio.writer master (inr (other_place bio.writer key master node c.5 c.4)) in
       let of_node = node_write bio.writer master node c.4 in
@@ -197,15 +197,15 @@ module _ (scene : Scene) (s : State) (i : Kept scene s) (write_of : ℕ → ℕ 
 
   -- Of what a task has at hand: the bio that it drives is of the write of the open node that it names, and so is one that it copies of the
   -- write of its master;
-  pub driven_of_write : (place : ℕ) (x : TaskState) (bio : Item Pad) (ask : Ask) (lists : TaskLists) (node : Node) → place < scene.tasks → s.task place ≡ x → HasLine x (Drives bio ask) lists
+  pub driven_of_write : (place : ℕ) (x : TaskState) (bio : Item Pad) (ask : Ask) (lists : TaskLists) (node : Node) → place < scene.tasks → s.task place ≡ x → HasSubmission x (Drives bio ask) lists
       → node_at (s.objects.book bio.bio.writer) bio.bio.node ≡ Some node → node.write ≡ bio.bio.write
   driven_of_write place x bio ask lists node here is h at =
-      omega (arith, none, node_write bio.bio.writer bio.bio.node node at, line_part scene (strays write_of) s place x (Drives bio ask) lists here is h)
+      omega (arith, none, node_write bio.bio.writer bio.bio.node node at, submission_part scene (strays write_of) s place x (Drives bio ask) lists here is h)
 
   pub copied_of_write : (place : ℕ) (x : TaskState) (bio : Bio) (master leg : ℕ) (want : Want) (lists : TaskLists) (node : Node) → place < scene.tasks → s.task place ≡ x
-      → HasLine x (Copies bio master leg want) lists → node_at (s.objects.book bio.writer) master ≡ Some node → node.write ≡ bio.write
+      → HasSubmission x (Copies bio master leg want) lists → node_at (s.objects.book bio.writer) master ≡ Some node → node.write ≡ bio.write
   copied_of_write place x bio master leg want lists node here is h at =
-      omega (arith, none, node_write bio.writer master node at, line_part scene (strays write_of) s place x (Copies bio master leg want) lists here is h)
+      omega (arith, none, node_write bio.writer master node at, submission_part scene (strays write_of) s place x (Copies bio master leg want) lists here is h)
 
   -- and a node is of the write of the one that it is under
   pub child_of_write : (writer key parent : ℕ) (child node : Node) → node_at (s.objects.book writer) key ≡ Some child → parent_of child.role ≡ Some parent

@@ -1,4 +1,4 @@
--- What stands in the lines of tasks and in rescue lists: bios that their devices can serve, and in an order of sets.
+-- What stands in the submissions of tasks and in rescue lists: bios that their devices can serve, and in an order of sets.
 use Rattle.std.proofs.Common.{◌≡◌, ◌+◌, ◌*◌, ◌<◌, ◌≤◌, ◌==◌, ◌++◌, not, if◌then◌else◌, ℕ, Bool, true, false, IsTrue, List, [], ◌∷◌, filter, Option, None, Some, refl, sym, ◌∙◌, ap, subst, arith, cond, set}
 use Rattle.std.proofs.lemmas.Bool.{eq-eqb, ne_eqb}
 use Rattle.stack_base.specs.declared.ids.DevId.{DevId}
@@ -17,7 +17,7 @@ use Rattle.bio_split.specs.Split.{split_rest}
 use Rattle.bioset_pools.specs.Sets.{bios_of, waits_first}
 use Rattle.bio_books.specs.Books.{VectorItem, keeping}
 use Rattle.run_machine.specs.Scene.{Setup, tree_at}
-use Rattle.run_machine.specs.Lines.{Want, Takes, Punts as WantsPunt, Links, Ask, ToPush, ToCut, ToRecord, ToMaster, Doing, Rests, Drives, Copies, Breaks, Line, settled, goes_on, copies, asks_at, first_length, landed, legs_of, leg_at, is_of, not_punted}
+use Rattle.run_machine.specs.Submissions.{Want, Takes, Punts as WantsPunt, Links, Ask, ToPush, ToCut, ToRecord, ToMaster, Doing, Rests, Drives, Copies, Breaks, Submission, settled, goes_on, copies, asks_at, first_length, landed, legs_of, leg_at, is_of, not_punted}
 use Rattle.run_machine.specs.Tasks.{TaskState, Writer, Rescuer, Completer, Keeper, Todo, Gathered, NoBio, HasBio, HasBoth, first_bio}
 use Rattle.run_machine.specs.Runs.{State}
 use Rattle.block_core.proofs.moves.Moves.{Wants, with_want, filled_of, cut_lists, piece}
@@ -68,8 +68,8 @@ DoingPlaced setup limit (Copies bio master leg want) lists =
     × Ordered lists.list1 × WantFits bio.dev.0 want
 DoingPlaced setup limit (Breaks breach kept) lists = Unit {0}
 
-abbrev pub LinePlaced : Setup → ℕ → Line → Type 0
-LinePlaced setup limit line = DoingPlaced setup limit line.doing line.lists
+abbrev pub SubmissionPlaced : Setup → ℕ → Submission → Type 0
+SubmissionPlaced setup limit submission = DoingPlaced setup limit submission.doing submission.lists
 
 abbrev pub HandHome : Gathered → Type 0
 HandHome NoBio = Unit {0}
@@ -81,8 +81,8 @@ abbrev pub TodoThere : Setup → ℕ → Todo → Type 0
 TodoThere setup writer todo = (key : ℕ) → IsThere setup (first_bio writer todo key)
 
 abbrev pub TaskPlaced : Setup → TaskState → Type 0
-TaskPlaced setup (Writer number todo taken line) = Each (TodoThere setup number) todo × LinePlaced setup 32 line × HandHome taken
-TaskPlaced setup (Rescuer dev line) = LinePlaced setup dev.0 line
+TaskPlaced setup (Writer number todo taken submission) = Each (TodoThere setup number) todo × SubmissionPlaced setup 32 submission × HandHome taken
+TaskPlaced setup (Rescuer dev submission) = SubmissionPlaced setup dev.0 submission
 TaskPlaced setup (Completer disk carried) = Unit {0}
 TaskPlaced setup (Keeper keeping) = Unit {0}
 
@@ -166,8 +166,8 @@ module _ (setup : Setup) (g : Ground setup) where
   asks_placed limit it lists (Mirrored number sizes members) same settles none placed ordered =
       (none, placed, ordered, subst (λ t. AskFits t it.bio.range it.bio.dev.0 ToRecord) (sym same) tt)
 
-  -- the first of a line in order is served, and the others stay in order
-  pub first_placed : (limit : ℕ) (items : List (Item Pad)) → Each (IsPlaced setup limit) items → Ordered items → LinePlaced setup limit (settled setup items)
+  -- the first of a submission in order is served, and the others stay in order
+  pub first_placed : (limit : ℕ) (items : List (Item Pad)) → Each (IsPlaced setup limit) items → Ordered items → SubmissionPlaced setup limit (settled setup items)
   first_placed limit [] placed ordered = tt
   first_placed limit (item ∷ waiting) placed ordered =
       let at : Bio = landed (tree_at setup item.bio.dev) item.bio in
@@ -183,14 +183,14 @@ module _ (setup : Setup) (g : Ground setup) where
       (above_lower item.bio.dev.0 at.dev.0 waiting low ordered.0, ordered.1)
 
   -- the driver of a device has returned that submitted nothing
-  pub pushed_placed : (limit : ℕ) (dev : DevId) (lists : TaskLists) → lists.list0 ≡ [] → Each (IsPlaced setup limit) lists.list1 → Ordered lists.list1 → LinePlaced setup limit (goes_on setup dev lists)
+  pub pushed_placed : (limit : ℕ) (dev : DevId) (lists : TaskLists) → lists.list0 ≡ [] → Each (IsPlaced setup limit) lists.list1 → Ordered lists.list1 → SubmissionPlaced setup limit (goes_on setup dev lists)
   pushed_placed limit dev lists none placed ordered =
-      let P : List (Item Pad) → Type 0 = λ l. LinePlaced setup limit (settled setup (filter (is_lower dev) l ++ (filter (is_same dev) l ++ lists.list1))) in
+      let P : List (Item Pad) → Type 0 = λ l. SubmissionPlaced setup limit (settled setup (filter (is_lower dev) l ++ (filter (is_same dev) l ++ lists.list1))) in
       subst P (sym none) (first_placed limit lists.list1 placed ordered)
 
   -- one that submitted legs
   copied_placed : (limit : ℕ) (dev : DevId) (lists : TaskLists) → Each (IsOwn setup dev.0 limit) lists.list0 → Each (IsPlaced setup limit) lists.list1 → Above dev.0 lists.list1 → Ordered lists.list1
-      → LinePlaced setup limit (goes_on setup dev lists)
+      → SubmissionPlaced setup limit (goes_on setup dev lists)
   copied_placed limit dev lists legs placed above ordered =
       let own : Item Pad → Type 0 = IsOwn setup dev.0 limit in
       let low = filter (is_lower dev) lists.list0 in
@@ -207,7 +207,7 @@ module _ (setup : Setup) (g : Ground setup) where
   -- one that submitted a child and the rest
   pub cut_placed : (limit : ℕ) (bio : Item Pad) (lists : TaskLists) (hand : Item Pad) (number : ℕ) (kind : Kind) (sizes : List ℕ) (members : ℕ → Tree) (key : ℕ)
       → DoingPlaced setup limit (Drives bio (ToCut (Links hand))) lists → tree_at setup bio.bio.dev ≡ Split number kind sizes members
-      → LinePlaced setup limit (goes_on setup bio.bio.dev (cut_lists bio lists hand (first_length kind sizes bio.bio.range) key kind sizes members))
+      → SubmissionPlaced setup limit (goes_on setup bio.bio.dev (cut_lists bio lists hand (first_length kind sizes bio.bio.range) key kind sizes members))
   cut_placed limit bio lists hand number kind sizes members key d same =
       let n = first_length kind sizes bio.bio.range in
       let child = piece bio hand n key kind sizes members in
@@ -220,27 +220,27 @@ module _ (setup : Setup) (g : Ground setup) where
       let home = suits.1 in
       let other : (child.bio.dev.0 == bio.bio.dev.0) ≡ false = ne_eqb child.bio.dev.0 bio.bio.dev.0 (λ q. omega arith) in
       let own : (rest.bio.dev.0 == bio.bio.dev.0) ≡ true = eq-eqb bio.bio.dev.0 bio.bio.dev.0 refl in
-      let P : List (Item Pad) → Type 0 = λ l. LinePlaced setup limit (settled setup
+      let P : List (Item Pad) → Type 0 = λ l. SubmissionPlaced setup limit (settled setup
       (filter (is_lower bio.bio.dev) ((l ++ child ∷ []) ++ rest ∷ []) ++ (filter (is_same bio.bio.dev) ((l ++ child ∷ []) ++ rest ∷ []) ++ lists.list1))) in
       let pc : IsPlaced setup limit child = (cuts.0, omega arith, omega arith, home) in
       let pr : IsPlaced setup limit rest = (cuts.2, up, below, d.1.0.3) in
-      let line = first_placed limit (child ∷ rest ∷ lists.list1) (pc, (pr, d.1.1))
+      let submission = first_placed limit (child ∷ rest ∷ lists.list1) (pc, (pr, d.1.1))
       ((omega arith, above_lower bio.bio.dev.0 child.bio.dev.0 lists.list1 (omega arith) d.2.0), (d.2.0, d.2.1)) in
-      let Q : List (Item Pad) → Type 0 = λ l. LinePlaced setup limit (settled setup l) in
-      subst P (sym d.0) (subst Q (sym (two_order bio.bio.dev child rest lists.list1 other own)) line)
+      let Q : List (Item Pad) → Type 0 = λ l. SubmissionPlaced setup limit (settled setup l) in
+      subst P (sym d.0) (subst Q (sym (two_order bio.bio.dev child rest lists.list1 other own)) submission)
 
   -- a mirror goes on to its next leg, or has returned
   pub copies_placed : (limit : ℕ) (lists : TaskLists) (bio : Bio) (master leg : ℕ) → IsThere setup bio → bio.dev.0 < limit → Each (IsOwn setup bio.dev.0 limit) lists.list0
-      → Each (IsPlaced setup limit) lists.list1 → Above bio.dev.0 lists.list1 → Ordered lists.list1 → LinePlaced setup limit (copies setup lists bio master leg)
+      → Each (IsPlaced setup limit) lists.list1 → Above bio.dev.0 lists.list1 → Ordered lists.list1 → SubmissionPlaced setup limit (copies setup lists bio master leg)
   copies_placed limit lists bio master leg there low legs placed above ordered = by_test (leg == legs_of (tree_at setup bio.dev))
     where
-      by_test : (v : Bool) → LinePlaced setup limit (if v then goes_on setup bio.dev lists else record { doing = Copies bio master leg (Takes (waits_first (setup.rescuer bio.dev.0) lists)); lists = lists })
+      by_test : (v : Bool) → SubmissionPlaced setup limit (if v then goes_on setup bio.dev lists else record { doing = Copies bio master leg (Takes (waits_first (setup.rescuer bio.dev.0) lists)); lists = lists })
       by_test true = copied_placed limit bio.dev lists legs placed above ordered
       by_test false = (there, low, legs, placed, above, ordered, tt)
 
   -- a write's bio at its device
   pub begun_placed : (writer : ℕ) (todo : Todo) (item : Item Pad) (vector : Option VectorItem) (key : ℕ) → TodoThere setup writer todo → item.share.no ≡ 65
-      → LinePlaced setup 32 (settled setup (filled_of writer todo item vector key ∷ []))
+      → SubmissionPlaced setup 32 (settled setup (filled_of writer todo item vector key ∷ []))
   begun_placed writer todo item None key fits home =
       let there = fits key in let dev = there.device in let few = g.few in
       first_placed 32 (filled_of writer todo item None key ∷ []) ((there, omega arith, omega arith, home), tt) (tt, tt)

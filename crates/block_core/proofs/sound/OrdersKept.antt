@@ -1,4 +1,4 @@
--- Events keep the lines of tasks and the rescue lists in order.
+-- Events keep the submissions of tasks and the rescue lists in order.
 use Rattle.std.proofs.Common.{◌≡◌, ◌+◌, ◌*◌, ◌++◌, ℕ, true, false, List, [], ◌∷◌, filter, Option, None, Some, inl, inr, sym, ◌∙◌, ap, subst, arith}
 use Rattle.stack_base.specs.declared.ids.DevId.{DevId}
 use Rattle.stack_base.specs.PoolId.{pool_number}
@@ -12,16 +12,16 @@ use Rattle.bioset_pools.specs.Sets.{bios_of}
 use Rattle.bio_books.specs.Books.{VectorItem, keeping}
 use Rattle.run_machine.specs.Maps.{upd}
 use Rattle.run_machine.specs.Scene.{Setup, Scene, tree_at}
-use Rattle.run_machine.specs.Lines.{Takes, Punts as WantsPunt, Links, ToPush, ToCut, ToRecord, ToMaster, Doing, Rests, Drives, Copies, Breaks, Line, rests, leg_at, is_of, punted, not_punted}
+use Rattle.run_machine.specs.Submissions.{Takes, Punts as WantsPunt, Links, ToPush, ToCut, ToRecord, ToMaster, Doing, Rests, Drives, Copies, Breaks, Submission, rests, leg_at, is_of, punted, not_punted}
 use Rattle.run_machine.specs.Tasks.{TaskState, Writer, Rescuer, Completer, Keeper}
 use Rattle.run_machine.specs.Objects.{clear_bio, clear_slip}
 use Rattle.run_machine.specs.Runs.{State}
-use Rattle.block_core.proofs.moves.Moves.{Move, Can, after, limit_of, with_line, HasLine, gathered_of}
+use Rattle.block_core.proofs.moves.Moves.{Move, Can, after, limit_of, with_submission, HasSubmission, gathered_of}
 use Rattle.block_core.proofs.moves.Moves as moves
 use Rattle.block_core.proofs.moves.Sums.{upd-same, upd-other, same_or_not}
 use Rattle.block_core.proofs.sound.Facts.{TaskFits, DoingIsIn, IsIn, Fair, Kept}
-use Rattle.block_core.proofs.sound.TaskLines.{all-upd, line_fits}
-use Rattle.block_core.proofs.sound.Orders.{Each, IsPlaced, IsOwn, AskFits, DoingPlaced, LinePlaced, HandHome, TaskPlaced, Placed, Ground, each_map, each_filter, each_append, of_set, first_placed, pushed_placed, cut_placed, copies_placed, begun_placed, wants_placed, punts_placed, waiting_placed}
+use Rattle.block_core.proofs.sound.TaskSubmissions.{all-upd, submission_fits}
+use Rattle.block_core.proofs.sound.Orders.{Each, IsPlaced, IsOwn, AskFits, DoingPlaced, SubmissionPlaced, HandHome, TaskPlaced, Placed, Ground, each_map, each_filter, each_append, of_set, first_placed, pushed_placed, cut_placed, copies_placed, begun_placed, wants_placed, punts_placed, waiting_placed}
 
 -- facts that see the place
 pub all_at : {X : Type 0} (P : ℕ → X → Type 0) (f : ℕ → X) (i : ℕ) (v : X) → ((j : ℕ) → P j (f j)) → P i v → (j : ℕ) → P j (upd f i v j)
@@ -31,16 +31,16 @@ all_at P f i v h hv j =
       | inr ne ↦ subst (P j) (sym (upd-other f i v j ne)) (h j)
     ]
 
--- the line of a task, in order
-pub line_placed : (setup : Setup) (x : TaskState) (doing : Doing) (lists : TaskLists) → TaskPlaced setup x → HasLine x doing lists → DoingPlaced setup (limit_of x) doing lists
-line_placed setup (Writer number todo taken line) doing lists t h = subst (LinePlaced setup 32) h t.1
-line_placed setup (Rescuer dev line) doing lists t h = subst (LinePlaced setup dev.0) h t
-line_placed setup (Completer disk carried) doing lists t h = absurd h
-line_placed setup (Keeper keeping) doing lists t h = absurd h
+-- the submission of a task, in order
+pub submission_placed : (setup : Setup) (x : TaskState) (doing : Doing) (lists : TaskLists) → TaskPlaced setup x → HasSubmission x doing lists → DoingPlaced setup (limit_of x) doing lists
+submission_placed setup (Writer number todo taken submission) doing lists t h = subst (SubmissionPlaced setup 32) h t.1
+submission_placed setup (Rescuer dev submission) doing lists t h = subst (SubmissionPlaced setup dev.0) h t
+submission_placed setup (Completer disk carried) doing lists t h = absurd h
+submission_placed setup (Keeper keeping) doing lists t h = absurd h
 
-relined : (setup : Setup) (x : TaskState) (new : Line) → TaskPlaced setup x → LinePlaced setup (limit_of x) new → TaskPlaced setup (with_line x new)
-relined setup (Writer number todo taken line) new t n = (t.0, n, t.2)
-relined setup (Rescuer dev line) new t n = n
+relined : (setup : Setup) (x : TaskState) (new : Submission) → TaskPlaced setup x → SubmissionPlaced setup (limit_of x) new → TaskPlaced setup (with_submission x new)
+relined setup (Writer number todo taken submission) new t n = (t.0, n, t.2)
+relined setup (Rescuer dev submission) new t n = n
 relined setup (Completer disk carried) new t n = tt
 relined setup (Keeper keeping) new t n = tt
 
@@ -51,20 +51,20 @@ module _ (scene : Scene) (s : State) (f : Fair scene) (g : Ground scene.setup) (
   goes : (place : ℕ) (y : TaskState) → TaskPlaced scene.setup y → (j : ℕ) → TaskPlaced scene.setup (upd s.task place y j)
   goes place y fits = all-upd (TaskPlaced scene.setup) s.task place y p.tasks fits
 
-  on_line : (place : ℕ) (x : TaskState) (new : Line) → s.task place ≡ x → LinePlaced scene.setup (limit_of x) new → (j : ℕ) → TaskPlaced scene.setup (upd s.task place (with_line x new) j)
-  on_line place x new is fits = goes place (with_line x new) (relined scene.setup x new (at_task place x is) fits)
+  on_submission : (place : ℕ) (x : TaskState) (new : Submission) → s.task place ≡ x → SubmissionPlaced scene.setup (limit_of x) new → (j : ℕ) → TaskPlaced scene.setup (upd s.task place (with_submission x new) j)
+  on_submission place x new is fits = goes place (with_submission x new) (relined scene.setup x new (at_task place x is) fits)
 
-  has : (place : ℕ) (x : TaskState) (doing : Doing) (lists : TaskLists) → s.task place ≡ x → HasLine x doing lists → DoingPlaced scene.setup (limit_of x) doing lists
-  has place x doing lists is h = line_placed scene.setup x doing lists (at_task place x is) h
+  has : (place : ℕ) (x : TaskState) (doing : Doing) (lists : TaskLists) → s.task place ≡ x → HasSubmission x doing lists → DoingPlaced scene.setup (limit_of x) doing lists
+  has place x doing lists is h = submission_placed scene.setup x doing lists (at_task place x is) h
 
   tasks : (m : Move) → Can scene s m → (j : ℕ) → TaskPlaced scene.setup ((after scene s m).task j)
   tasks (moves.TakesFirst place writer todo later move) c = let t = at_task place _ c.1 in goes place _ (t.0, t.1, f.named 65)
   tasks (moves.TakesVector place writer todo later item move) c = let t = at_task place _ c.1 in goes place _ (t.0, t.1, (t.2, f.named 64))
   tasks (moves.TakesSub place x doing lists dev waits move) c =
-      on_line place x _ c.1 (wants_placed scene.setup g (limit_of x) doing dev (Takes waits) (Links (clear_bio (scene.ledger (2 * dev.0)))) lists c.3 (f.named (2 * dev.0)) (has place x doing lists c.1 c.2))
+      on_submission place x _ c.1 (wants_placed scene.setup g (limit_of x) doing dev (Takes waits) (Links (clear_bio (scene.ledger (2 * dev.0)))) lists c.3 (f.named (2 * dev.0)) (has place x doing lists c.1 c.2))
   tasks (moves.TakesSlip place x bio lists move) c =
       let d = has place x (Drives bio ToRecord) lists c.1 c.2 in
-      on_line place x _ c.1 (d.0, d.1, d.2, by_tree (tree_at scene.setup bio.bio.dev) d.3)
+      on_submission place x _ c.1 (d.0, d.1, d.2, by_tree (tree_at scene.setup bio.bio.dev) d.3)
     where
       by_tree : (t : Tree) → AskFits t bio.bio.range bio.bio.dev.0 ToRecord → AskFits t bio.bio.range bio.bio.dev.0 (ToMaster (clear_slip (scene.ledger (2 * bio.bio.dev.0 + 1))))
       by_tree (Leaf number sectors) a = a
@@ -72,16 +72,16 @@ module _ (scene : Scene) (s : State) (f : Fair scene) (g : Ground scene.setup) (
       by_tree (Mirrored number sizes members) a = f.named (2 * bio.bio.dev.0 + 1)
   tasks (moves.MissesOne place x number used) c = goes place x (at_task place x c.1)
   tasks (moves.MissesTry place x doing lists dev used) c =
-      on_line place x _ c.1 (wants_placed scene.setup g (limit_of x) doing dev (Takes false) WantsPunt lists c.3 tt (has place x doing lists c.1 c.2))
+      on_submission place x _ c.1 (wants_placed scene.setup g (limit_of x) doing dev (Takes false) WantsPunt lists c.3 tt (has place x doing lists c.1 c.2))
   tasks (moves.Punts place x doing lists dev) c =
-      on_line place x _ c.1
+      on_submission place x _ c.1
       (wants_placed scene.setup g (limit_of x) doing dev WantsPunt (Takes true) (not_punted dev lists) c.3 tt
       (punts_placed scene.setup g (limit_of x) doing dev dev WantsPunt lists c.3 (has place x doing lists c.1 c.2)))
   tasks (moves.Pops place dev bio bios) c =
       let r : Each (IsOwn scene.setup dev.0 dev.0) (bio ∷ bios) = subst (Each (IsOwn scene.setup dev.0 dev.0)) c.3 (p.rescued dev.0) in
       goes place _ (first_placed scene.setup g dev.0 (bio ∷ []) (r.0.0, tt) (tt, tt))
   tasks (moves.Pushes place x bio lists) c =
-      let d = has place x (Drives bio ToPush) lists c.1 c.2 in on_line place x _ c.1 (pushed_placed scene.setup g (limit_of x) bio.bio.dev lists d.0 d.1.1 d.2.1)
+      let d = has place x (Drives bio ToPush) lists c.1 c.2 in on_submission place x _ c.1 (pushed_placed scene.setup g (limit_of x) bio.bio.dev lists d.0 d.1.1 d.2.1)
   tasks (moves.Completed place disk index bio status new) c = goes place _ tt
   tasks (moves.Begins place writer todo later item vector key) c =
       let t = at_task place (Writer writer (todo ∷ later) (gathered_of item vector) rests) c.1 in
@@ -91,14 +91,14 @@ module _ (scene : Scene) (s : State) (f : Fair scene) (g : Ground scene.setup) (
       home None h = h
       home (Some v) h = h.0
   tasks (moves.Chained place x bio lists hand number kind sizes members key node) c =
-      on_line place x _ c.1 (cut_placed scene.setup g (limit_of x) bio lists hand number kind sizes members key (has place x (Drives bio (ToCut (Links hand))) lists c.1 c.2) c.3)
+      on_submission place x _ c.1 (cut_placed scene.setup g (limit_of x) bio lists hand number kind sizes members key (has place x (Drives bio (ToCut (Links hand))) lists c.1 c.2) c.3)
   tasks (moves.Mastered place x bio lists slip key node) c =
       let d = has place x (Drives bio (ToMaster slip)) lists c.1 c.2 in
       let none : Each (IsOwn scene.setup bio.bio.dev.0 (limit_of x)) lists.list0 = subst (Each (IsOwn scene.setup bio.bio.dev.0 (limit_of x))) (sym d.0) tt in
-      on_line place x _ c.1 (copies_placed scene.setup g (limit_of x) lists bio.bio key 0 d.1.0.0 d.1.0.2 none d.1.1 d.2.0 d.2.1)
+      on_submission place x _ c.1 (copies_placed scene.setup g (limit_of x) lists bio.bio key 0 d.1.0.0 d.1.0.2 none d.1.1 d.2.0 d.2.1)
   tasks (moves.Legged place x bio lists master leg hand key node) c =
       let d = has place x (Copies bio master leg (Links hand)) lists c.1 c.2 in
-      let lt = line_fits scene x (Copies bio master leg (Links hand)) lists (subst (TaskFits scene) c.1 (i.tasks place)) c.2 in
+      let lt = submission_fits scene x (Copies bio master leg (Links hand)) lists (subst (TaskFits scene) c.1 (i.tasks place)) c.2 in
       let item = leg_at bio hand leg key (tree_at scene.setup bio.dev) in
       let l = g.leg bio hand leg key d.0 lt in
       let low = l.1 in
@@ -106,7 +106,7 @@ module _ (scene : Scene) (s : State) (f : Fair scene) (g : Ground scene.setup) (
       let share : item.share.no ≡ 2 * bio.dev.0 = ap (λ (r : LedgerId). r.no) l.3 ∙ d.6 in
       let set : pool_number (bios_of item.bio.set) ≡ 2 * bio.dev.0 = ap (λ s. pool_number (bios_of s)) l.2 in
       let own : IsOwn scene.setup bio.dev.0 (limit_of x) item = ((l.0, omega (arith, low, share), omega (arith, low, limit), share ∙ sym set), share) in
-      on_line place x _ c.1
+      on_submission place x _ c.1
       (copies_placed scene.setup g (limit_of x) (submitted item lists) bio master (leg + 1) d.0 d.1
       (each_append (IsOwn scene.setup bio.dev.0 (limit_of x)) lists.list0 (item ∷ []) d.2 (own, tt)) d.3 d.4 d.5)
   tasks (moves.Told place disk carried writer key status part node) c = goes place _ tt
@@ -162,14 +162,14 @@ module _ (scene : Scene) (s : State) (f : Fair scene) (g : Ground scene.setup) (
 
 -- a bio at hand is at a device of the stack
 pub placed_in : (setup : Setup) (x : TaskState) → TaskPlaced setup x → IsIn setup x
-placed_in setup (Writer number todo taken line) t = doing_in line.doing line.lists t.1
+placed_in setup (Writer number todo taken submission) t = doing_in submission.doing submission.lists t.1
   where
     doing_in : (doing : Doing) (lists : TaskLists) → DoingPlaced setup 32 doing lists → DoingIsIn setup doing
     doing_in Rests lists d = tt
     doing_in (Drives bio ask) lists d = d.1.0.0.device
     doing_in (Copies bio master leg want) lists d = d.0.device
     doing_in (Breaks breach kept) lists d = tt
-placed_in setup (Rescuer dev line) t = doing_in line.doing line.lists t
+placed_in setup (Rescuer dev submission) t = doing_in submission.doing submission.lists t
   where
     doing_in : (doing : Doing) (lists : TaskLists) → DoingPlaced setup dev.0 doing lists → DoingIsIn setup doing
     doing_in Rests lists d = tt

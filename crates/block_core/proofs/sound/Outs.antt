@@ -8,7 +8,7 @@ use Rattle.bio_records.specs.declared.bio.Pad.{Pad}
 use Rattle.bio_records.specs.Items.{Item}
 use Rattle.bio_lists.specs.Submission.{submitted}
 use Rattle.run_machine.specs.Scene.{Scene, tree_at}
-use Rattle.run_machine.specs.Lines.{ToMaster, Drives, first_length, legs_of, leg_at}
+use Rattle.run_machine.specs.Submissions.{ToMaster, Drives, first_length, legs_of, leg_at}
 use Rattle.run_machine.specs.Runs.{State}
 use Rattle.block_core.specs.Weights.{total, one, weigh_option, elements_of_pool, holding_elements}
 use Rattle.block_core.proofs.moves.Moves.{Move, Can, after, limit_of, cut_lists}
@@ -18,7 +18,7 @@ use Rattle.block_core.proofs.moves.Listed.{goes_weight, first_weight}
 use Rattle.block_core.proofs.moves.Deltas.{delta}
 use Rattle.block_core.specs.Roles.{named}
 use Rattle.block_core.proofs.sound.Facts.{Fair, Kept}
-use Rattle.block_core.proofs.sound.SumParts.{out_more, out_same, out_less, cut_weight, blind_elements, begun_elements, hands_elements, copies_weight, unless_none, line_part, named_away, told_elements, is_away}
+use Rattle.block_core.proofs.sound.SumParts.{out_more, out_same, out_less, cut_weight, blind_elements, begun_elements, hands_elements, copies_weight, unless_none, submission_part, named_away, told_elements, is_away}
 
 module _ (scene : Scene) (s : State) (f : Fair scene) (i : Kept scene s) where
   pub outs : (m : Move) → Can scene s m → (q : ℕ) → ((after scene s m).objects.pool q).facts.out ≡ total scene (elements_of_pool q) (after scene s m)
@@ -73,7 +73,7 @@ module _ (scene : Scene) (s : State) (f : Fair scene) (i : Kept scene s) where
   -- links of masters
   outs (moves.Mastered place x bio lists slip key node) c q =
       let w = named bio.bio.writer bio.bio.node in
-      let part = line_part scene w s place x (Drives bio (ToMaster slip)) lists c.0 c.1 c.2 in
+      let part = submission_part scene w s place x (Drives bio (ToMaster slip)) lists c.0 c.1 c.2 in
       let none : node.held.bio ≡ None = (named_away scene s bio node i c.4 (omega (arith, part))).0 in
       let held : weigh_option (λ (other : Item Pad). one other.share.no q) node.held.bio ≡ 0 = ap (weigh_option (λ (other : Item Pad). one other.share.no q)) none in
       omega (

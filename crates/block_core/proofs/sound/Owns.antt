@@ -11,10 +11,10 @@ use Rattle.bio_books.specs.declared.node.Role.{Role}
 use Rattle.bio_books.specs.declared.node.Role.TheVariants as role
 use Rattle.bio_books.specs.Books.{Node, BookState, VectorItem, node_at, top_node, child_node, master_node, leg_node, keeping, raised, lowered, told, later_part}
 use Rattle.run_machine.specs.Scene.{Setup, Scene, tree_at}
-use Rattle.run_machine.specs.Lines.{Want, Takes, Punts as WantsPunt, Links, ToPush, ToCut, ToRecord, ToMaster, Doing, Rests, Drives, Copies, Breaks, rests, settled, first_length, legs_of, leg_at}
+use Rattle.run_machine.specs.Submissions.{Want, Takes, Punts as WantsPunt, Links, ToPush, ToCut, ToRecord, ToMaster, Doing, Rests, Drives, Copies, Breaks, rests, settled, first_length, legs_of, leg_at}
 use Rattle.run_machine.specs.Tasks.{TaskState, Writer, Rescuer, Completer, Keeper, Todo, Gathered, NoBio, HasBio, HasBoth, Carried, Empty, Brings, Carries, Fails}
 use Rattle.run_machine.specs.Runs.{State}
-use Rattle.block_core.specs.Weights.{total, sum_at, one, weigh_option, want_weight, doing_weight, task_weight, line_weight, gathered_weight, carried_weight, book_weight, refs, names_node, count_of}
+use Rattle.block_core.specs.Weights.{total, sum_at, one, weigh_option, want_weight, doing_weight, task_weight, submission_weight, gathered_weight, carried_weight, book_weight, refs, names_node, count_of}
 use Rattle.block_core.proofs.moves.Moves.{Move, Can, after, lost, gained, limit_of, gathered_of, filled_of, vector_of, cut_lists, Tells}
 use Rattle.block_core.proofs.moves.Moves as moves
 use Rattle.block_core.proofs.moves.Sums.{one-same}
@@ -22,7 +22,7 @@ use Rattle.block_core.proofs.moves.Listed.{IsBlind, goes_weight, first_weight, l
 use Rattle.block_core.proofs.moves.Deltas.{delta}
 use Rattle.block_core.specs.Roles.{named}
 use Rattle.block_core.proofs.sound.Facts.{own_part, own_of, Fair, Kept}
-use Rattle.block_core.proofs.sound.SumParts.{cut_weight, copies_weight, unless_none, line_part, named_away, is_away}
+use Rattle.block_core.proofs.sound.SumParts.{cut_weight, copies_weight, unless_none, submission_part, named_away, is_away}
 use Rattle.block_core.proofs.moves.BookMaps.{made, became, chained}
 use Rattle.block_core.proofs.sound.Counts.{begun_names, tells_refs, leg_named, makes_leg}
 
@@ -52,8 +52,8 @@ module _ (setup : Setup) (w k : ℕ) where
   taken_le (HasBoth item vector) = omega arith
 
   task_le : (place : ℕ) (x : TaskState) → task_weight (named w k) place x ≤ task_weight (refs setup w k) place x
-  task_le place (Writer number todo taken line) = omega (arith, doing_le 32 line.doing, taken_le taken)
-  task_le place (Rescuer dev line) = omega (arith, doing_le dev.0 line.doing)
+  task_le place (Writer number todo taken submission) = omega (arith, doing_le 32 submission.doing, taken_le taken)
+  task_le place (Rescuer dev submission) = omega (arith, doing_le dev.0 submission.doing)
   task_le place (Completer disk Empty) = omega arith
   task_le place (Completer disk (Brings bio status)) = omega arith
   task_le place (Completer disk (Carries writer closed)) = omega arith
@@ -79,7 +79,7 @@ blind_named : (w k : ℕ) → IsBlind (named w k)
 blind_named w k limit item t = landed_same (λ (bio : Bio). one bio.writer w * one bio.node k) (λ to members bio. refl) t item.bio
 
 begun_named : (setup : Setup) (w k writer : ℕ) (todo : Todo) (later : List Todo) (item : Item Pad) (vector : Option VectorItem) (key : ℕ)
-    → line_weight (named w k) 32 (settled setup (filled_of writer todo item vector key ∷ []))
+    → submission_weight (named w k) 32 (settled setup (filled_of writer todo item vector key ∷ []))
     ≡ task_weight (named w k) 0 (Writer writer (todo ∷ later) (gathered_of item vector) rests) + one writer w * one key k
 begun_named setup w k writer todo later item None key =
     omega (arith, first_weight (named w k) (blind_named w k) 32 setup (filled_of writer todo item None key ∷ []), begun_names (names_node w k) w k refl writer todo item None key)
@@ -184,7 +184,7 @@ module _ (scene : Scene) (s : State) (f : Fair scene) (i : Kept scene s) where
   -- links of masters
   owns (moves.Mastered place x bio lists slip key node) c w k =
       let legs = legs_of (tree_at scene.setup bio.bio.dev) in
-      let part = line_part scene (named bio.bio.writer bio.bio.node) s place x (Drives bio (ToMaster slip)) lists c.0 c.1 c.2 in
+      let part = submission_part scene (named bio.bio.writer bio.bio.node) s place x (Drives bio (ToMaster slip)) lists c.0 c.1 c.2 in
       let a = named_away scene s bio node i c.4 (omega (arith, part)) in
       let b : own_part node.role node.held.bio ≡ own_part node.role None = ap (own_part node.role) a.0 in
       let lost_own : own_of (Some (keeping bio node)) + 1 ≡ own_of (Some node) + 0 = omega (arith, a.1, b, own_some node.role bio) in

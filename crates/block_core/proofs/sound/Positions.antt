@@ -11,7 +11,7 @@ use Rattle.run_machine.specs.Scene.{Scene}
 use Rattle.run_machine.specs.Runs.{State}
 use Rattle.block_core.proofs.moves.Moves.{Move, after}
 use Rattle.block_core.proofs.moves.Moves as moves
-use Rattle.block_core.proofs.sound.TaskLines.{all-upd}
+use Rattle.block_core.proofs.sound.TaskSubmissions.{all-upd}
 
 abbrev pub IsWithin : PoolState → Type 0
 IsWithin pool = pool.facts.pos ≤ entries_of pool.script

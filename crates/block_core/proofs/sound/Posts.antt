@@ -16,15 +16,15 @@ use Rattle.model_disks.specs.Disks.{DiskState}
 use Rattle.model_disks.specs.Moves.{pushed}
 use Rattle.run_machine.specs.Maps.{upd}
 use Rattle.run_machine.specs.Scene.{Scene, tree_at}
-use Rattle.run_machine.specs.Lines.{Links, ToPush, ToCut, ToRecord, ToMaster, Doing, Drives, Copies, Line, rests}
+use Rattle.run_machine.specs.Submissions.{Links, ToPush, ToCut, ToRecord, ToMaster, Doing, Drives, Copies, Submission, rests}
 use Rattle.run_machine.specs.Tasks.{TaskState, Writer, Rescuer, Completer, Keeper, Keeps, Stops, Duty, Resizes, Starts, Todo, Gathered, NoBio, HasBio, HasBoth, Carried, Empty, Brings, Carries, Fails}
 use Rattle.run_machine.specs.Objects.{done_one}
 use Rattle.run_machine.specs.Runs.{State}
-use Rattle.block_core.proofs.moves.Moves.{Move, Can, after, with_line, HasLine, gathered_of, IsTake}
+use Rattle.block_core.proofs.moves.Moves.{Move, Can, after, with_submission, HasSubmission, gathered_of, IsTake}
 use Rattle.block_core.proofs.moves.Moves as moves
 use Rattle.block_core.proofs.moves.Sums.{upd-same, upd-other, same_or_not}
 use Rattle.block_core.proofs.sound.Facts.{Suits, TaskFits, Kept}
-use Rattle.block_core.proofs.sound.TaskLines.{line_fits}
+use Rattle.block_core.proofs.sound.TaskSubmissions.{submission_fits}
 use Rattle.block_core.proofs.sound.Orders.{Each}
 use Rattle.block_core.proofs.sound.OrdersKept.{all_at}
 use Rattle.block_core.proofs.sound.Rounds.{TaskRounds, Tallied}
@@ -73,8 +73,8 @@ Keeping_ keeper scene tally place duties =
     Mins duties × (place ≡ keeper → tally.round + starts duties + 1 ≡ length tally.left) × InTasks scene duties place
 
 abbrev pub Manned : ℕ → Scene → TallyState → ℕ → TaskState → Type 0
-Manned keeper scene tally place (Writer number todo taken line) = ByRounds todo × TakenFits todo taken
-Manned keeper scene tally place (Rescuer dev line) = Unit {0}
+Manned keeper scene tally place (Writer number todo taken submission) = ByRounds todo × TakenFits todo taken
+Manned keeper scene tally place (Rescuer dev submission) = Unit {0}
 Manned keeper scene tally place (Completer disk carried) = Carrying carried
 Manned keeper scene tally place (Keeper (Keeps duties)) = Keeping_ keeper scene tally place duties
 Manned keeper scene tally place (Keeper (Stops breach)) = Unit {0}
@@ -98,20 +98,20 @@ module _ (rounds : List ℕ) (ids : ℕ → TaskId) (keeper : ℕ) (scene : Scen
   goes : (place : ℕ) (y : TaskState) → Post s.objects.tally place y → (j : ℕ) → Post s.objects.tally j (upd s.task place y j)
   goes place y fits = all_at (Post s.objects.tally) s.task place y i.tasks fits
 
-  relined : (place : ℕ) (x : TaskState) (doing : Doing) (lists : TaskLists) (new : Line) → HasLine x doing lists → Post s.objects.tally place x → Post s.objects.tally place (with_line x new)
-  relined place (Writer number todo taken line) doing lists new h t = t
-  relined place (Rescuer dev line) doing lists new h t = t
+  relined : (place : ℕ) (x : TaskState) (doing : Doing) (lists : TaskLists) (new : Submission) → HasSubmission x doing lists → Post s.objects.tally place x → Post s.objects.tally place (with_submission x new)
+  relined place (Writer number todo taken submission) doing lists new h t = t
+  relined place (Rescuer dev submission) doing lists new h t = t
   relined place (Completer disk carried) doing lists new h t = absurd h
   relined place (Keeper keeping) doing lists new h t = absurd h
 
-  on_line : (place : ℕ) (x : TaskState) (doing : Doing) (lists : TaskLists) (new : Line) → s.task place ≡ x → HasLine x doing lists → (j : ℕ) → Post s.objects.tally j (upd s.task place (with_line x new) j)
-  on_line place x doing lists new is h = goes place (with_line x new) (relined place x doing lists new h (at place x is))
+  on_submission : (place : ℕ) (x : TaskState) (doing : Doing) (lists : TaskLists) (new : Submission) → s.task place ≡ x → HasSubmission x doing lists → (j : ℕ) → Post s.objects.tally j (upd s.task place (with_submission x new) j)
+  on_submission place x doing lists new is h = goes place (with_submission x new) (relined place x doing lists new h (at place x is))
 
   -- the tally goes on
   other_tally : (tally : TallyState) (place : ℕ) (x : TaskState) → ((duties : List Duty) → (place ≡ keeper → s.objects.tally.round + starts duties + 1 ≡ length s.objects.tally.left)
       → place ≡ keeper → tally.round + starts duties + 1 ≡ length tally.left) → Post s.objects.tally place x → Post tally place x
-  other_tally tally place (Writer number todo taken line) same t = t
-  other_tally tally place (Rescuer dev line) same t = t
+  other_tally tally place (Writer number todo taken submission) same t = t
+  other_tally tally place (Rescuer dev submission) same t = t
   other_tally tally place (Completer disk carried) same t = t
   other_tally tally place (Keeper (Keeps duties)) same t = (t.0, (t.1.0, same duties t.1.1, t.1.2))
   other_tally tally place (Keeper (Stops breach)) same t = t
@@ -148,19 +148,19 @@ module _ (rounds : List ℕ) (ids : ℕ → TaskId) (keeper : ℕ) (scene : Scen
   tasks : (m : Move) → Can scene s m → (j : ℕ) → Post (after scene s m).objects.tally j ((after scene s m).task j)
   tasks (moves.TakesFirst place writer todo later move) c = let t = at place _ c.1 in goes place _ (t.0, (t.1.0, tt))
   tasks (moves.TakesVector place writer todo later item move) c = let t = at place _ c.1 in goes place _ (t.0, (t.1.0, tt))
-  tasks (moves.TakesSub place x doing lists dev waits move) c = on_line place x doing lists _ c.1 c.2
-  tasks (moves.TakesSlip place x bio lists move) c = on_line place x (Drives bio ToRecord) lists _ c.1 c.2
+  tasks (moves.TakesSub place x doing lists dev waits move) c = on_submission place x doing lists _ c.1 c.2
+  tasks (moves.TakesSlip place x bio lists move) c = on_submission place x (Drives bio ToRecord) lists _ c.1 c.2
   tasks (moves.MissesOne place x number used) c = goes place x (at place x c.1)
-  tasks (moves.MissesTry place x doing lists dev used) c = on_line place x doing lists _ c.1 c.2
-  tasks (moves.Punts place x doing lists dev) c = on_line place x doing lists _ c.1 c.2
+  tasks (moves.MissesTry place x doing lists dev used) c = on_submission place x doing lists _ c.1 c.2
+  tasks (moves.Punts place x doing lists dev) c = on_submission place x doing lists _ c.1 c.2
   tasks (moves.Pops place dev bio bios) c = let t = at place _ c.1 in goes place _ (t.0, tt)
-  tasks (moves.Pushes place x bio lists) c = on_line place x (Drives bio ToPush) lists _ c.1 c.2
+  tasks (moves.Pushes place x bio lists) c = on_submission place x (Drives bio ToPush) lists _ c.1 c.2
   tasks (moves.Completed place disk index bio status new) c = let t = at place _ c.1 in goes place _ (t.0, tt)
   tasks (moves.Begins place writer todo later item vector key) c =
       let t = at place (Writer writer (todo ∷ later) (gathered_of item vector) rests) c.1 in goes place _ (t.0, (t.1.0.1, tt))
-  tasks (moves.Chained place x bio lists hand number kind sizes members key node) c = on_line place x (Drives bio (ToCut (Links hand))) lists _ c.1 c.2
-  tasks (moves.Mastered place x bio lists slip key node) c = on_line place x (Drives bio (ToMaster slip)) lists _ c.1 c.2
-  tasks (moves.Legged place x bio lists master leg hand key node) c = on_line place x (Copies bio master leg (Links hand)) lists _ c.1 c.2
+  tasks (moves.Chained place x bio lists hand number kind sizes members key node) c = on_submission place x (Drives bio (ToCut (Links hand))) lists _ c.1 c.2
+  tasks (moves.Mastered place x bio lists slip key node) c = on_submission place x (Drives bio (ToMaster slip)) lists _ c.1 c.2
+  tasks (moves.Legged place x bio lists master leg hand key node) c = on_submission place x (Copies bio master leg (Links hand)) lists _ c.1 c.2
   tasks (moves.Told place disk carried writer key status part node) c = let t = at place _ c.1 in goes place _ (t.0, tt)
   tasks (moves.Closes place disk carried writer key status part node) c = let t = at place _ c.1 in goes place _ (t.0, tt)
   tasks (moves.Gives place disk writer number closed held) c = let t = at place _ c.1 in goes place _ (t.0, tt)
@@ -219,7 +219,7 @@ module _ (rounds : List ℕ) (ids : ℕ → TaskId) (keeper : ℕ) (scene : Scen
 
   disks : (m : Move) → Can scene s m → (dev : ℕ) → (((after scene s m).objects.disk dev).pending ≡ []) ⊎ (is_disk scene.setup dev ≡ true)
   disks (moves.Pushes place x bio lists) c =
-      let suits = line_fits scene x (Drives bio ToPush) lists (subst (TaskFits scene) c.1 (k.tasks place)) c.2 in
+      let suits = submission_fits scene x (Drives bio ToPush) lists (subst (TaskFits scene) c.1 (k.tasks place)) c.2 in
       all_at (λ d (disk : DiskState). (disk.pending ≡ []) ⊎ (is_disk scene.setup d ≡ true)) s.objects.disk bio.bio.dev.0 (pushed bio (s.objects.disk bio.bio.dev.0)) i.disks
       (inr (disk_there bio.bio c.3 suits))
   disks (moves.Completed place disk index bio status new) c =

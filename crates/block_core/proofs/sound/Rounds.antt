@@ -8,11 +8,11 @@ use Rattle.bio_books.specs.Books.{keeping}
 use Rattle.bio_books.specs.Drops.{Closed}
 use Rattle.run_machine.specs.Maps.{upd}
 use Rattle.run_machine.specs.Scene.{Scene}
-use Rattle.run_machine.specs.Lines.{Line, rests}
+use Rattle.run_machine.specs.Submissions.{Submission, rests}
 use Rattle.run_machine.specs.Tasks.{TaskState, Writer, Rescuer, Completer, Keeper, Keeping, Keeps, Stops, Duty, Resizes, Starts, Todo, Gathered, NoBio, Carries}
 use Rattle.run_machine.specs.Runs.{State}
 use Rattle.block_core.specs.Weights.{Weight, total, one, task_weight}
-use Rattle.block_core.proofs.moves.Moves.{Move, Can, after, with_line, gathered_of}
+use Rattle.block_core.proofs.moves.Moves.{Move, Can, after, with_submission, gathered_of}
 use Rattle.block_core.proofs.moves.Moves as moves
 use Rattle.block_core.proofs.moves.Sums.{upd-same, upd-other, one-same, one-other, same_or_not, below_or}
 use Rattle.block_core.proofs.sound.Orders.{Each}
@@ -66,8 +66,8 @@ KeepingFits rounds keeper present place (Keeps (duty ∷ duties)) = (place ≡ k
 KeepingFits rounds keeper present place (Stops breach) = Unit {0}
 
 abbrev pub TaskRounds : List ℕ → ℕ → ℕ → ℕ → TaskState → Type 0
-TaskRounds rounds keeper present place (Writer number todo taken line) = TodosFit rounds todo
-TaskRounds rounds keeper present place (Rescuer dev line) = Unit {0}
+TaskRounds rounds keeper present place (Writer number todo taken submission) = TodosFit rounds todo
+TaskRounds rounds keeper present place (Rescuer dev submission) = Unit {0}
 TaskRounds rounds keeper present place (Completer disk carried) = Unit {0}
 TaskRounds rounds keeper present place (Keeper keeping) = KeepingFits rounds keeper present place keeping
 
@@ -129,14 +129,14 @@ module _ (rounds : List ℕ) (keeper : ℕ) (scene : Scene) (s : State) (i : Tal
   goes : (place : ℕ) (y : TaskState) → TaskRounds rounds keeper s.objects.tally.round place y → (j : ℕ) → TaskRounds rounds keeper s.objects.tally.round j (upd s.task place y j)
   goes place y fits = all_at (TaskRounds rounds keeper s.objects.tally.round) s.task place y i.tasks fits
 
-  relined : (place : ℕ) (x : TaskState) (new : Line) → TaskRounds rounds keeper s.objects.tally.round place x → TaskRounds rounds keeper s.objects.tally.round place (with_line x new)
-  relined place (Writer number todo taken line) new t = t
-  relined place (Rescuer dev line) new t = tt
+  relined : (place : ℕ) (x : TaskState) (new : Submission) → TaskRounds rounds keeper s.objects.tally.round place x → TaskRounds rounds keeper s.objects.tally.round place (with_submission x new)
+  relined place (Writer number todo taken submission) new t = t
+  relined place (Rescuer dev submission) new t = tt
   relined place (Completer disk carried) new t = tt
   relined place (Keeper keeping) new t = t
 
-  on_line : (place : ℕ) (x : TaskState) (new : Line) → s.task place ≡ x → (j : ℕ) → TaskRounds rounds keeper s.objects.tally.round j (upd s.task place (with_line x new) j)
-  on_line place x new is = goes place (with_line x new) (relined place x new (at_task place x is))
+  on_submission : (place : ℕ) (x : TaskState) (new : Submission) → s.task place ≡ x → (j : ℕ) → TaskRounds rounds keeper s.objects.tally.round j (upd s.task place (with_submission x new) j)
+  on_submission place x new is = goes place (with_submission x new) (relined place x new (at_task place x is))
 
   keeps_fit : (place : ℕ) (duties : List Duty) (present : ℕ) → place ≡ keeper → DutiesFit rounds present duties → KeepingFits rounds keeper present place (Keeps duties)
   keeps_fit place [] present at d = tt
@@ -144,8 +144,8 @@ module _ (rounds : List ℕ) (keeper : ℕ) (scene : Scene) (s : State) (i : Tal
 
   -- another task keeps no rounds
   others : (place other : ℕ) (x : TaskState) (later : ℕ) → place ≡ keeper → other ≢ place → TaskRounds rounds keeper s.objects.tally.round other x → TaskRounds rounds keeper later other x
-  others place other (Writer number todo taken line) later at ne t = t
-  others place other (Rescuer dev line) later at ne t = tt
+  others place other (Writer number todo taken submission) later at ne t = t
+  others place other (Rescuer dev submission) later at ne t = tt
   others place other (Completer disk carried) later at ne t = tt
   others place other (Keeper (Keeps [])) later at ne t = tt
   others place other (Keeper (Keeps (duty ∷ duties))) later at ne t = absurd (ne (t.0 ∙ sym at))
@@ -166,19 +166,19 @@ module _ (rounds : List ℕ) (keeper : ℕ) (scene : Scene) (s : State) (i : Tal
   tasks : (m : Move) → Can scene s m → (j : ℕ) → TaskRounds rounds keeper (after scene s m).objects.tally.round j ((after scene s m).task j)
   tasks (moves.TakesFirst place writer todo later move) c = goes place _ (at_task place _ c.1)
   tasks (moves.TakesVector place writer todo later item move) c = goes place _ (at_task place _ c.1)
-  tasks (moves.TakesSub place x doing lists dev waits move) c = on_line place x _ c.1
-  tasks (moves.TakesSlip place x bio lists move) c = on_line place x _ c.1
+  tasks (moves.TakesSub place x doing lists dev waits move) c = on_submission place x _ c.1
+  tasks (moves.TakesSlip place x bio lists move) c = on_submission place x _ c.1
   tasks (moves.MissesOne place x number used) c = goes place x (at_task place x c.1)
-  tasks (moves.MissesTry place x doing lists dev used) c = on_line place x _ c.1
-  tasks (moves.Punts place x doing lists dev) c = on_line place x _ c.1
+  tasks (moves.MissesTry place x doing lists dev used) c = on_submission place x _ c.1
+  tasks (moves.Punts place x doing lists dev) c = on_submission place x _ c.1
   tasks (moves.Pops place dev bio bios) c = goes place _ tt
-  tasks (moves.Pushes place x bio lists) c = on_line place x _ c.1
+  tasks (moves.Pushes place x bio lists) c = on_submission place x _ c.1
   tasks (moves.Completed place disk index bio status new) c = goes place _ tt
   tasks (moves.Begins place writer todo later item vector key) c =
       let t = at_task place (Writer writer (todo ∷ later) (gathered_of item vector) rests) c.1 in goes place _ t.1
-  tasks (moves.Chained place x bio lists hand number kind sizes members key node) c = on_line place x _ c.1
-  tasks (moves.Mastered place x bio lists slip key node) c = on_line place x _ c.1
-  tasks (moves.Legged place x bio lists master leg hand key node) c = on_line place x _ c.1
+  tasks (moves.Chained place x bio lists hand number kind sizes members key node) c = on_submission place x _ c.1
+  tasks (moves.Mastered place x bio lists slip key node) c = on_submission place x _ c.1
+  tasks (moves.Legged place x bio lists master leg hand key node) c = on_submission place x _ c.1
   tasks (moves.Told place disk carried writer key status part node) c = goes place _ tt
   tasks (moves.Closes place disk carried writer key status part node) c = goes place _ tt
   tasks (moves.Gives place disk writer number closed held) c = goes place _ tt
@@ -209,9 +209,9 @@ module _ (rounds : List ℕ) (keeper : ℕ) (scene : Scene) (s : State) (i : Tal
   }
 
   -- a write that is begun is not of a later round
-  not_later : (place writer : ℕ) (todo : Todo) (later : List Todo) (taken : Gathered) (line : Line) → s.task place ≡ Writer writer (todo ∷ later) taken line → todo.round ≤ s.objects.tally.round
+  not_later : (place writer : ℕ) (todo : Todo) (later : List Todo) (taken : Gathered) (submission : Submission) → s.task place ≡ Writer writer (todo ∷ later) taken submission → todo.round ≤ s.objects.tally.round
       → (r : ℕ) → s.objects.tally.round < r → 0 ≡ is_of_round rounds r todo.number
-  not_later place writer todo later taken line is le r lt =
+  not_later place writer todo later taken submission is le r lt =
       let t = at_task place _ is in
       let own : round_of rounds todo.number ≡ todo.round = t.0 in
       sym (one-other (round_of rounds todo.number) r (λ e. omega (arith, e, own, le, lt)))

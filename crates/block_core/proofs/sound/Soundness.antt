@@ -4,7 +4,7 @@ use Rattle.std.specs.Prelude.{min}
 use Rattle.layout_model.specs.May.{fault_of}
 use Rattle.bio_books.specs.Books.{node_at, parent_of}
 use Rattle.run_machine.specs.Scene.{Scene}
-use Rattle.run_machine.specs.Lines.{Line}
+use Rattle.run_machine.specs.Submissions.{Submission}
 use Rattle.run_machine.specs.Tasks.{TaskState, Writer, Rescuer, Completer, Carries, Keeper}
 use Rattle.run_machine.specs.Opened.{scene, start, setup as setup_in}
 use Rattle.run_machine.specs.Runs.{State}
@@ -67,8 +67,8 @@ module _ (scene : Scene) (s : State) (i : Kept scene s) (level : ℕ → ℕ →
 
 -- a task that did nothing yet copies no bio
 begins_legless : (scene : Scene) (s : State) (x : TaskState) → Begins scene x → TaskHasLegs s x
-begins_legless scene s (Writer number todo taken line) h = subst (λ (l : Line). HasLegs s l.doing l.lists) (sym h.2) tt
-begins_legless scene s (Rescuer dev line) h = subst (λ (l : Line). HasLegs s l.doing l.lists) (sym h.1) tt
+begins_legless scene s (Writer number todo taken submission) h = subst (λ (l : Submission). HasLegs s l.doing l.lists) (sym h.2) tt
+begins_legless scene s (Rescuer dev submission) h = subst (λ (l : Submission). HasLegs s l.doing l.lists) (sym h.1) tt
 begins_legless scene s (Completer disk carried) h = tt
 begins_legless scene s (Keeper keeping) h = tt
 

@@ -9,10 +9,10 @@ use Rattle.bio_books.specs.Books.{Node, BookState, VectorItem, SlipItem, node_at
 use Rattle.bio_books.specs.Drops.{Closed}
 use Rattle.model_disks.specs.Disks.{DiskState}
 use Rattle.run_machine.specs.Scene.{Scene}
-use Rattle.run_machine.specs.Lines.{Want, Takes, Punts, Links, Ask, ToPush, ToCut, ToRecord, ToMaster, Doing, Rests, Drives, Copies, Breaks, Line}
+use Rattle.run_machine.specs.Submissions.{Want, Takes, Punts, Links, Ask, ToPush, ToCut, ToRecord, ToMaster, Doing, Rests, Drives, Copies, Breaks, Submission}
 use Rattle.run_machine.specs.Tasks.{TaskState, Writer, Rescuer, Completer, Keeper, Todo, Gathered, NoBio, HasBio, HasBoth, Carried, Empty, Brings, Carries, Fails}
 use Rattle.run_machine.specs.Runs.{State}
-use Rattle.block_core.specs.Weights.{Weight, Spot, Lined, Rescued, Pending, Brought, total, sum_at, weigh_option, want_weight, ask_weight, doing_weight, line_weight, gathered_weight, carried_weight, task_weight, book_weight}
+use Rattle.block_core.specs.Weights.{Weight, Spot, Lined, Rescued, Pending, Brought, total, sum_at, weigh_option, want_weight, ask_weight, doing_weight, submission_weight, gathered_weight, carried_weight, task_weight, book_weight}
 use Rattle.block_core.proofs.moves.Sums.{same_or_not}
 
 pub record IsSumOf (u a b x y : Weight) : Type 0 where
@@ -56,14 +56,14 @@ module _ (u a b x y : Weight) (is : IsSumOf u a b x y) where
   doing_sum limit (Copies bio master leg want) = omega (arith, is.copy bio master leg, want_sum want)
   doing_sum limit (Breaks breach kept) = refl
 
-  line_sum : (limit : ℕ) (line : Line) → line_weight u limit line ≡ line_weight a limit line + line_weight b limit line + line_weight x limit line + line_weight y limit line
-  line_sum limit line =
+  submission_sum : (limit : ℕ) (submission : Submission) → submission_weight u limit submission ≡ submission_weight a limit submission + submission_weight b limit submission + submission_weight x limit submission + submission_weight y limit submission
+  submission_sum limit submission =
       let l = Lined limit in
       omega (
         arith,
-        doing_sum limit line.doing,
-        list_sum (u.bio l) (a.bio l) (b.bio l) (x.bio l) (y.bio l) line.lists.list0 (is.bio l),
-        list_sum (u.bio l) (a.bio l) (b.bio l) (x.bio l) (y.bio l) line.lists.list1 (is.bio l),
+        doing_sum limit submission.doing,
+        list_sum (u.bio l) (a.bio l) (b.bio l) (x.bio l) (y.bio l) submission.lists.list0 (is.bio l),
+        list_sum (u.bio l) (a.bio l) (b.bio l) (x.bio l) (y.bio l) submission.lists.list1 (is.bio l),
       )
 
   taken_sum : (taken : Gathered) → gathered_weight u taken ≡ gathered_weight a taken + gathered_weight b taken + gathered_weight x taken + gathered_weight y taken
@@ -78,8 +78,8 @@ module _ (u a b x y : Weight) (is : IsSumOf u a b x y) where
   carried_sum place (Fails breach kept) = refl
 
   task_sum : (place : ℕ) (task : TaskState) → task_weight u place task ≡ task_weight a place task + task_weight b place task + task_weight x place task + task_weight y place task
-  task_sum place (Writer number todo taken line) = omega (arith, is.todo number todo taken, taken_sum taken, line_sum 32 line)
-  task_sum place (Rescuer dev line) = line_sum dev.0 line
+  task_sum place (Writer number todo taken submission) = omega (arith, is.todo number todo taken, taken_sum taken, submission_sum 32 submission)
+  task_sum place (Rescuer dev submission) = submission_sum dev.0 submission
   task_sum place (Completer disk carried) = carried_sum place carried
   task_sum place (Keeper keeping) = refl
 
@@ -154,9 +154,9 @@ module _ (u v : Weight) (same : IsSameButClosed u v) where
   doing_but limit (Copies bio master leg want) = omega (arith, ap (λ f. f bio master leg) same.copy, want_but want)
   doing_but limit (Breaks breach kept) = refl
 
-  line_but : (limit : ℕ) (line : Line) → line_weight u limit line ≡ line_weight v limit line
-  line_but limit line =
-      omega (arith, doing_but limit line.doing, ap (λ f. sum_by (f (Lined limit)) line.lists.list0) same.bio, ap (λ f. sum_by (f (Lined limit)) line.lists.list1) same.bio)
+  submission_but : (limit : ℕ) (submission : Submission) → submission_weight u limit submission ≡ submission_weight v limit submission
+  submission_but limit submission =
+      omega (arith, doing_but limit submission.doing, ap (λ f. sum_by (f (Lined limit)) submission.lists.list0) same.bio, ap (λ f. sum_by (f (Lined limit)) submission.lists.list1) same.bio)
 
   taken_but : (taken : Gathered) → gathered_weight u taken ≡ gathered_weight v taken
   taken_but NoBio = refl
@@ -165,8 +165,8 @@ module _ (u v : Weight) (same : IsSameButClosed u v) where
 
   task_but : (place : ℕ) (task : TaskState) → ((writer : ℕ) (closed : Closed) → u.closed place writer closed ≡ v.closed place writer closed)
       → task_weight u place task ≡ task_weight v place task
-  task_but place (Writer number todo taken line) is = omega (arith, ap (λ f. f number todo taken) same.todo, taken_but taken, line_but 32 line)
-  task_but place (Rescuer dev line) is = line_but dev.0 line
+  task_but place (Writer number todo taken submission) is = omega (arith, ap (λ f. f number todo taken) same.todo, taken_but taken, submission_but 32 submission)
+  task_but place (Rescuer dev submission) is = submission_but dev.0 submission
   task_but place (Completer disk Empty) is = refl
   task_but place (Completer disk (Brings bio status)) is = ap (λ f. f Brought bio) same.bio
   task_but place (Completer disk (Carries writer closed)) is = is writer closed

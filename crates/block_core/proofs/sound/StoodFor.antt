@@ -9,7 +9,7 @@ use Rattle.bio_books.specs.Links.{IsVacant}
 use Rattle.run_machine.specs.declared.event.Event.{Event}
 use Rattle.run_machine.specs.Maps.{upd}
 use Rattle.run_machine.specs.Scene.{Setup, Scene, tree_at}
-use Rattle.run_machine.specs.Lines.{ToMaster, Drives, punted, first_length, legs_of, leg_at}
+use Rattle.run_machine.specs.Submissions.{ToMaster, Drives, punted, first_length, legs_of, leg_at}
 use Rattle.run_machine.specs.Tasks.{Carried, Brings}
 use Rattle.run_machine.specs.Runs.{State, IsRun}
 use Rattle.block_core.specs.Weights.{Weight, total, one, task_weight, carried_weight, refs, under}
@@ -138,7 +138,7 @@ module _ (scene : Scene) (s : State) (i : Kept scene s) (was_master : ℕ → Bo
   -- links of masters
   stays_stood_for (moves.Mastered place x bio lists slip key node) c w k =
       let legs = legs_of (tree_at scene.setup bio.bio.dev) in
-      let part = parts.line_part scene (named bio.bio.writer bio.bio.node) s place x (Drives bio (ToMaster slip)) lists c.0 c.1 c.2 in
+      let part = parts.submission_part scene (named bio.bio.writer bio.bio.node) s place x (Drives bio (ToMaster slip)) lists c.0 c.1 c.2 in
       let a = parts.named_away scene s bio node i c.4 (omega (arith, part)) in
       let b : own_part node.role node.held.bio ≡ own_part node.role None = ap (own_part node.role) a.0 in
       let lost_own : own_of (Some (keeping bio node)) + 1 ≡ own_of (Some node) + 0 = omega (arith, a.1, b, own_some node.role bio) in

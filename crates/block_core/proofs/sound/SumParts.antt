@@ -18,13 +18,13 @@ use Rattle.bio_books.specs.Books.{Node, VectorItem, Holding, node_at, top_node, 
 use Rattle.run_machine.specs.Maps.{upd}
 use Rattle.run_machine.specs.Scene.{Setup, Scene, tree_at}
 use Rattle.bioset_pools.specs.Sets.{waits_first}
-use Rattle.run_machine.specs.Lines.{Takes, Doing, Copies, rests, settled, goes_on, copies, legs_of}
+use Rattle.run_machine.specs.Submissions.{Takes, Doing, Copies, rests, settled, goes_on, copies, legs_of}
 use Rattle.run_machine.specs.Tasks.{TaskState, Writer, Completer, Todo, Carried, Empty, Brings, Carries, Fails}
 use Rattle.run_machine.specs.Runs.{State}
-use Rattle.block_core.specs.Weights.{Weight, Lined, total, one, doing_weight, task_weight, line_weight, carried_weight, elements_of_pool, holding_elements, names_node}
-use Rattle.block_core.proofs.moves.Moves.{limit_of, HasLine, gathered_of, filled_of, vector_of, cut_lists, IsTake, Tells, Hands, piece}
+use Rattle.block_core.specs.Weights.{Weight, Lined, total, one, doing_weight, task_weight, submission_weight, carried_weight, elements_of_pool, holding_elements, names_node}
+use Rattle.block_core.proofs.moves.Moves.{limit_of, HasSubmission, gathered_of, filled_of, vector_of, cut_lists, IsTake, Tells, Hands, piece}
 use Rattle.block_core.proofs.moves.Sums.{weight-upd, one-same}
-use Rattle.block_core.proofs.moves.Totals.{task_part, line_part as line_in_task}
+use Rattle.block_core.proofs.moves.Totals.{task_part, submission_part as submission_in_task}
 use Rattle.block_core.proofs.moves.Listed.{IsBlind, goes_weight, first_weight}
 use Rattle.block_core.specs.Roles.{named}
 use Rattle.block_core.proofs.sound.Facts.{away, own_part, own_of, Kept}
@@ -60,7 +60,7 @@ pub blind_elements : (q : ℕ) → IsBlind (elements_of_pool q)
 blind_elements q limit item t = refl
 
 pub begun_elements : (scene : Scene) (q writer : ℕ) (todo : Todo) (later : List Todo) (item : Item Pad) (vector : Option VectorItem) (key : ℕ)
-    → line_weight (elements_of_pool q) 32 (settled scene.setup (filled_of writer todo item vector key ∷ [])) + (elements_of_pool q).node writer key (top_node todo.number (vector_of todo vector))
+    → submission_weight (elements_of_pool q) 32 (settled scene.setup (filled_of writer todo item vector key ∷ [])) + (elements_of_pool q).node writer key (top_node todo.number (vector_of todo vector))
     ≡ task_weight (elements_of_pool q) 0 (Writer writer (todo ∷ later) (gathered_of item vector) rests)
 begun_elements scene q writer todo later item None key =
     omega (arith, first_weight (elements_of_pool q) (blind_elements q) 32 scene.setup (filled_of writer todo item None key ∷ []), sum_by-cons (λ (bio : Item Pad). one bio.share.no q) (filled_of writer todo item None key) [])
@@ -86,21 +86,21 @@ unless_none false = refl
 
 -- the weight of a mirror's next leg and of what waits, where the place in the stack does not matter
 pub copies_weight : (w : Weight) → IsBlind w → (limit : ℕ) (setup : Setup) (lists : TaskLists) (bio : Bio) (master leg : ℕ)
-    → line_weight w limit (copies setup lists bio master leg)
+    → submission_weight w limit (copies setup lists bio master leg)
     ≡ unless (leg == legs_of (tree_at setup bio.dev)) (w.copy bio master leg) + sum_by (w.bio (Lined limit)) lists.list0 + sum_by (w.bio (Lined limit)) lists.list1
 copies_weight w blind limit setup lists bio master leg =
     elim (leg == legs_of (tree_at setup bio.dev))
-    as (λ v. line_weight w limit (if v then goes_on setup bio.dev lists else record { doing = Copies bio master leg (Takes (waits_first (setup.rescuer bio.dev.0) lists)); lists = lists })
+    as (λ v. submission_weight w limit (if v then goes_on setup bio.dev lists else record { doing = Copies bio master leg (Takes (waits_first (setup.rescuer bio.dev.0) lists)); lists = lists })
     ≡ unless v (w.copy bio master leg) + sum_by (w.bio (Lined limit)) lists.list0 + sum_by (w.bio (Lined limit)) lists.list1) [
       | true ↦ omega (arith, goes_weight w blind limit setup bio.dev lists)
       | false ↦ omega arith
     ]
 
--- a line's weight is a part of the whole
-pub line_part : (scene : Scene) (w : Weight) (s : State) (place : ℕ) (x : TaskState) (doing : Doing) (lists : TaskLists) → place < scene.tasks → s.task place ≡ x
-    → HasLine x doing lists → doing_weight w (limit_of x) doing ≤ total scene w s
-line_part scene w s place x doing lists lt is h =
-    omega (arith, line_in_task w place x doing lists h, task_part scene w s place x lt is)
+-- a submission's weight is a part of the whole
+pub submission_part : (scene : Scene) (w : Weight) (s : State) (place : ℕ) (x : TaskState) (doing : Doing) (lists : TaskLists) → place < scene.tasks → s.task place ≡ x
+    → HasSubmission x doing lists → doing_weight w (limit_of x) doing ≤ total scene w s
+submission_part scene w s place x doing lists lt is h =
+    omega (arith, submission_in_task w place x doing lists h, task_part scene w s place x lt is)
 
 -- A bio that a task's driver has names a node whose own part is away, and which is no master.
 pub named_away : (scene : Scene) (s : State) (bio : Item Pad) (node : Node) → Kept scene s → node_at (s.objects.book bio.bio.writer) bio.bio.node ≡ Some node

@@ -7,7 +7,7 @@ use Rattle.mempool_core.specs.Facts.{AddsUp}
 use Rattle.bio_books.specs.Books.{Node, BookState, node_at, keeping}
 use Rattle.model_disks.specs.Disks.{DiskState}
 use Rattle.run_machine.specs.Scene.{Scene}
-use Rattle.run_machine.specs.Lines.{rests}
+use Rattle.run_machine.specs.Submissions.{rests}
 use Rattle.run_machine.specs.Tasks.{TaskState, Writer, Rescuer, Completer, Keeper, Keeps, Duty, Todo, NoBio, Empty}
 use Rattle.run_machine.specs.Runs.{State}
 use Rattle.block_core.specs.Weights.{Weight, Pending, Rescued, total, sum_at, weigh_option, task_weight, book_weight, elements_of_pool, refs, count_of}
@@ -30,8 +30,8 @@ use Rattle.run_machine.specs.Opened.{Scenario, scene, start, tasks as opened_tas
 
 -- a task that did nothing yet
 abbrev pub Begins : Scene → TaskState → Type 0
-Begins scene (Writer number todo taken line) = (number < scene.books) × (taken ≡ NoBio) × (line ≡ rests)
-Begins scene (Rescuer dev line) = (dev.0 < scene.setup.count) × (line ≡ rests)
+Begins scene (Writer number todo taken submission) = (number < scene.books) × (taken ≡ NoBio) × (submission ≡ rests)
+Begins scene (Rescuer dev submission) = (dev.0 < scene.setup.count) × (submission ≡ rests)
 Begins scene (Completer disk carried) = (disk.0 < scene.setup.count) × (carried ≡ Empty)
 Begins scene (Keeper keeping) = GoesOn keeping
 
@@ -41,8 +41,8 @@ sum_at-zero w zero f h = refl
 sum_at-zero w (suc n) f h = omega (arith, sum_at-zero w n f h, h n)
 
 task_zero : (scene : Scene) (w : Weight) (place : ℕ) (x : TaskState) → ((n : ℕ) (todos : List Todo) → w.todo n todos NoBio ≡ 0) → Begins scene x → task_weight w place x ≡ 0
-task_zero scene w place (Writer number todo taken line) none h = let z = none number todo in rw (h.1, h.2) (omega arith)
-task_zero scene w place (Rescuer dev line) none h = rw (h.1) refl
+task_zero scene w place (Writer number todo taken submission) none h = let z = none number todo in rw (h.1, h.2) (omega arith)
+task_zero scene w place (Rescuer dev submission) none h = rw (h.1) refl
 task_zero scene w place (Completer disk carried) none h = rw (h.1) refl
 task_zero scene w place (Keeper keeping) none h = refl
 
@@ -77,14 +77,14 @@ total_zero scene s w none o =
     )
 
 begins_fit : (scene : Scene) (x : TaskState) → Begins scene x → TaskFits scene x
-begins_fit scene (Writer number todo taken line) h = rw (h.1, h.2) (h.0, refl, tt)
-begins_fit scene (Rescuer dev line) h = rw (h.1) (h.0, refl)
+begins_fit scene (Writer number todo taken submission) h = rw (h.1, h.2) (h.0, refl, tt)
+begins_fit scene (Rescuer dev submission) h = rw (h.1) (h.0, refl)
 begins_fit scene (Completer disk carried) h = h.0
 begins_fit scene (Keeper keeping) h = h
 
 begins_in : (scene : Scene) (x : TaskState) → Begins scene x → IsIn scene.setup x
-begins_in scene (Writer number todo taken line) h = rw (h.2) tt
-begins_in scene (Rescuer dev line) h = rw (h.1) tt
+begins_in scene (Writer number todo taken submission) h = rw (h.2) tt
+begins_in scene (Rescuer dev submission) h = rw (h.1) tt
 begins_in scene (Completer disk carried) h = tt
 begins_in scene (Keeper keeping) h = tt
 

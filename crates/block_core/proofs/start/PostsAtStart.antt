@@ -3,7 +3,7 @@ use Rattle.std.proofs.Common.{◌≡◌, ◌≢◌, ◌+◌, ◌-◌, ◌<◌, �
 use Rattle.std.specs.Prelude.{slice_get}
 use Rattle.stack_base.specs.declared.stack.Kind.{Kind}
 use Rattle.elem_ledger.specs.Ledger.{LedgerId}
-use Rattle.run_machine.specs.Lines.{rests}
+use Rattle.run_machine.specs.Submissions.{rests}
 use Rattle.run_machine.specs.Tasks.{TaskState, Writer, Rescuer, Completer, Duty, Resizes, Starts, Todo, NoBio, Empty}
 use Rattle.block_core.proofs.start.WritesAtStart.{each_of}
 use Rattle.block_core.proofs.moves.Sums.{same_or_not}

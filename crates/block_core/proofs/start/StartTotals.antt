@@ -13,7 +13,7 @@ use Rattle.layout_model.specs.declared.write.Write.{Write}
 use Rattle.layout_model.proofs.RangeSums.{sum_next, sum_same, sum_swapped}
 use Rattle.model_disks.specs.Disks.{DiskState}
 use Rattle.run_machine.specs.Scene.{Scene, is_disk}
-use Rattle.run_machine.specs.Lines.{rests}
+use Rattle.run_machine.specs.Submissions.{rests}
 use Rattle.run_machine.specs.Tasks.{TaskState, Writer, Rescuer, Completer, Keeper, Duty, Todo, NoBio, Empty}
 use Rattle.run_machine.specs.Opened.{Scenario, scene, start, tasks as opened_tasks, todos, todos_of, is_by, writers, duties, keepers, no_task, setup as setup_in, at as device_at}
 use Rattle.block_core.specs.Weights.{Weight, Pending, Rescued, total, sum_at, one, task_weight, book_weight}
@@ -124,15 +124,15 @@ picked h w (suc n) = elim (same_or_not n w) [
 
 -- what a task has to begin is worth
 abbrev todo_weight : Weight → TaskState → ℕ
-todo_weight w (Writer number todo taken line) = w.todo number todo NoBio
-todo_weight w (Rescuer dev line) = 0
+todo_weight w (Writer number todo taken submission) = w.todo number todo NoBio
+todo_weight w (Rescuer dev submission) = 0
 todo_weight w (Completer disk carried) = 0
 todo_weight w (Keeper keeping) = 0
 
 -- of a task that did nothing yet all else is worth nothing
 task_is : (scene : Scene) (w : Weight) (place : ℕ) (x : TaskState) → Begins scene x → task_weight w place x ≡ todo_weight w x
-task_is scene w place (Writer number todo taken line) h = rw (h.1, h.2) (omega arith)
-task_is scene w place (Rescuer dev line) h = rw (h.1) refl
+task_is scene w place (Writer number todo taken submission) h = rw (h.1, h.2) (omega arith)
+task_is scene w place (Rescuer dev submission) h = rw (h.1) refl
 task_is scene w place (Completer disk carried) h = rw (h.1) refl
 task_is scene w place (Keeper keeping) h = refl
 

@@ -4,7 +4,7 @@ use Rattle.std.specs.Prelude.{sum, sum_by}
 use Rattle.std.proofs.lemmas.List.{get_or_past}
 use Rattle.std.proofs.lemmas.List.Sums.{sum_by-cons}
 use Rattle.elem_ledger.specs.Ledger.{LedgerId}
-use Rattle.run_machine.specs.Lines.{rests}
+use Rattle.run_machine.specs.Submissions.{rests}
 use Rattle.run_machine.specs.Tasks.{TaskState, Writer, Rescuer, Completer, Duty, Resizes, Starts, Todo, NoBio, Empty}
 use Rattle.block_core.specs.Weights.{total, one}
 use Rattle.block_core.proofs.moves.Sums.{below_or}

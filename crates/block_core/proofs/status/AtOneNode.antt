@@ -12,7 +12,7 @@ use Rattle.bio_records.specs.declared.bio.Pad.{Pad}
 use Rattle.bio_records.specs.Items.{Item}
 use Rattle.bio_books.specs.Books.{Node, BookState, node_at, with_node}
 use Rattle.run_machine.specs.Maps.{upd}
-use Rattle.run_machine.specs.Lines.{legs_of, leg_at}
+use Rattle.run_machine.specs.Submissions.{legs_of, leg_at}
 use Rattle.block_core.specs.Weights.{one}
 use Rattle.block_core.proofs.status.Marks.{leg_may, Mark, decides, above}
 use Rattle.block_core.proofs.moves.Sums.{upd-same, upd-other, one-same, one-other, same_or_not}

@@ -18,21 +18,21 @@ use Rattle.bio_books.specs.declared.node.Role.TheVariants as role
 use Rattle.bio_books.specs.Books.{Node, node_at, parent_of, kept_with, closing}
 use Rattle.bio_books.specs.Links.{IsVacant}
 use Rattle.run_machine.specs.Scene.{Setup, Scene, tree_at}
-use Rattle.run_machine.specs.Lines.{Links, ToPush, ToCut, ToMaster, Doing, Drives, Copies, rests, first_length, legs_of, leg_at, punted}
+use Rattle.run_machine.specs.Submissions.{Links, ToPush, ToCut, ToMaster, Doing, Drives, Copies, rests, first_length, legs_of, leg_at, punted}
 use Rattle.run_machine.specs.Tasks.{TaskState, Writer, HasBio, HasBoth}
 use Rattle.run_machine.specs.Runs.{State}
 use Rattle.block_core.specs.Weights.{Weight, Lined, Rescued, total, names_node}
 use Rattle.block_core.proofs.status.Marks.{is, bio_may, leg_may, todo_may, Mark, allowed, allowed_by, mismatch, above, unallowed, IsMarked}
-use Rattle.block_core.proofs.moves.Moves.{Move, Can, after, lost, gained, limit_of, HasLine, filled_of, cut_lists, piece}
+use Rattle.block_core.proofs.moves.Moves.{Move, Can, after, lost, gained, limit_of, HasSubmission, filled_of, cut_lists, piece}
 use Rattle.block_core.proofs.moves.Moves as moves
 use Rattle.block_core.proofs.sound.Facts.{TaskFits, own_part, Kept}
 use Rattle.block_core.specs.Roles.{named}
-use Rattle.block_core.proofs.sound.TaskLines.{line_fits}
+use Rattle.block_core.proofs.sound.TaskSubmissions.{submission_fits}
 use Rattle.block_core.proofs.moves.Deltas.{delta}
-use Rattle.block_core.proofs.sound.SumParts.{cut_weight, line_part, named_away, unless_less}
+use Rattle.block_core.proofs.sound.SumParts.{cut_weight, submission_part, named_away, unless_less}
 use Rattle.block_core.proofs.moves.Listed.{landed_same}
 use Rattle.block_core.proofs.sound.Orders.{Each, IsOwn, DoingPlaced, TaskPlaced, Placed, Ground}
-use Rattle.block_core.proofs.sound.OrdersKept.{line_placed}
+use Rattle.block_core.proofs.sound.OrdersKept.{submission_placed}
 use Rattle.block_core.proofs.moves.Misfits.{misfits, cut_fits}
 use Rattle.block_core.proofs.images.StillToCome.{over}
 use Rattle.block_core.proofs.images.FragmentCounts.{legs_next}
@@ -69,14 +69,14 @@ module _ (scene : Scene) (ends : Fragment → Status) (written : ℕ → Status 
 
   module _ (s : State) (g : Ground setup) (i : Kept scene s) (a : Placed setup s) (counted : total scene (misfits over) s ≡ 0) (endings : (place : ℕ) → HasEnding ends (s.task place))
       (mark : ℕ → ℕ → Mark) (h : IsMarked scene ends written mark s) where
-    has : (place : ℕ) (x : TaskState) (doing : Doing) (lists : TaskLists) → s.task place ≡ x → HasLine x doing lists → DoingPlaced setup (limit_of x) doing lists
-    has place x doing lists at line = line_placed setup x doing lists (subst (TaskPlaced setup) at (a.tasks place)) line
+    has : (place : ℕ) (x : TaskState) (doing : Doing) (lists : TaskLists) → s.task place ≡ x → HasSubmission x doing lists → DoingPlaced setup (limit_of x) doing lists
+    has place x doing lists at submission = submission_placed setup x doing lists (subst (TaskPlaced setup) at (a.tasks place)) submission
 
     -- a node that a driven bio names is no master
-    driven_node : (place : ℕ) (x : TaskState) (bio : Item Pad) (doing : Doing) (lists : TaskLists) (node : Node) → place < scene.tasks → s.task place ≡ x → HasLine x doing lists
+    driven_node : (place : ℕ) (x : TaskState) (bio : Item Pad) (doing : Doing) (lists : TaskLists) (node : Node) → place < scene.tasks → s.task place ≡ x → HasSubmission x doing lists
         → names_node bio.bio.writer bio.bio.node bio ≤ total scene (named bio.bio.writer bio.bio.node) s
         → node_at (s.objects.book bio.bio.writer) bio.bio.node ≡ Some node → (mark bio.bio.writer bio.bio.node).master ≡ false
-    driven_node place x bio doing lists node here at line part open_there =
+    driven_node place x bio doing lists node here at submission part open_there =
         not_master node.role (mark bio.bio.writer bio.bio.node).master (named_away scene s bio node i open_there part).1 (by_role scene ends written s i endings mark h bio.bio.writer bio.bio.node node open_there)
 
     -- no end comes where it must not
@@ -183,8 +183,8 @@ module _ (scene : Scene) (ends : Fragment → Status) (written : ℕ → Status 
         let there = cut_there setup (limit_of x) g bio hand lists key number kind sizes members d c.3 in
         let fits : over bio.bio ≡ 0 = cut_fits over scene s counted place x bio hand lists c.0 c.1 c.2 in
         let parts = v.cut bio hand key number kind sizes members d.1.0.0 (omega (arith, fits)) c.3 there.0 in
-        let part = line_part scene (off_by mark end) s place x (Drives bio (ToCut (Links hand))) lists c.0 c.1 c.2 in
-        let names_part = line_part scene (named bio.bio.writer bio.bio.node) s place x (Drives bio (ToCut (Links hand))) lists c.0 c.1 c.2 in
+        let part = submission_part scene (off_by mark end) s place x (Drives bio (ToCut (Links hand))) lists c.0 c.1 c.2 in
+        let names_part = submission_part scene (named bio.bio.writer bio.bio.node) s place x (Drives bio (ToCut (Links hand))) lists c.0 c.1 c.2 in
         let own = driven_node place x bio (Drives bio (ToCut (Links hand))) lists node c.0 c.1 c.2 (omega (arith, names_part)) c.5 in
         let parent = mark_other mark bio.bio.writer key new bio.bio.writer bio.bio.node (elsewhere scene s i bio.bio.writer key c.6 bio.bio.writer bio.bio.node node c.5) in
         let up : Mark = mark bio.bio.writer bio.bio.node in
@@ -235,7 +235,7 @@ module _ (scene : Scene) (ends : Fragment → Status) (written : ℕ → Status 
         let new = new_mark false (bio_may setup ends item.bio) in
         let marks = with_mark mark bio.writer key new in
         let d = has place x (Copies bio master leg (Links hand)) lists c.1 c.2 in
-        let lt = line_fits scene x (Copies bio master leg (Links hand)) lists (subst (TaskFits scene) c.1 (i.tasks place)) c.2 in
+        let lt = submission_fits scene x (Copies bio master leg (Links hand)) lists (subst (TaskFits scene) c.1 (i.tasks place)) c.2 in
         let f : ℕ → ℕ = λ k. leg_may ends t bio k end - allowed (marks bio.writer master) end in
         more_off end (moves.Legged place x bio lists master leg hand key node) c bio.writer key new c.5
         (omega (

@@ -17,22 +17,22 @@ use Rattle.bio_books.specs.Books.{Node, BookState, node_at, top_node, child_node
 use Rattle.bio_books.specs.Links.{IsVacant}
 use Rattle.bio_books.specs.Drops.{Closed, closed_of}
 use Rattle.run_machine.specs.Scene.{Setup, Scene, tree_at}
-use Rattle.run_machine.specs.Lines.{Links, ToPush, ToCut, ToMaster, Doing, Drives, Copies, rests, first_length, landed, legs_of, leg_at}
+use Rattle.run_machine.specs.Submissions.{Links, ToPush, ToCut, ToMaster, Doing, Drives, Copies, rests, first_length, landed, legs_of, leg_at}
 use Rattle.run_machine.specs.Tasks.{TaskState, Writer, HasBio, HasBoth, Carried}
 use Rattle.run_machine.specs.Runs.{State}
 use Rattle.block_core.specs.Weights.{Weight, Lined, total, one, names_node, under}
 use Rattle.block_core.proofs.status.Marks.{is, bio_may, leg_may, todo_may, Mark, decides, lack, deciding, IsMarked}
-use Rattle.block_core.proofs.moves.Moves.{Move, Can, after, lost, gained, limit_of, HasLine, filled_of, vector_of, cut_lists, piece}
+use Rattle.block_core.proofs.moves.Moves.{Move, Can, after, lost, gained, limit_of, HasSubmission, filled_of, vector_of, cut_lists, piece}
 use Rattle.block_core.proofs.moves.Moves as moves
 use Rattle.block_core.proofs.moves.Sums.{one-same, within_book}
 use Rattle.block_core.proofs.sound.Facts.{TaskFits, Kept}
-use Rattle.block_core.proofs.sound.TaskLines.{line_fits}
+use Rattle.block_core.proofs.sound.TaskSubmissions.{submission_fits}
 use Rattle.block_core.proofs.moves.Deltas.{vacant_at, delta}
 use Rattle.block_core.proofs.moves.BookMaps.{made, chained}
 use Rattle.block_core.proofs.sound.SumParts.{cut_weight}
 use Rattle.block_core.proofs.moves.Listed.{landed_same}
 use Rattle.block_core.proofs.sound.Orders.{Each, IsOwn, DoingPlaced, TaskPlaced, Placed, Ground}
-use Rattle.block_core.proofs.sound.OrdersKept.{line_placed}
+use Rattle.block_core.proofs.sound.OrdersKept.{submission_placed}
 use Rattle.block_core.proofs.moves.Misfits.{misfits, cut_fits}
 use Rattle.block_core.proofs.images.StillToCome.{over}
 use Rattle.block_core.proofs.images.FragmentCounts.{legs_next}
@@ -59,8 +59,8 @@ module _ (scene : Scene) (ends : Fragment → Status) (written : ℕ → Status 
 
   module _ (s : State) (g : Ground setup) (i : Kept scene s) (a : Placed setup s) (counted : total scene (misfits over) s ≡ 0) (endings : (place : ℕ) → HasEnding ends (s.task place))
       (mark : ℕ → ℕ → Mark) (h : IsMarked scene ends written mark s) where
-    has : (place : ℕ) (x : TaskState) (doing : Doing) (lists : TaskLists) → s.task place ≡ x → HasLine x doing lists → DoingPlaced setup (limit_of x) doing lists
-    has place x doing lists at line = line_placed setup x doing lists (subst (TaskPlaced setup) at (a.tasks place)) line
+    has : (place : ℕ) (x : TaskState) (doing : Doing) (lists : TaskLists) → s.task place ≡ x → HasSubmission x doing lists → DoingPlaced setup (limit_of x) doing lists
+    has place x doing lists at submission = submission_placed setup x doing lists (subst (TaskPlaced setup) at (a.tasks place)) submission
 
     -- what a node lacks still comes
     same_decided : (m : Move) → Can scene s m → (after scene s m).objects.book ≡ s.objects.book → (w k : ℕ)
@@ -254,7 +254,7 @@ module _ (scene : Scene) (ends : Fragment → Status) (written : ℕ → Status 
         let m : Bool = (marks w k).master in
         let made_node = leg_node node.write master in
         let d = has place x (Copies bio master leg (Links hand)) lists c.1 c.2 in
-        let lt = line_fits scene x (Copies bio master leg (Links hand)) lists (subst (TaskFits scene) c.1 (i.tasks place)) c.2 in
+        let lt = submission_fits scene x (Copies bio master leg (Links hand)) lists (subst (TaskFits scene) c.1 (i.tasks place)) c.2 in
         let f : ℕ → ℕ = λ j. decides m (leg_may ends t bio j Ok) in
         let refers : ℕ = one bio.writer w * one master k in
         more_decided (moves.Legged place x bio lists master leg hand key node) c bio.writer key new made_node c.5 w k

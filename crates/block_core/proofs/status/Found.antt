@@ -11,11 +11,11 @@ use Rattle.bio_books.specs.Books.{Node, VectorItem, SlipItem, node_at}
 use Rattle.bio_books.specs.Drops.{Closed}
 use Rattle.model_disks.specs.Disks.{DiskState}
 use Rattle.run_machine.specs.Scene.{Scene}
-use Rattle.run_machine.specs.Lines.{Want, Takes, Punts, Links, Ask, ToPush, ToCut, ToRecord, ToMaster, Doing, Rests, Drives, Copies, Breaks, Line}
+use Rattle.run_machine.specs.Submissions.{Want, Takes, Punts, Links, Ask, ToPush, ToCut, ToRecord, ToMaster, Doing, Rests, Drives, Copies, Breaks, Submission}
 use Rattle.run_machine.specs.Tasks.{Todo, Gathered, NoBio, HasBio, HasBoth, Carried, Empty, Brings, Carries, Fails, TaskState, Writer, Rescuer, Completer, Keeper}
 use Rattle.run_machine.specs.Runs.{State}
-use Rattle.block_core.specs.Weights.{Weight, Spot, Lined, Rescued, Pending, Brought, sum_at, weigh_option, doing_weight, line_weight, gathered_weight, want_weight, ask_weight, task_weight, book_weight, total}
-use Rattle.block_core.specs.AtWork.{DoingHolds, LineHolds, CarriedHolds, LineOf, IsBrought, IsInDisk, IsAtWork}
+use Rattle.block_core.specs.Weights.{Weight, Spot, Lined, Rescued, Pending, Brought, sum_at, weigh_option, doing_weight, submission_weight, gathered_weight, want_weight, ask_weight, task_weight, book_weight, total}
+use Rattle.block_core.specs.AtWork.{DoingHolds, SubmissionHolds, CarriedHolds, SubmissionOf, IsBrought, IsInDisk, IsAtWork}
 use Rattle.block_core.proofs.images.PlannedOnce.{term_in}
 use Rattle.block_core.proofs.moves.Totals.{part_of, task_part}
 use Rattle.block_core.proofs.stuck.NothingWaits.{zero_or, some_place}
@@ -51,16 +51,16 @@ some_in_range f (suc n) a h = elim (zero_or (f a)) [
 ]
 
 module _ (scene : Scene) (s : State) (w : Weight) where
-  line_of_task : (place : ℕ) (x : TaskState) (line : Line) → LineOf x line → (limit : ℕ) × (line_weight w limit line ≤ task_weight w place x)
-  line_of_task place (Writer number todo taken own) line is = (32, let e : line_weight w 32 own ≡ line_weight w 32 line = ap (line_weight w 32) is in omega (arith, e))
-  line_of_task place (Rescuer dev own) line is = (dev.0, let e : line_weight w dev.0 own ≡ line_weight w dev.0 line = ap (line_weight w dev.0) is in omega (arith, e))
-  line_of_task place (Completer disk carried) line is = absurd is
-  line_of_task place (Keeper keeping) line is = absurd is
+  submission_of_task : (place : ℕ) (x : TaskState) (submission : Submission) → SubmissionOf x submission → (limit : ℕ) × (submission_weight w limit submission ≤ task_weight w place x)
+  submission_of_task place (Writer number todo taken own) submission is = (32, let e : submission_weight w 32 own ≡ submission_weight w 32 submission = ap (submission_weight w 32) is in omega (arith, e))
+  submission_of_task place (Rescuer dev own) submission is = (dev.0, let e : submission_weight w dev.0 own ≡ submission_weight w dev.0 submission = ap (submission_weight w dev.0) is in omega (arith, e))
+  submission_of_task place (Completer disk carried) submission is = absurd is
+  submission_of_task place (Keeper keeping) submission is = absurd is
 
-  -- a line that a task has
-  pub line_within : (place : ℕ) (line : Line) → place < scene.tasks → LineOf (s.task place) line → (limit : ℕ) × (line_weight w limit line ≤ total scene w s)
-  line_within place line lt is =
-      let r = line_of_task place (s.task place) line is in
+  -- a submission that a task has
+  pub submission_within : (place : ℕ) (submission : Submission) → place < scene.tasks → SubmissionOf (s.task place) submission → (limit : ℕ) × (submission_weight w limit submission ≤ total scene w s)
+  submission_within place submission lt is =
+      let r = submission_of_task place (s.task place) submission is in
       let le = r.1 in
       (r.0, omega (arith, le, part_of (task_weight w) scene.tasks s.task place lt))
 
@@ -85,10 +85,10 @@ module _ (scene : Scene) (s : State) (w : Weight) where
 
   -- a bio at work
   pub at_work : (item : Item Pad) → IsAtWork scene s item → (spot : Spot) × (w.bio spot item ≤ total scene w s)
-  at_work item (inl (place, line, lt, is, holds)) =
-      let r = line_within place line lt is in
+  at_work item (inl (place, submission, lt, is, holds)) =
+      let r = submission_within place submission lt is in
       let le = r.1 in
-      (Lined r.0, by_line holds r.0 le)
+      (Lined r.0, by_submission holds r.0 le)
     where
       by_doing : (limit : ℕ) (doing : Doing) → DoingHolds item doing → w.bio (Lined limit) item ≤ doing_weight w limit doing
       by_doing limit Rests holds = absurd holds
@@ -96,10 +96,10 @@ module _ (scene : Scene) (s : State) (w : Weight) where
       by_doing limit (Copies bio master leg want) holds = absurd holds
       by_doing limit (Breaks breach kept) holds = absurd holds
 
-      by_line : LineHolds item line → (limit : ℕ) → line_weight w limit line ≤ total scene w s → w.bio (Lined limit) item ≤ total scene w s
-      by_line (inl driven) limit le = omega (arith, le, by_doing limit line.doing driven)
-      by_line (inr (inl listed)) limit le = omega (arith, le, term_in (w.bio (Lined limit)) line.lists.list0 item listed)
-      by_line (inr (inr listed)) limit le = omega (arith, le, term_in (w.bio (Lined limit)) line.lists.list1 item listed)
+      by_submission : SubmissionHolds item submission → (limit : ℕ) → submission_weight w limit submission ≤ total scene w s → w.bio (Lined limit) item ≤ total scene w s
+      by_submission (inl driven) limit le = omega (arith, le, by_doing limit submission.doing driven)
+      by_submission (inr (inl listed)) limit le = omega (arith, le, term_in (w.bio (Lined limit)) submission.lists.list0 item listed)
+      by_submission (inr (inr listed)) limit le = omega (arith, le, term_in (w.bio (Lined limit)) submission.lists.list1 item listed)
   at_work item (inr (inl brought)) = (Brought, is_brought item brought)
   at_work item (inr (inr (inl (dev, lt, has)))) = (
     Rescued,
@@ -117,8 +117,8 @@ module _ (scene : Scene) (s : State) (w : Weight) where
 
   abbrev pub CopyWeighs : Type 0
   CopyWeighs =
-      (place : ℕ) × (line : Line) × (bio : Bio) × (master : ℕ) × (leg : ℕ) × (want : Want) × (place < scene.tasks) × LineOf (s.task place) line
-      × (line.doing ≡ Copies bio master leg want) × (1 ≤ w.copy bio master leg)
+      (place : ℕ) × (submission : Submission) × (bio : Bio) × (master : ℕ) × (leg : ℕ) × (want : Want) × (place < scene.tasks) × SubmissionOf (s.task place) submission
+      × (submission.doing ≡ Copies bio master leg want) × (1 ≤ w.copy bio master leg)
 
   abbrev pub NodeWeighs : Type 0
   NodeWeighs = (writer : ℕ) × (place : ℕ) × (node : Node) × (node_at (s.objects.book writer) place ≡ Some node) × (1 ≤ w.node writer place node)
@@ -155,40 +155,40 @@ module _ (scene : Scene) (s : State) (w : Weight) where
     no_taken (HasBio bio) = o.hand bio
     no_taken (HasBoth bio vector) = omega (arith, o.hand bio, o.vector vector)
 
-    line_weighs : (place : ℕ) (line : Line) (limit : ℕ) → place < scene.tasks → LineOf (s.task place) line → 1 ≤ line_weight w limit line → Weighs
-    line_weighs place line limit lt is some = by_doing line.doing refl some
+    submission_weighs : (place : ℕ) (submission : Submission) (limit : ℕ) → place < scene.tasks → SubmissionOf (s.task place) submission → 1 ≤ submission_weight w limit submission → Weighs
+    submission_weighs place submission limit lt is some = by_doing submission.doing refl some
       where
         -- one of the lists does
-        by_lists : 1 ≤ sum_by (w.bio (Lined limit)) line.lists.list0 + sum_by (w.bio (Lined limit)) line.lists.list1 → Weighs
-        by_lists some = elim (zero_or (sum_by (w.bio (Lined limit)) line.lists.list0)) [
+        by_lists : 1 ≤ sum_by (w.bio (Lined limit)) submission.lists.list0 + sum_by (w.bio (Lined limit)) submission.lists.list1 → Weighs
+        by_lists some = elim (zero_or (sum_by (w.bio (Lined limit)) submission.lists.list0)) [
           | inl none ↦
-              let r = some_in (w.bio (Lined limit)) line.lists.list1 (omega (arith, some, none)) in
-              inl (r.0, Lined limit, inl (place, line, lt, is, inr (inr r.1)), r.2)
+              let r = some_in (w.bio (Lined limit)) submission.lists.list1 (omega (arith, some, none)) in
+              inl (r.0, Lined limit, inl (place, submission, lt, is, inr (inr r.1)), r.2)
           | inr more ↦
-              let r = some_in (w.bio (Lined limit)) line.lists.list0 more in
-              inl (r.0, Lined limit, inl (place, line, lt, is, inr (inl r.1)), r.2)
+              let r = some_in (w.bio (Lined limit)) submission.lists.list0 more in
+              inl (r.0, Lined limit, inl (place, submission, lt, is, inr (inl r.1)), r.2)
         ]
 
-        by_doing : (doing : Doing) → line.doing ≡ doing → 1 ≤ doing_weight w limit line.doing + sum_by (w.bio (Lined limit)) line.lists.list0 + sum_by (w.bio (Lined limit)) line.lists.list1 → Weighs
-        by_doing Rests q some = let e : doing_weight w limit line.doing ≡ 0 = ap (doing_weight w limit) q in by_lists (omega (arith, some, e))
-        by_doing (Breaks breach kept) q some = let e : doing_weight w limit line.doing ≡ 0 = ap (doing_weight w limit) q in by_lists (omega (arith, some, e))
+        by_doing : (doing : Doing) → submission.doing ≡ doing → 1 ≤ doing_weight w limit submission.doing + sum_by (w.bio (Lined limit)) submission.lists.list0 + sum_by (w.bio (Lined limit)) submission.lists.list1 → Weighs
+        by_doing Rests q some = let e : doing_weight w limit submission.doing ≡ 0 = ap (doing_weight w limit) q in by_lists (omega (arith, some, e))
+        by_doing (Breaks breach kept) q some = let e : doing_weight w limit submission.doing ≡ 0 = ap (doing_weight w limit) q in by_lists (omega (arith, some, e))
         by_doing (Drives bio ask) q some =
-            let e : doing_weight w limit line.doing ≡ w.bio (Lined limit) bio + ask_weight w ask = ap (doing_weight w limit) q in
+            let e : doing_weight w limit submission.doing ≡ w.bio (Lined limit) bio + ask_weight w ask = ap (doing_weight w limit) q in
             elim (zero_or (w.bio (Lined limit) bio)) [
               | inl none ↦ by_lists (omega (arith, some, e, none, no_ask ask))
-              | inr more ↦ inl (bio, Lined limit, inl (place, line, lt, is, inl (subst (DoingHolds bio) (sym q) refl)), more)
+              | inr more ↦ inl (bio, Lined limit, inl (place, submission, lt, is, inl (subst (DoingHolds bio) (sym q) refl)), more)
             ]
         by_doing (Copies bio master leg want) q some =
-            let e : doing_weight w limit line.doing ≡ w.copy bio master leg + want_weight w want = ap (doing_weight w limit) q in
+            let e : doing_weight w limit submission.doing ≡ w.copy bio master leg + want_weight w want = ap (doing_weight w limit) q in
             elim (zero_or (w.copy bio master leg)) [
               | inl none ↦ by_lists (omega (arith, some, e, none, no_want want))
-              | inr more ↦ inr (inl (place, line, bio, master, leg, want, lt, is, q, more))
+              | inr more ↦ inr (inl (place, submission, bio, master, leg, want, lt, is, q, more))
             ]
 
     task_weighs : (place : ℕ) (x : TaskState) → place < scene.tasks → s.task place ≡ x → 1 ≤ task_weight w place x → Weighs
-    task_weighs place (Writer number todo taken line) lt is some =
-        line_weighs place line 32 lt (subst (λ t. LineOf t line) (sym is) refl) (omega (arith, some, o.todo number todo taken, no_taken taken))
-    task_weighs place (Rescuer dev line) lt is some = line_weighs place line dev.0 lt (subst (λ t. LineOf t line) (sym is) refl) some
+    task_weighs place (Writer number todo taken submission) lt is some =
+        submission_weighs place submission 32 lt (subst (λ t. SubmissionOf t submission) (sym is) refl) (omega (arith, some, o.todo number todo taken, no_taken taken))
+    task_weighs place (Rescuer dev submission) lt is some = submission_weighs place submission dev.0 lt (subst (λ t. SubmissionOf t submission) (sym is) refl) some
     task_weighs place (Completer disk Empty) lt is some = absurd (omega (arith, some))
     task_weighs place (Completer disk (Brings bio status)) lt is some = inl (bio, Brought, inr (inl (place, disk, Brings bio status, lt, is, refl)), some)
     task_weighs place (Completer disk (Carries writer closed)) lt is some = inr (inr (inr (place, disk, writer, closed, lt, is, some)))

@@ -5,14 +5,14 @@ use Rattle.layout_model.specs.declared.fragment.Fragment.{Fragment}
 use Rattle.bio_records.specs.declared.bio.Bio.{Bio}
 use Rattle.bio_records.specs.declared.tasks.TaskLists.{TaskLists}
 use Rattle.run_machine.specs.Scene.{Setup, Scene, tree_at}
-use Rattle.run_machine.specs.Lines.{ToMaster, Doing, Drives, first_length, leg_at}
+use Rattle.run_machine.specs.Submissions.{ToMaster, Doing, Drives, first_length, leg_at}
 use Rattle.run_machine.specs.Tasks.{TaskState}
 use Rattle.run_machine.specs.Runs.{State}
 use Rattle.block_core.proofs.status.Marks.{bio_may, todo_may, Mark, IsMark, IsMarked}
-use Rattle.block_core.proofs.moves.Moves.{Move, Can, limit_of, HasLine, piece}
+use Rattle.block_core.proofs.moves.Moves.{Move, Can, limit_of, HasSubmission, piece}
 use Rattle.block_core.proofs.moves.Moves as moves
 use Rattle.block_core.proofs.sound.Orders.{DoingPlaced, TaskPlaced, Placed}
-use Rattle.block_core.proofs.sound.OrdersKept.{line_placed}
+use Rattle.block_core.proofs.sound.OrdersKept.{submission_placed}
 use Rattle.block_core.proofs.moves.Marked.{with_mark, mark_here, mark_other}
 use Rattle.block_core.proofs.status.RunEndings.{plan_alone, mirror_may}
 use Rattle.block_core.proofs.status.AtOneNode.{here_or}
@@ -38,8 +38,8 @@ module _ (scene : Scene) (ends : Fragment → Status) (written : ℕ → Status 
   new_fair : (bio : Bio) → IsMark (new_mark false (bio_may setup ends bio))
   new_fair bio = record { alone = λ end ne. plan_alone ends _ end ne; failed = λ same. absurd cc }
 
-  has : (place : ℕ) (x : TaskState) (doing : Doing) (lists : TaskLists) → s.task place ≡ x → HasLine x doing lists → DoingPlaced setup (limit_of x) doing lists
-  has place x doing lists at line = line_placed setup x doing lists (subst (TaskPlaced setup) at (a.tasks place)) line
+  has : (place : ℕ) (x : TaskState) (doing : Doing) (lists : TaskLists) → s.task place ≡ x → HasSubmission x doing lists → DoingPlaced setup (limit_of x) doing lists
+  has place x doing lists at submission = submission_placed setup x doing lists (subst (TaskPlaced setup) at (a.tasks place)) submission
 
   with_fair : (writer key : ℕ) (new : Mark) → IsMark new → (w k : ℕ) → IsMark (with_mark mark writer key new w k)
   with_fair writer key new fair w k = elim (here_or writer w key k) [

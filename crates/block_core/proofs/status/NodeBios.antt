@@ -5,14 +5,14 @@ use Rattle.layout_model.specs.declared.fragment.Fragment.{Fragment}
 use Rattle.bio_records.specs.declared.bio.Bio.{Bio}
 use Rattle.bio_records.specs.declared.tasks.TaskLists.{TaskLists}
 use Rattle.run_machine.specs.Scene.{Setup, Scene, tree_at}
-use Rattle.run_machine.specs.Lines.{Links, ToCut, ToMaster, Doing, Rests, Drives, Copies, Breaks, first_length, leg_at}
+use Rattle.run_machine.specs.Submissions.{Links, ToCut, ToMaster, Doing, Rests, Drives, Copies, Breaks, first_length, leg_at}
 use Rattle.run_machine.specs.Tasks.{Todo, TaskState, Writer, Rescuer, Completer, Keeper, first_bio}
 use Rattle.run_machine.specs.Runs.{State}
-use Rattle.block_core.specs.NodeBios.{first_piece, line_opens, writer_opens, opened_for, bios_after}
+use Rattle.block_core.specs.NodeBios.{first_piece, submission_opens, writer_opens, opened_for, bios_after}
 use Rattle.block_core.proofs.moves.Marked.{with_mark, mark_here, mark_other}
-use Rattle.block_core.proofs.moves.Moves.{Move, place_of, touch_by, Can, HasLine, piece}
+use Rattle.block_core.proofs.moves.Moves.{Move, place_of, touch_by, Can, HasSubmission, piece}
 use Rattle.block_core.proofs.moves.Moves as moves
-use Rattle.block_core.proofs.sound.TaskLines.{IsBusy}
+use Rattle.block_core.proofs.sound.TaskSubmissions.{IsBusy}
 use Rattle.block_core.proofs.status.Marks.{Mark, bio_may, todo_may}
 use Rattle.block_core.proofs.status.AtOneNode.{here_or}
 use Rattle.block_core.proofs.status.MarksBehind.{new_mark, marks_by}
@@ -21,17 +21,17 @@ abbrev pub AreOfBios : Setup → (Fragment → Status) → (ℕ → ℕ → Mark
 AreOfBios setup ends mark bios = (w k : ℕ) → (mark w k).ends ≡ bio_may setup ends (bios w k)
 
 -- a task that submits opens a node for what its submission does
-opens_line : (setup : Setup) (x : TaskState) (doing : Doing) (lists : TaskLists) (key : ℕ) → HasLine x doing lists → IsBusy doing → opened_for setup x key ≡ line_opens setup doing key
-opens_line setup (Writer number todo taken line) doing lists key h busy = ap (λ l. opened_for setup (Writer number todo taken l) key) h ∙ by_doing doing busy
+opens_submission : (setup : Setup) (x : TaskState) (doing : Doing) (lists : TaskLists) (key : ℕ) → HasSubmission x doing lists → IsBusy doing → opened_for setup x key ≡ submission_opens setup doing key
+opens_submission setup (Writer number todo taken submission) doing lists key h busy = ap (λ l. opened_for setup (Writer number todo taken l) key) h ∙ by_doing doing busy
   where
-    by_doing : (doing : Doing) → IsBusy doing → writer_opens setup number doing todo key ≡ line_opens setup doing key
+    by_doing : (doing : Doing) → IsBusy doing → writer_opens setup number doing todo key ≡ submission_opens setup doing key
     by_doing Rests busy = absurd busy
     by_doing (Drives bio ask) busy = refl
     by_doing (Copies bio master leg want) busy = refl
     by_doing (Breaks breach kept) busy = refl
-opens_line setup (Rescuer dev line) doing lists key h busy = ap (λ l. opened_for setup (Rescuer dev l) key) h
-opens_line setup (Completer disk carried) doing lists key h busy = absurd h
-opens_line setup (Keeper keeping) doing lists key h busy = absurd h
+opens_submission setup (Rescuer dev submission) doing lists key h busy = ap (λ l. opened_for setup (Rescuer dev l) key) h
+opens_submission setup (Completer disk carried) doing lists key h busy = absurd h
+opens_submission setup (Keeper keeping) doing lists key h busy = absurd h
 
 module _ (scene : Scene) (ends : Fragment → Status) (s : State) (mark : ℕ → ℕ → Mark) (bios : ℕ → ℕ → Bio) (tied : AreOfBios scene.setup ends mark bios) where
   abbrev setup : Setup
@@ -61,14 +61,14 @@ module _ (scene : Scene) (ends : Fragment → Status) (s : State) (mark : ℕ �
   stays_of_bios (moves.Chained place x bio lists hand number kind sizes members key node) c =
       let child : Bio = (piece bio hand (first_length kind sizes bio.bio.range) key kind sizes members).bio in
       let at : opened_for setup (s.task place) key ≡ child =
-      ap (λ x. opened_for setup x key) c.1 ∙ opens_line setup x (Drives bio (ToCut (Links hand))) lists key c.2 tt ∙ ap (first_piece bio hand key) c.3 in
+      ap (λ x. opened_for setup x key) c.1 ∙ opens_submission setup x (Drives bio (ToCut (Links hand))) lists key c.2 tt ∙ ap (first_piece bio hand key) c.3 in
       with_one bio.bio.writer key (new_mark false (bio_may setup ends child)) (opened_for setup (s.task place) key) (sym (ap (bio_may setup ends) at))
   stays_of_bios (moves.Mastered place x bio lists slip key node) c =
-      let at : opened_for setup (s.task place) key ≡ bio.bio = ap (λ x. opened_for setup x key) c.1 ∙ opens_line setup x (Drives bio (ToMaster slip)) lists key c.2 tt in
+      let at : opened_for setup (s.task place) key ≡ bio.bio = ap (λ x. opened_for setup x key) c.1 ∙ opens_submission setup x (Drives bio (ToMaster slip)) lists key c.2 tt in
       with_one bio.bio.writer key (new_mark true (bio_may setup ends bio.bio)) (opened_for setup (s.task place) key) (sym (ap (bio_may setup ends) at))
   stays_of_bios (moves.Legged place x bio lists master leg hand key node) c =
       let item : Bio = (leg_at bio hand leg key (tree_at setup bio.dev)).bio in
-      let at : opened_for setup (s.task place) key ≡ item = ap (λ x. opened_for setup x key) c.1 ∙ opens_line setup x (Copies bio master leg (Links hand)) lists key c.2 tt in
+      let at : opened_for setup (s.task place) key ≡ item = ap (λ x. opened_for setup x key) c.1 ∙ opens_submission setup x (Copies bio master leg (Links hand)) lists key c.2 tt in
       with_one bio.writer key (new_mark false (bio_may setup ends item)) (opened_for setup (s.task place) key) (sym (ap (bio_may setup ends) at))
   stays_of_bios (moves.TakesFirst place writer todo later move) c = tied
   stays_of_bios (moves.TakesVector place writer todo later item move) c = tied

@@ -28,7 +28,7 @@ use Rattle.bio_records.specs.Items.{Item}
 use Rattle.bio_split.specs.Split.{split_rest}
 use Rattle.bio_books.specs.Books.{SlipItem}
 use Rattle.run_machine.specs.Scene.{Setup, tree_at, tree_number, setup_of}
-use Rattle.run_machine.specs.Lines.{ToPush, ToMaster, first_length, landed, legs_of, leg_at}
+use Rattle.run_machine.specs.Submissions.{ToPush, ToMaster, first_length, landed, legs_of, leg_at}
 use Rattle.block_core.specs.Fragments.{offset_of, fragment_of}
 use Rattle.block_core.proofs.moves.Sums.{same_or_not}
 use Rattle.block_core.proofs.status.Marks.{yes, may, bio_may, leg_may}

@@ -26,7 +26,7 @@ use Rattle.run_machine.specs.declared.event.What.TheVariants as what
 use Rattle.run_machine.specs.Events.{what_of}
 use Rattle.run_machine.specs.Maps.{upd}
 use Rattle.run_machine.specs.Scene.{Scene}
-use Rattle.run_machine.specs.Lines.{Doing, Line}
+use Rattle.run_machine.specs.Submissions.{Doing, Submission}
 use Rattle.run_machine.specs.Tasks.{TaskState, Writer, Rescuer, Completer, Keeper, Todo, Empty, Brings, Carries, request, closed_request}
 use Rattle.run_machine.specs.Opened.{Scenario, scene, start, todos, setup as setup_in}
 use Rattle.run_machine.specs.Requests as requests
@@ -41,10 +41,10 @@ use Rattle.block_core.specs.NodeBios.{bios_after, node_bios, no_bios}
 use Rattle.block_core.specs.Values.{NodesAreValued}
 use Rattle.block_core.specs.DoneWrites.{IsGiven, StatusesAreGiven, HasGivenStatuses, EndedStatusesAreGiven}
 use Rattle.block_core.proofs.moves.Sums.{one-same, one-other, same_or_not}
-use Rattle.block_core.proofs.moves.Moves.{Move, place_of, touch_by, Can, after, with_line, HasLine}
+use Rattle.block_core.proofs.moves.Moves.{Move, place_of, touch_by, Can, after, with_submission, HasSubmission}
 use Rattle.block_core.proofs.moves.Moves as moves
 use Rattle.block_core.proofs.sound.Facts.{Fair}
-use Rattle.block_core.proofs.sound.TaskLines.{all-upd}
+use Rattle.block_core.proofs.sound.TaskSubmissions.{all-upd}
 use Rattle.block_core.proofs.sound.Orders.{Ground}
 use Rattle.block_core.proofs.moves.Devices.{ground}
 use Rattle.block_core.proofs.moves.StepMoves.{step_is_move}
@@ -69,11 +69,11 @@ use Rattle.block_core.proofs.status.NodeBios.{AreOfBios, stays_of_bios}
 use Rattle.block_core.proofs.status.Valued.{may_given, are_valued}
 
 -- a task with a submission brings nothing
-line_ending : (s : Scenario) (x : TaskState) (doing : Doing) (lists : TaskLists) (line : Line) → HasLine x doing lists → HasEnding (fault_of s.stack) (with_line x line)
-line_ending s (Writer number todos taken old) doing lists line h = tt
-line_ending s (Rescuer dev old) doing lists line h = tt
-line_ending s (Completer disk carried) doing lists line h = absurd h
-line_ending s (Keeper keeping) doing lists line h = tt
+submission_ending : (s : Scenario) (x : TaskState) (doing : Doing) (lists : TaskLists) (submission : Submission) → HasSubmission x doing lists → HasEnding (fault_of s.stack) (with_submission x submission)
+submission_ending s (Writer number todos taken old) doing lists submission h = tt
+submission_ending s (Rescuer dev old) doing lists submission h = tt
+submission_ending s (Completer disk carried) doing lists submission h = absurd h
+submission_ending s (Keeper keeping) doing lists submission h = tt
 
 module _ (s : Scenario) (ledger : ℕ → LedgerId) (st : State) (own : (number : ℕ) → IsOwn s number (st.objects.disk number))
     (endings : (place : ℕ) → HasEnding (fault_of s.stack) (st.task place)) where
@@ -83,22 +83,22 @@ module _ (s : Scenario) (ledger : ℕ → LedgerId) (st : State) (own : (number 
   endings_stay : (m : Move) → Can (scene s ledger) st m → (p : ℕ) → HasEnding (fault_of s.stack) ((after (scene s ledger) st m).task p)
   endings_stay (moves.TakesFirst place writer todo later move) c = goes place _ tt
   endings_stay (moves.TakesVector place writer todo later item move) c = goes place _ tt
-  endings_stay (moves.TakesSub place x doing lists dev waits move) c = goes place _ (line_ending s x doing lists _ c.2)
-  endings_stay (moves.TakesSlip place x bio lists move) c = goes place _ (line_ending s x _ lists _ c.2)
+  endings_stay (moves.TakesSub place x doing lists dev waits move) c = goes place _ (submission_ending s x doing lists _ c.2)
+  endings_stay (moves.TakesSlip place x bio lists move) c = goes place _ (submission_ending s x _ lists _ c.2)
   endings_stay (moves.MissesOne place x number used) c = goes place x (subst (HasEnding (fault_of s.stack)) c.1 (endings place))
-  endings_stay (moves.MissesTry place x doing lists dev used) c = goes place _ (line_ending s x doing lists _ c.2)
-  endings_stay (moves.Punts place x doing lists dev) c = goes place _ (line_ending s x doing lists _ c.2)
+  endings_stay (moves.MissesTry place x doing lists dev used) c = goes place _ (submission_ending s x doing lists _ c.2)
+  endings_stay (moves.Punts place x doing lists dev) c = goes place _ (submission_ending s x doing lists _ c.2)
   endings_stay (moves.Pops place dev bio bios) c = goes place _ tt
-  endings_stay (moves.Pushes place x bio lists) c = goes place _ (line_ending s x _ lists _ c.2)
+  endings_stay (moves.Pushes place x bio lists) c = goes place _ (submission_ending s x _ lists _ c.2)
   endings_stay (moves.Completed place disk index bio ending new) c =
       goes place (Completer disk (Brings bio ending)) (
         (completed_waits s disk.0 (st.objects.disk disk.0) index bio ending new (own disk.0) c.3).1,
         completed_ends s disk.0 (st.objects.disk disk.0) index bio ending new (own disk.0) c.3,
       )
   endings_stay (moves.Begins place writer todo later item vector key) c = goes place _ tt
-  endings_stay (moves.Chained place x bio lists hand number kind sizes members key node) c = goes place _ (line_ending s x _ lists _ c.2)
-  endings_stay (moves.Mastered place x bio lists slip key node) c = goes place _ (line_ending s x _ lists _ c.2)
-  endings_stay (moves.Legged place x bio lists master leg hand key node) c = goes place _ (line_ending s x _ lists _ c.2)
+  endings_stay (moves.Chained place x bio lists hand number kind sizes members key node) c = goes place _ (submission_ending s x _ lists _ c.2)
+  endings_stay (moves.Mastered place x bio lists slip key node) c = goes place _ (submission_ending s x _ lists _ c.2)
+  endings_stay (moves.Legged place x bio lists master leg hand key node) c = goes place _ (submission_ending s x _ lists _ c.2)
   endings_stay (moves.Told place disk carried writer key ending part node) c = goes place (Completer disk Empty) tt
   endings_stay (moves.Closes place disk carried writer key ending part node) c = goes place (Completer disk (Carries writer _)) tt
   endings_stay (moves.Gives place disk writer number closed held) c = goes place (Completer disk (Carries writer _)) tt
@@ -241,8 +241,8 @@ module _ (s : Scenario) (good : IsScenario s) (ledger : ℕ → LedgerId) where
   plain_fair = record { alone = λ end ne. plan_alone (fault_of s.stack) _ end ne; failed = λ same. absurd cc }
 
   begins_ending : (x : TaskState) → Begins (scene s ledger) x → HasEnding (fault_of s.stack) x
-  begins_ending (Writer number todos taken line) h = tt
-  begins_ending (Rescuer dev line) h = tt
+  begins_ending (Writer number todos taken submission) h = tt
+  begins_ending (Rescuer dev submission) h = tt
   begins_ending (Completer disk carried) h = subst (λ c. HasEnding (fault_of s.stack) (Completer disk c)) (sym h.1) tt
   begins_ending (Keeper keeping) h = tt
 

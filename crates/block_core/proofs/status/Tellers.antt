@@ -36,8 +36,8 @@ BringsRight ends disk (Carries writer closed) = Unit {0}
 BringsRight ends disk (Fails breach kept) = ⊥
 
 abbrev pub HasEnding : (Fragment → Status) → TaskState → Type 0
-HasEnding ends (Writer number todo taken line) = Unit {0}
-HasEnding ends (Rescuer dev line) = Unit {0}
+HasEnding ends (Writer number todo taken submission) = Unit {0}
+HasEnding ends (Rescuer dev submission) = Unit {0}
 HasEnding ends (Completer disk carried) = BringsRight ends disk carried
 HasEnding ends (Keeper keeping) = Unit {0}
 

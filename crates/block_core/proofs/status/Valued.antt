@@ -20,7 +20,7 @@ use Rattle.bio_books.specs.declared.node.Role.TheVariants as role
 use Rattle.bio_books.specs.Books.{Node, node_at, parent_of}
 use Rattle.bio_books.specs.Drops.{Closed}
 use Rattle.run_machine.specs.Scene.{Setup, Scene, tree_at}
-use Rattle.run_machine.specs.Lines.{Copies, Line}
+use Rattle.run_machine.specs.Submissions.{Copies, Submission}
 use Rattle.run_machine.specs.Tasks.{Todo, Gathered, Writer, Completer, Carries}
 use Rattle.run_machine.specs.Opened.{Scenario}
 use Rattle.run_machine.specs.Runs.{State}
@@ -34,7 +34,7 @@ use Rattle.block_core.proofs.moves.Totals.{task_part}
 use Rattle.block_core.proofs.sound.Facts.{Kept}
 use Rattle.block_core.proofs.stuck.Idle.{node_part}
 use Rattle.block_core.proofs.stuck.NothingWaits.{zero_or, both, one-eq}
-use Rattle.block_core.proofs.status.Found.{in_range, some_in_range, in_disk, is_brought, line_within, at_work, Weighs, IsOfWork, some_weighs}
+use Rattle.block_core.proofs.status.Found.{in_range, some_in_range, in_disk, is_brought, submission_within, at_work, Weighs, IsOfWork, some_weighs}
 use Rattle.block_core.proofs.status.Marks.{yes, is, may, bio_may, leg_may, todo_may, write_may, Mark, allowed_by, allowed, decides, lack, mismatch, kind_is, above, unallowed, deciding, IsMarked}
 use Rattle.block_core.proofs.status.NodeBios.{AreOfBios}
 use Rattle.block_core.proofs.status.NodeValues.{is_itself}
@@ -162,9 +162,9 @@ module _ (s : Scenario) (scene : Scene) (bios : ℕ → ℕ → Bio) (state : St
       may_given s todo.number end (omega (arith, may_one, none end, sum_by-cons (λ todo. todo_may setup ends todo end - write_may s todo.number end) todo todos)))
       (todos_begin todos (λ end. omega (arith, none end, sum_by-cons (λ todo. todo_may setup ends todo end - write_may s todo.number end) todo todos)))
 
-  writer_begins : (place writer : ℕ) (todos : List Todo) (taken : Gathered) (line : Line) → place < scene.tasks → state.task place ≡ Writer writer todos taken line → All Begins todos
-  writer_begins place writer todos taken line lt at =
-      todos_begin todos (λ end. omega (arith, h.fits end, task_part scene (off end) state place (Writer writer todos taken line) lt at))
+  writer_begins : (place writer : ℕ) (todos : List Todo) (taken : Gathered) (submission : Submission) → place < scene.tasks → state.task place ≡ Writer writer todos taken submission → All Begins todos
+  writer_begins place writer todos taken submission lt at =
+      todos_begin todos (λ end. omega (arith, h.fits end, task_part scene (off end) state place (Writer writer todos taken submission) lt at))
 
   module _ (w k : ℕ) (node : Node) (at : node_at (state.objects.book w) k ≡ Some node) where
     abbrev own : Status → ℕ
@@ -196,12 +196,12 @@ module _ (s : Scenario) (scene : Scene) (bios : ℕ → ℕ → Bio) (state : St
         subst (λ v. P v k) of_writer (subst (P item.bio.writer) of_node (omega (arith, h.fits end, le, one_end)))
 
     leg_comes : (end : Status) → LegComes scene ends state w k (λ MayEnd. MayEnd end) → 1 ≤ allowed (mark w k) end
-    leg_comes end (place, line, bio, next, want, leg, lt, is_line, copies, of_writer, ge, below, may_come) =
-        let r = line_within scene state (off end) place line lt is_line in
+    leg_comes end (place, submission, bio, next, want, leg, lt, is_submission, copies, of_writer, ge, below, may_come) =
+        let r = submission_within scene state (off end) place submission lt is_submission in
         let le = r.1 in
         let t = tree_at setup bio.dev in
         let f : ℕ → ℕ = λ j. leg_may ends t bio j end - allowed (mark bio.writer k) end in
-        let d : doing_weight (off end) r.0 line.doing ≡ doing_weight (off end) r.0 (Copies bio k next want) = ap (doing_weight (off end) r.0) copies in
+        let d : doing_weight (off end) r.0 submission.doing ≡ doing_weight (off end) r.0 (Copies bio k next want) = ap (doing_weight (off end) r.0) copies in
         let within : leg < next + legs_left setup bio next = omega (arith, ge, below) in
         let one_end = leg_one ends t bio leg end may_come in
         let here : 1 ≤ allowed (mark bio.writer k) end = omega (arith, h.fits end, le, d, in_range f (legs_left setup bio next) next leg ge within, one_end) in
@@ -254,7 +254,7 @@ module _ (s : Scenario) (scene : Scene) (bios : ℕ → ℕ → Bio) (state : St
               one-eq item.bio.node k b.1,
               it_decides (bio_may setup ends item.bio) (MayEnd item.bio) (bio_so item.bio) (bio_one item.bio) master a.1,
             )
-        by_found (inr (inl (place, line, bio, m, next, want, lt, is_line, copies, weighs))) =
+        by_found (inr (inl (place, submission, bio, m, next, want, lt, is_submission, copies, weighs))) =
             let t = tree_at setup bio.dev in
             let f : ℕ → ℕ = λ j. decides master (leg_may ends t bio j Ok) in
             let a = both (one bio.writer w * one m k) (sum_by f (range_with_len next (legs_left setup bio next))) weighs in
@@ -264,13 +264,13 @@ module _ (s : Scenario) (scene : Scene) (bios : ℕ → ℕ → Bio) (state : St
             let within = r.2 in
             inr (inl (
               place,
-              line,
+              submission,
               bio,
               next,
               want,
               r.0,
               lt,
-              is_line,
+              is_submission,
               copies ∙ ap (λ n. Copies bio n next want) (one-eq m k b.1),
               one-eq bio.writer w b.0,
               ge,

@@ -7,13 +7,13 @@ use Rattle.bio_records.specs.Items.{Item}
 use Rattle.bio_books.specs.Books.{Node, BookState, node_at, keeping, told}
 use Rattle.run_machine.specs.Maps.{upd}
 use Rattle.run_machine.specs.Scene.{Setup, Scene}
-use Rattle.run_machine.specs.Lines.{Doing, Rests, Drives, Copies, Breaks, Line}
+use Rattle.run_machine.specs.Submissions.{Doing, Rests, Drives, Copies, Breaks, Submission}
 use Rattle.run_machine.specs.Tasks.{TaskState, Writer, Rescuer, Completer, Keeper, Todo, Gathered, NoBio, HasBio, HasBoth}
 use Rattle.run_machine.specs.Objects.{Objects}
 use Rattle.run_machine.specs.Runs.{State}
-use Rattle.block_core.proofs.moves.Moves.{HasLine, with_book}
+use Rattle.block_core.proofs.moves.Moves.{HasSubmission, with_book}
 use Rattle.block_core.proofs.moves.Sums.{upd-same}
-use Rattle.block_core.proofs.sound.TaskLines.{IsBusy}
+use Rattle.block_core.proofs.sound.TaskSubmissions.{IsBusy}
 use Rattle.std.specs.Prelude.{◌^◌}
 use Rattle.bio_books.specs.Links.{Linked}
 use Rattle.bio_books.specs.Drops.{Ended, Drops}
@@ -23,9 +23,9 @@ use Rattle.run_machine.specs.Requests.{Reply, Opening}
 use Rattle.run_machine.specs.Objects.{Serves, Opened}
 use Rattle.run_machine.specs.Events.{what_of, is_free, id_of}
 use Rattle.run_machine.specs.Tasks.{request, look_of, answered, writer_look}
-use Rattle.run_machine.specs.Lines.{line_request}
+use Rattle.run_machine.specs.Submissions.{submission_request}
 use Rattle.run_machine.specs.Runs.{IsLet, HasFree}
-use Rattle.block_core.proofs.moves.LineSteps.{asks_line}
+use Rattle.block_core.proofs.moves.SubmissionSteps.{asks_submission}
 
 -- a task that submits looks at nothing
 writer_none : (todo : List Todo) (taken : Gathered) (doing : Doing) → IsBusy doing → writer_look todo taken doing ≡ None
@@ -37,9 +37,9 @@ writer_none (t ∷ todo) NoBio (Drives bio ask) busy = refl
 writer_none (t ∷ todo) NoBio (Copies bio master leg want) busy = refl
 writer_none (t ∷ todo) NoBio (Breaks breach kept) busy = refl
 
-no_look : (x : TaskState) (doing : Doing) (lists : TaskLists) → HasLine x doing lists → IsBusy doing → look_of x ≡ None
-no_look (Writer number todo taken line) doing lists h busy = ap (λ (l : Line). writer_look todo taken l.doing) h ∙ writer_none todo taken doing busy
-no_look (Rescuer dev line) doing lists h busy = refl
+no_look : (x : TaskState) (doing : Doing) (lists : TaskLists) → HasSubmission x doing lists → IsBusy doing → look_of x ≡ None
+no_look (Writer number todo taken submission) doing lists h busy = ap (λ (l : Submission). writer_look todo taken l.doing) h ∙ writer_none todo taken doing busy
+no_look (Rescuer dev submission) doing lists h busy = refl
 no_look (Completer disk carried) doing lists h busy = absurd h
 no_look (Keeper keeping) doing lists h busy = absurd h
 
@@ -71,10 +71,10 @@ module _ (scene : Scene) (s : State) where
       free_at place here reply told (subst (λ y. IsLet scene.ledger s.objects y (look_of y)) (sym at) see) (subst (λ y. what_of (request setup y) reply ≡ Some told) (sym at) is) free objects
       (subst (λ y. Serves scene.ledger s.objects (request setup y) reply objects) (sym at) serves)
 
-  pub free_line : (place : ℕ) → place < scene.tasks → (x : TaskState) → s.task place ≡ x → (doing : Doing) (lists : TaskLists) → HasLine x doing lists → IsBusy doing → (reply : Reply) (told : What)
-      → what_of (line_request setup doing lists) reply ≡ Some told → IsTrue (is_free told) → (objects : Objects) → Serves scene.ledger s.objects (line_request setup doing lists) reply objects → HasFree scene s
-  free_line place here x at doing lists h busy reply told is free objects serves =
-      let asks = asks_line setup x doing lists h busy in
+  pub free_submission : (place : ℕ) → place < scene.tasks → (x : TaskState) → s.task place ≡ x → (doing : Doing) (lists : TaskLists) → HasSubmission x doing lists → IsBusy doing → (reply : Reply) (told : What)
+      → what_of (submission_request setup doing lists) reply ≡ Some told → IsTrue (is_free told) → (objects : Objects) → Serves scene.ledger s.objects (submission_request setup doing lists) reply objects → HasFree scene s
+  free_submission place here x at doing lists h busy reply told is free objects serves =
+      let asks = asks_submission setup x doing lists h busy in
       free_of place here x at reply told (subst (IsLet scene.ledger s.objects x) (sym (no_look x doing lists h busy)) tt)
       (subst (λ r. what_of r reply ≡ Some told) (sym asks) is) free objects (subst (λ r. Serves scene.ledger s.objects r reply objects) (sym asks) serves)
 

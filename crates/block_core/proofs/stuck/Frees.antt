@@ -9,7 +9,7 @@ use Rattle.bio_lists.specs.Submission.{no_lists}
 use Rattle.bio_books.specs.Books.{VectorItem, with_node, top_node, keeping}
 use Rattle.run_machine.specs.Maps.{upd}
 use Rattle.run_machine.specs.Scene.{Setup, Scene}
-use Rattle.run_machine.specs.Lines.{Doing, Rests, Drives, Copies, Breaks, Line, rests}
+use Rattle.run_machine.specs.Submissions.{Doing, Rests, Drives, Copies, Breaks, Submission, rests}
 use Rattle.run_machine.specs.Tasks.{TaskState, Writer, Rescuer, Completer, Keeper, Todo, Gathered, NoBio, HasBio, HasBoth, Empty, Brings, Carries, Fails, filled_vector}
 use Rattle.run_machine.specs.Objects.{clear_bio, clear_vector}
 use Rattle.run_machine.specs.Runs.{State}
@@ -17,8 +17,8 @@ use Rattle.block_core.specs.Weights.{one, refs}
 use Rattle.block_core.proofs.moves.Moves.{with_pool, with_book}
 use Rattle.block_core.proofs.moves.Totals.{task_part}
 use Rattle.block_core.proofs.moves.Sums.{upd-same, one-same, below_or}
-use Rattle.block_core.proofs.sound.Facts.{DoingFits, LineFits, TaskFits, Kept}
-use Rattle.block_core.proofs.sound.TaskLines.{IsBusy}
+use Rattle.block_core.proofs.sound.Facts.{DoingFits, SubmissionFits, TaskFits, Kept}
+use Rattle.block_core.proofs.sound.TaskSubmissions.{IsBusy}
 use Rattle.block_core.proofs.sound.Orders.{TaskPlaced, Placed}
 use Rattle.std.specs.Prelude.{nat_le, sum_by}
 use Rattle.std.proofs.lemmas.List.Sums.{sum_by-cons}
@@ -37,7 +37,7 @@ use Rattle.block_core.proofs.unrefused.VacantPlaces.{has_vacant}
 use Rattle.block_core.proofs.sound.Posts.{TakenFits, AtPost, Posted}
 use Rattle.block_core.proofs.stuck.NothingWaits.{spares, StillDoing, StillTaken, StillWriter, StillRescuer, IsStill, zero_or}
 use Rattle.block_core.proofs.stuck.FreeEvents.{HasNumbers, some_needs, free_of, link_serves}
-use Rattle.block_core.proofs.stuck.LinesFree.{line_free}
+use Rattle.block_core.proofs.stuck.SubmissionsFree.{submission_free}
 use Rattle.block_core.proofs.stuck.CompletersFree.{complete_free, drop_free, carries_free}
 
 module _ (scene : Scene) (s : State) (n : Needs scene.setup) (k : Kept scene s) (p : Placed scene.setup s) (r : HasRoomInBooks scene s) (numbers : HasNumbers s) where
@@ -99,9 +99,9 @@ module _ (scene : Scene) (s : State) (n : Needs scene.setup) (k : Kept scene s) 
           inl (free_of scene s place here (Rescuer dev rests) at (requests.Popped bio) _ tt refl refl (record s.objects { rescue = upd s.objects.rescue dev.0 bios })
           (is ∙ ap (λ l. bio ∷ l) (sym same), ap (λ l. record s.objects { rescue = upd s.objects.rescue dev.0 l }) (sym same)))
 
-  -- a line that is busy, and one that rests
-  line_or_rests : (line : Line) → ((line.doing ≡ Rests) ⊎ IsBusy line.doing)
-  line_or_rests line = by_doing line.doing
+  -- a submission that is busy, and one that rests
+  submission_or_rests : (submission : Submission) → ((submission.doing ≡ Rests) ⊎ IsBusy submission.doing)
+  submission_or_rests submission = by_doing submission.doing
     where
       by_doing : (doing : Doing) → (doing ≡ Rests) ⊎ IsBusy doing
       by_doing Rests = inl refl
@@ -109,10 +109,10 @@ module _ (scene : Scene) (s : State) (n : Needs scene.setup) (k : Kept scene s) 
       by_doing (Copies bio master leg want) = inr tt
       by_doing (Breaks breach kept) = inr tt
 
-  at_rest : (line : Line) → line.doing ≡ Rests → LineFits setup line → line ≡ rests
-  at_rest line is fits =
-      let none : line.lists ≡ no_lists = subst (λ (d : Doing). DoingFits setup d line.lists) is fits in
-      ap (λ (d : Doing). record { doing = d; lists = line.lists }) is ∙ ap (λ (l : TaskLists). record { doing = Rests; lists = l }) none
+  at_rest : (submission : Submission) → submission.doing ≡ Rests → SubmissionFits setup submission → submission ≡ rests
+  at_rest submission is fits =
+      let none : submission.lists ≡ no_lists = subst (λ (d : Doing). DoingFits setup d submission.lists) is fits in
+      ap (λ (d : Doing). record { doing = d; lists = submission.lists }) is ∙ ap (λ (l : TaskLists). record { doing = Rests; lists = l }) none
 
   busy_writer : (todo : List Todo) (taken : Gathered) (doing : Doing) → IsBusy doing → StillDoing s doing → StillWriter s todo taken doing
   busy_writer todo taken Rests busy still = absurd busy
@@ -135,18 +135,18 @@ module _ (scene : Scene) (s : State) (n : Needs scene.setup) (k : Kept scene s) 
   task_free ids keeper posted place here = by_task (s.task place) refl (k.tasks place) (p.tasks place) (posted.tasks place)
     where
       by_task : (x : TaskState) → s.task place ≡ x → TaskFits scene x → TaskPlaced setup x → AtPost ids keeper scene s.objects.tally place x → HasFree scene s ⊎ IsStill s x
-      by_task (Writer number todo taken line) at fits t post = by_line (line_or_rests line)
+      by_task (Writer number todo taken submission) at fits t post = by_submission (submission_or_rests submission)
         where
-          by_line : (line.doing ≡ Rests) ⊎ IsBusy line.doing → HasFree scene s ⊎ StillWriter s todo taken line.doing
-          by_line (inl is) =
-              or_map (subst (StillWriter s todo taken) (sym is)) (writer_free place here number todo taken (at ∙ ap (Writer number todo taken) (at_rest line is fits.1)) fits.0 post.1.1)
-          by_line (inr busy) =
-              or_map (busy_writer todo taken line.doing busy) (line_free scene s n k r numbers place here (Writer number todo taken line) at line.doing line.lists refl busy fits.1 t.1)
-      by_task (Rescuer dev line) at fits t post = by_line (line_or_rests line)
+          by_submission : (submission.doing ≡ Rests) ⊎ IsBusy submission.doing → HasFree scene s ⊎ StillWriter s todo taken submission.doing
+          by_submission (inl is) =
+              or_map (subst (StillWriter s todo taken) (sym is)) (writer_free place here number todo taken (at ∙ ap (Writer number todo taken) (at_rest submission is fits.1)) fits.0 post.1.1)
+          by_submission (inr busy) =
+              or_map (busy_writer todo taken submission.doing busy) (submission_free scene s n k r numbers place here (Writer number todo taken submission) at submission.doing submission.lists refl busy fits.1 t.1)
+      by_task (Rescuer dev submission) at fits t post = by_submission (submission_or_rests submission)
         where
-          by_line : (line.doing ≡ Rests) ⊎ IsBusy line.doing → HasFree scene s ⊎ StillRescuer s dev.0 line.doing
-          by_line (inl is) = or_map (subst (StillRescuer s dev.0) (sym is)) (pop_free place here dev (at ∙ ap (Rescuer dev) (at_rest line is fits.1)))
-          by_line (inr busy) = or_map (busy_rescuer dev.0 line.doing busy) (line_free scene s n k r numbers place here (Rescuer dev line) at line.doing line.lists refl busy fits.1 t)
+          by_submission : (submission.doing ≡ Rests) ⊎ IsBusy submission.doing → HasFree scene s ⊎ StillRescuer s dev.0 submission.doing
+          by_submission (inl is) = or_map (subst (StillRescuer s dev.0) (sym is)) (pop_free place here dev (at ∙ ap (Rescuer dev) (at_rest submission is fits.1)))
+          by_submission (inr busy) = or_map (busy_rescuer dev.0 submission.doing busy) (submission_free scene s n k r numbers place here (Rescuer dev submission) at submission.doing submission.lists refl busy fits.1 t)
       by_task (Completer disk Empty) at fits t post = complete_free scene s k place here disk at
       by_task (Completer disk (Brings bio status)) at fits t post =
           let part = task_part scene (refs setup bio.bio.writer bio.bio.node) s place (Completer disk (Brings bio status)) here at in

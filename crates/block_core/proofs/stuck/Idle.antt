@@ -11,15 +11,15 @@ use Rattle.bio_books.specs.Books.{Node, node_at, parent_of}
 use Rattle.bio_books.specs.Drops.{Closed}
 use Rattle.model_disks.specs.Disks.{DiskState}
 use Rattle.run_machine.specs.Scene.{Scene}
-use Rattle.run_machine.specs.Lines.{Doing, Rests, Drives, Copies, Breaks, Line}
+use Rattle.run_machine.specs.Submissions.{Doing, Rests, Drives, Copies, Breaks, Submission}
 use Rattle.run_machine.specs.Tasks.{TaskState, Writer, Rescuer, Completer, Keeper, Todo, Gathered, NoBio, HasBio, HasBoth, Empty, Brings, Carries, Fails}
 use Rattle.run_machine.specs.Runs.{State}
-use Rattle.block_core.specs.Weights.{Weight, Rescued, Pending, total, sum_at, one, weigh_option, line_weight, task_weight, book_weight, elements_of_pool, refs, names_node, under, legs_left, count_of}
-use Rattle.block_core.proofs.moves.Moves.{HasLine}
+use Rattle.block_core.specs.Weights.{Weight, Rescued, Pending, total, sum_at, one, weigh_option, submission_weight, task_weight, book_weight, elements_of_pool, refs, names_node, under, legs_left, count_of}
+use Rattle.block_core.proofs.moves.Moves.{HasSubmission}
 use Rattle.block_core.proofs.moves.Sums.{one-same, within_book, below_or}
 use Rattle.block_core.proofs.sound.Facts.{DoingFits, TaskFits, Kept}
 use Rattle.block_core.proofs.start.FactsAtStart.{nodes_zero}
-use Rattle.block_core.proofs.moves.Totals.{part_of, task_part, line_part}
+use Rattle.block_core.proofs.moves.Totals.{part_of, task_part, submission_part}
 
 -- sums of nothing
 pub sum_none : {X : Type 0} (w : ℕ → X → ℕ) (n : ℕ) (f : ℕ → X) → ((i : ℕ) → i < n → w i (f i) ≡ 0) → sum_at w n f ≡ 0
@@ -38,7 +38,7 @@ pub record NoneBegun (scene : Scene) (s : State) : Type 0 where
   pub tops : (writer key : ℕ) (node : Node) → writer < scene.books → node_at (s.objects.book writer) key ≡ Some node → parent_of node.role ≡ None → ⊥
   pub carried : (place : ℕ) (disk : DevId) (writer : ℕ) (closed : Closed) → place < scene.tasks → s.task place ≡ Completer disk (Carries writer closed)
       → closed.parent ≡ None → ⊥
-  pub hands : (place number : ℕ) (todos : List Todo) (taken : Gathered) (line : Line) → place < scene.tasks → s.task place ≡ Writer number todos taken line → taken ≡ NoBio
+  pub hands : (place number : ℕ) (todos : List Todo) (taken : Gathered) (submission : Submission) → place < scene.tasks → s.task place ≡ Writer number todos taken submission → taken ≡ NoBio
 
 -- a book with an open node is one of the books, and the node is a part of all
 pub open_in_books : (scene : Scene) (s : State) → Kept scene s → (writer key : ℕ) (node : Node) → node_at (s.objects.book writer) key ≡ Some node → writer < scene.books
@@ -110,29 +110,29 @@ module _ (scene : Scene) (s : State) (i : Kept scene s) (level : ℕ → ℕ →
   names_one item = ap (λ n. n * one item.bio.node item.bio.node) (one-same item.bio.writer) ∙ ap (λ n. 1 * n) (one-same item.bio.node)
 
   -- a task that submits has a bio that names a node, or copies one for a master
-  no_line : (place : ℕ) (x : TaskState) (doing : Doing) (lists : TaskLists) → place < scene.tasks → s.task place ≡ x → HasLine x doing lists → DoingFits scene.setup doing lists
+  no_submission : (place : ℕ) (x : TaskState) (doing : Doing) (lists : TaskLists) → place < scene.tasks → s.task place ≡ x → HasSubmission x doing lists → DoingFits scene.setup doing lists
       → (doing ≡ Rests) × (lists ≡ no_lists)
-  no_line place x Rests lists here is h fits = (refl, fits)
-  no_line place x (Breaks breach kept) lists here is h fits = absurd fits
-  no_line place x (Drives bio ask) lists here is h fits =
+  no_submission place x Rests lists here is h fits = (refl, fits)
+  no_submission place x (Breaks breach kept) lists here is h fits = absurd fits
+  no_submission place x (Drives bio ask) lists here is h fits =
       let w = refs scene.setup bio.bio.writer bio.bio.node in
-      absurd (omega (arith, names_one bio, no_ref bio.bio.writer bio.bio.node, task_part scene w s place x here is, line_part w place x (Drives bio ask) lists h))
-  no_line place x (Copies bio master leg want) lists here is h fits =
+      absurd (omega (arith, names_one bio, no_ref bio.bio.writer bio.bio.node, task_part scene w s place x here is, submission_part w place x (Drives bio ask) lists h))
+  no_submission place x (Copies bio master leg want) lists here is h fits =
       let w = refs scene.setup bio.writer master in
       let left = legs_left scene.setup bio leg in
       let refers : one bio.writer bio.writer * one master master * left ≡ left =
       ap (λ k. k * one master master * left) (one-same bio.writer) ∙ (ap (λ k. 1 * k * left) (one-same master) ∙ omega arith) in
-      absurd (omega (arith, refers, fits, no_ref bio.writer master, task_part scene w s place x here is, line_part w place x (Copies bio master leg want) lists h))
+      absurd (omega (arith, refers, fits, no_ref bio.writer master, task_part scene w s place x here is, submission_part w place x (Copies bio master leg want) lists h))
 
-  resting : (q limit : ℕ) (line : Line) → (line.doing ≡ Rests) × (line.lists ≡ no_lists) → line_weight (elements_of_pool q) limit line ≡ 0
-  resting q limit line at = rw (at.0, at.1) refl
+  resting : (q limit : ℕ) (submission : Submission) → (submission.doing ≡ Rests) × (submission.lists ≡ no_lists) → submission_weight (elements_of_pool q) limit submission ≡ 0
+  resting q limit submission at = rw (at.0, at.1) refl
 
   task_home : (q place : ℕ) (x : TaskState) → place < scene.tasks → s.task place ≡ x → TaskFits scene x → task_weight (elements_of_pool q) place x ≡ 0
-  task_home q place (Writer number todos NoBio line) here is fits =
-      omega (arith, resting q 32 line (no_line place (Writer number todos NoBio line) line.doing line.lists here is refl fits.1))
-  task_home q place (Writer number todos (HasBio item) line) here is fits = absurd (let same = none.hands place number todos (HasBio item) line here is in cc)
-  task_home q place (Writer number todos (HasBoth item vector) line) here is fits = absurd (let same = none.hands place number todos (HasBoth item vector) line here is in cc)
-  task_home q place (Rescuer dev line) here is fits = resting q dev.0 line (no_line place (Rescuer dev line) line.doing line.lists here is refl fits.1)
+  task_home q place (Writer number todos NoBio submission) here is fits =
+      omega (arith, resting q 32 submission (no_submission place (Writer number todos NoBio submission) submission.doing submission.lists here is refl fits.1))
+  task_home q place (Writer number todos (HasBio item) submission) here is fits = absurd (let same = none.hands place number todos (HasBio item) submission here is in cc)
+  task_home q place (Writer number todos (HasBoth item vector) submission) here is fits = absurd (let same = none.hands place number todos (HasBoth item vector) submission here is in cc)
+  task_home q place (Rescuer dev submission) here is fits = resting q dev.0 submission (no_submission place (Rescuer dev submission) submission.doing submission.lists here is refl fits.1)
   task_home q place (Completer disk Empty) here is fits = refl
   task_home q place (Completer disk (Brings bio status)) here is fits =
       absurd (omega (

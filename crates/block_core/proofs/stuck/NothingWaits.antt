@@ -9,13 +9,13 @@ use Rattle.bio_records.specs.declared.tasks.TaskLists.{TaskLists}
 use Rattle.bio_records.specs.Items.{Item}
 use Rattle.bio_books.specs.Books.{keeping}
 use Rattle.run_machine.specs.Scene.{Setup, Scene, tree_at}
-use Rattle.run_machine.specs.Lines.{Want, Takes, Punts as WantsPunt, Links, ToPush, ToCut, ToRecord, ToMaster, Doing, Rests, Drives, Copies, Breaks, Line, legs_of}
+use Rattle.run_machine.specs.Submissions.{Want, Takes, Punts as WantsPunt, Links, ToPush, ToCut, ToRecord, ToMaster, Doing, Rests, Drives, Copies, Breaks, Submission, legs_of}
 use Rattle.run_machine.specs.Tasks.{TaskState, Writer, Rescuer, Completer, Keeper, Todo, Gathered, NoBio, HasBio, HasBoth, Empty, Brings, Carries, Fails}
 use Rattle.run_machine.specs.Runs.{State}
-use Rattle.block_core.specs.Weights.{Weight, Lined, sum_at, one, line_weight}
+use Rattle.block_core.specs.Weights.{Weight, Lined, sum_at, one, submission_weight}
 use Rattle.block_core.proofs.moves.Sums.{one-other, same_or_not}
 use Rattle.block_core.proofs.sound.Facts.{Suits, DoingFits}
-use Rattle.block_core.proofs.sound.TaskLines.{IsBusy}
+use Rattle.block_core.proofs.sound.TaskSubmissions.{IsBusy}
 use Rattle.block_core.proofs.sound.Orders.{Each, Above, DoingPlaced, Ground}
 use Rattle.std.specs.Prelude.{min}
 use Rattle.run_machine.specs.Scene.{keeps_data, is_mirror}
@@ -65,8 +65,8 @@ StillRescuer s dev Rests = s.objects.rescue dev ≡ []
 StillRescuer s dev doing = StillDoing s doing
 
 abbrev pub IsStill : State → TaskState → Type 0
-IsStill s (Writer number todo taken line) = StillWriter s todo taken line.doing
-IsStill s (Rescuer dev line) = StillRescuer s dev.0 line.doing
+IsStill s (Writer number todo taken submission) = StillWriter s todo taken submission.doing
+IsStill s (Rescuer dev submission) = StillRescuer s dev.0 submission.doing
 IsStill s (Completer disk Empty) = (s.objects.disk disk.0).pending ≡ []
 IsStill s (Completer disk (Brings bio status)) = ⊥
 IsStill s (Completer disk (Carries writer closed)) = ⊥
@@ -77,7 +77,7 @@ pub record AllStill (scene : Scene) (s : State) : Type 0 where
   pub still : (place : ℕ) → place < scene.tasks → IsStill s (s.task place)
   -- each set that has a rescuer has its task
   pub rescuers : (dev : ℕ) → dev < scene.setup.count → scene.setup.rescuer dev ≡ true
-      → (place : ℕ) × (line : Line) × (place < scene.tasks) × (s.task place ≡ Rescuer (record { 0 = dev }) line)
+      → (place : ℕ) × (submission : Submission) × (place < scene.tasks) × (s.task place ≡ Rescuer (record { 0 = dev }) submission)
   -- no disk has a bio
   pub disks : (dev : ℕ) → dev < scene.setup.count → (s.objects.disk dev).pending ≡ []
 
@@ -127,7 +127,7 @@ module _ (scene : Scene) (s : State) (g : Ground scene.setup) (u v : Weight) whe
   abbrev setup : Setup
   setup = scene.setup
 
-  -- a bio of a line that waits, whose set is above the pool; or the mirror's run itself
+  -- a bio of a submission that waits, whose set is above the pool; or the mirror's run itself
   abbrev pub Found : ℕ → Type 0
   Found limit =
       ((item : Item Pad) × Below setup s (min item.share.no 64) × (1 ≤ u.bio (Lined limit) item) × (v.bio (Lined limit) item ≡ 0))
@@ -156,67 +156,67 @@ module _ (scene : Scene) (s : State) (g : Ground scene.setup) (u v : Weight) whe
   legs_there (Split number kind sizes members) leg lt = absurd (omega (arith, lt))
   legs_there (Mirrored number sizes members) leg lt = refl
 
-  pub line_found : (limit : ℕ) (doing : Doing) (lists : TaskLists) → DoingFits setup doing lists → DoingPlaced setup limit doing lists → DoingWaits setup doing lists → StillDoing s doing
-      → 1 ≤ line_weight u limit (record { doing = doing; lists = lists }) → line_weight v limit (record { doing = doing; lists = lists }) ≡ 0 → Found limit
-  line_found limit Rests lists fits d w still some none =
-      let e : line_weight u limit (record { doing = Rests; lists = lists }) ≡ 0 = ap (λ (l : TaskLists). line_weight u limit (record { doing = Rests; lists = l })) fits in
+  pub submission_found : (limit : ℕ) (doing : Doing) (lists : TaskLists) → DoingFits setup doing lists → DoingPlaced setup limit doing lists → DoingWaits setup doing lists → StillDoing s doing
+      → 1 ≤ submission_weight u limit (record { doing = doing; lists = lists }) → submission_weight v limit (record { doing = doing; lists = lists }) ≡ 0 → Found limit
+  submission_found limit Rests lists fits d w still some none =
+      let e : submission_weight u limit (record { doing = Rests; lists = lists }) ≡ 0 = ap (λ (l : TaskLists). submission_weight u limit (record { doing = Rests; lists = l })) fits in
       absurd (omega (arith, some, e))
-  line_found limit (Drives bio ToPush) lists fits d w still some none = absurd still
-  line_found limit (Drives bio (ToCut (Takes true))) lists fits d w still some none =
+  submission_found limit (Drives bio ToPush) lists fits d w still some none = absurd still
+  submission_found limit (Drives bio (ToCut (Takes true))) lists fits d w still some none =
       let no0 : sum_by (u.bio (Lined limit)) lists.list0 ≡ 0 = ap (sum_by (u.bio (Lined limit))) d.0 in
       let a = sum_by-cons (u.bio (Lined limit)) bio lists.list1 in
       let b = sum_by-cons (v.bio (Lined limit)) bio lists.list1 in
       above_waits limit bio.bio.dev.0 (2 * bio.bio.dev.0) d.1.0.0.device (omega arith) still
       (inr (inr (inl (bio.bio.dev.0, d.1.0.0.device, cuts_there (tree_at setup bio.bio.dev) (Takes true) fits, refl))))
       (bio ∷ lists.list1) (omega (arith, some, no0, a)) (omega (arith, none, b)) (d.1.0.1, d.2.0)
-  line_found limit (Drives bio (ToCut (Takes false))) lists fits d w still some none = absurd still
-  line_found limit (Drives bio (ToCut WantsPunt)) lists fits d w still some none = absurd still
-  line_found limit (Drives bio (ToCut (Links hand))) lists fits d w still some none = absurd still
-  line_found limit (Drives bio ToRecord) lists fits d w still some none =
+  submission_found limit (Drives bio (ToCut (Takes false))) lists fits d w still some none = absurd still
+  submission_found limit (Drives bio (ToCut WantsPunt)) lists fits d w still some none = absurd still
+  submission_found limit (Drives bio (ToCut (Links hand))) lists fits d w still some none = absurd still
+  submission_found limit (Drives bio ToRecord) lists fits d w still some none =
       let no0 : sum_by (u.bio (Lined limit)) lists.list0 ≡ 0 = ap (sum_by (u.bio (Lined limit))) d.0 in
       let a = sum_by-cons (u.bio (Lined limit)) bio lists.list1 in
       let b = sum_by-cons (v.bio (Lined limit)) bio lists.list1 in
       above_waits limit bio.bio.dev.0 (2 * bio.bio.dev.0 + 1) d.1.0.0.device (omega arith) still
       (inr (inr (inr (bio.bio.dev.0, d.1.0.0.device, copies_there (tree_at setup bio.bio.dev) fits, refl))))
       (bio ∷ lists.list1) (omega (arith, some, no0, a)) (omega (arith, none, b)) (d.1.0.1, d.2.0)
-  line_found limit (Drives bio (ToMaster slip)) lists fits d w still some none = absurd still
-  line_found limit (Copies bio master leg (Takes true)) lists fits d w still some none =
+  submission_found limit (Drives bio (ToMaster slip)) lists fits d w still some none = absurd still
+  submission_found limit (Copies bio master leg (Takes true)) lists fits d w still some none =
       let no0 : sum_by (u.bio (Lined limit)) lists.list0 ≡ 0 = ap (sum_by (u.bio (Lined limit))) w in
       let is : IsPool setup (2 * bio.dev.0) = inr (inr (inl (bio.dev.0, d.0.device, legs_there (tree_at setup bio.dev) leg fits, refl))) in
       elim (zero_or (sum_by (u.bio (Lined limit)) lists.list1)) [
         | inl no1 ↦ inr (bio, master, leg, record { pool = 2 * bio.dev.0; low = omega arith; empty = still; is = is }, omega (arith, some, no0, no1), omega (arith, none))
         | inr more ↦ above_waits limit bio.dev.0 (2 * bio.dev.0) d.0.device (omega arith) still is lists.list1 more (omega (arith, none)) d.4
       ]
-  line_found limit (Copies bio master leg (Takes false)) lists fits d w still some none = absurd still
-  line_found limit (Copies bio master leg WantsPunt) lists fits d w still some none = absurd still
-  line_found limit (Copies bio master leg (Links hand)) lists fits d w still some none = absurd still
-  line_found limit (Breaks breach kept) lists fits d w still some none = absurd still
+  submission_found limit (Copies bio master leg (Takes false)) lists fits d w still some none = absurd still
+  submission_found limit (Copies bio master leg WantsPunt) lists fits d w still some none = absurd still
+  submission_found limit (Copies bio master leg (Links hand)) lists fits d w still some none = absurd still
+  submission_found limit (Breaks breach kept) lists fits d w still some none = absurd still
 
   -- a task that submits waits below its limit, where it has something
-  pub line_below : (limit : ℕ) (doing : Doing) (lists : TaskLists) → DoingFits setup doing lists → DoingPlaced setup limit doing lists → IsBusy doing → StillDoing s doing
+  pub submission_below : (limit : ℕ) (doing : Doing) (lists : TaskLists) → DoingFits setup doing lists → DoingPlaced setup limit doing lists → IsBusy doing → StillDoing s doing
       → (pool : ℕ) × (pool < 2 * limit) × (pool < 64) × (spares s pool ≡ 0) × IsPool setup pool
-  line_below limit Rests lists fits d busy still = absurd busy
-  line_below limit (Drives bio ToPush) lists fits d busy still = absurd still
-  line_below limit (Drives bio (ToCut (Takes true))) lists fits d busy still =
+  submission_below limit Rests lists fits d busy still = absurd busy
+  submission_below limit (Drives bio ToPush) lists fits d busy still = absurd still
+  submission_below limit (Drives bio (ToCut (Takes true))) lists fits d busy still =
       let low = d.1.0.2 in
       let known = d.1.0.0.device in
       let few = g.few in
       (2 * bio.bio.dev.0, omega (arith, low), omega (arith, known, few), still, inr (inr (inl (bio.bio.dev.0, known, cuts_there (tree_at setup bio.bio.dev) (Takes true) fits, refl))))
-  line_below limit (Drives bio (ToCut (Takes false))) lists fits d busy still = absurd still
-  line_below limit (Drives bio (ToCut WantsPunt)) lists fits d busy still = absurd still
-  line_below limit (Drives bio (ToCut (Links hand))) lists fits d busy still = absurd still
-  line_below limit (Drives bio ToRecord) lists fits d busy still =
+  submission_below limit (Drives bio (ToCut (Takes false))) lists fits d busy still = absurd still
+  submission_below limit (Drives bio (ToCut WantsPunt)) lists fits d busy still = absurd still
+  submission_below limit (Drives bio (ToCut (Links hand))) lists fits d busy still = absurd still
+  submission_below limit (Drives bio ToRecord) lists fits d busy still =
       let low = d.1.0.2 in
       let known = d.1.0.0.device in
       let few = g.few in
       (2 * bio.bio.dev.0 + 1, omega (arith, low), omega (arith, known, few), still, inr (inr (inr (bio.bio.dev.0, known, copies_there (tree_at setup bio.bio.dev) fits, refl))))
-  line_below limit (Drives bio (ToMaster slip)) lists fits d busy still = absurd still
-  line_below limit (Copies bio master leg (Takes true)) lists fits d busy still =
+  submission_below limit (Drives bio (ToMaster slip)) lists fits d busy still = absurd still
+  submission_below limit (Copies bio master leg (Takes true)) lists fits d busy still =
       let low = d.1 in
       let known = d.0.device in
       let few = g.few in
       (2 * bio.dev.0, omega (arith, low), omega (arith, known, few), still, inr (inr (inl (bio.dev.0, known, legs_there (tree_at setup bio.dev) leg fits, refl))))
-  line_below limit (Copies bio master leg (Takes false)) lists fits d busy still = absurd still
-  line_below limit (Copies bio master leg WantsPunt) lists fits d busy still = absurd still
-  line_below limit (Copies bio master leg (Links hand)) lists fits d busy still = absurd still
-  line_below limit (Breaks breach kept) lists fits d busy still = absurd still
+  submission_below limit (Copies bio master leg (Takes false)) lists fits d busy still = absurd still
+  submission_below limit (Copies bio master leg WantsPunt) lists fits d busy still = absurd still
+  submission_below limit (Copies bio master leg (Links hand)) lists fits d busy still = absurd still
+  submission_below limit (Breaks breach kept) lists fits d busy still = absurd still

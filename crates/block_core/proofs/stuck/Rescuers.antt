@@ -6,7 +6,7 @@ use Rattle.stack_base.specs.declared.stack.Kind.{Kind}
 use Rattle.stack_base.specs.Tree.{Tree, size}
 use Rattle.bio_books.specs.Books.{keeping}
 use Rattle.run_machine.specs.Scene.{Scene}
-use Rattle.run_machine.specs.Lines.{legs_of}
+use Rattle.run_machine.specs.Submissions.{legs_of}
 use Rattle.run_machine.specs.Tasks.{TaskState, Writer, Rescuer, Completer, Keeper}
 use Rattle.run_machine.specs.Runs.{State}
 use Rattle.std.proofs.lemmas.List.{length-map}
@@ -48,7 +48,7 @@ pub opened_waits : (scene : Scene) (s : State) → IsOpened scene s → Waits sc
 opened_waits scene s o = record { tasks = λ place. begins_wait (s.task place) (o.tasks place); rescued = λ dev. inl (o.rescued dev) }
   where
     begins_wait : (x : TaskState) → Begins scene x → TaskWaits scene.setup x
-    begins_wait (Writer number todo taken line) h = rw (h.2) tt
-    begins_wait (Rescuer dev line) h = rw (h.1) tt
+    begins_wait (Writer number todo taken submission) h = rw (h.2) tt
+    begins_wait (Rescuer dev submission) h = rw (h.1) tt
     begins_wait (Completer disk carried) h = tt
     begins_wait (Keeper keeping) h = tt

@@ -9,14 +9,14 @@ use Rattle.bio_records.specs.declared.tasks.TaskLists.{TaskLists}
 use Rattle.bio_books.specs.Books.{Node, node_at, keeping}
 use Rattle.model_disks.specs.Disks.{DiskState}
 use Rattle.run_machine.specs.Scene.{Setup, Scene}
-use Rattle.run_machine.specs.Lines.{Doing, Rests, Drives, Copies, Breaks, Line}
+use Rattle.run_machine.specs.Submissions.{Doing, Rests, Drives, Copies, Breaks, Submission}
 use Rattle.run_machine.specs.Tasks.{TaskState, Writer, Rescuer, Completer, Keeper, Keeping, Keeps, Stops, Resizes, Starts, Todo, Gathered, NoBio, HasBio, HasBoth, Carried, Empty, Brings, Carries, Fails}
 use Rattle.run_machine.specs.Runs.{State}
 use Rattle.block_core.specs.Weights.{Weight, Pending, Rescued, sum_at, weigh_option, task_weight, gathered_weight, book_weight}
 use Rattle.block_core.proofs.moves.Moves.{with_pool}
 use Rattle.block_core.proofs.moves.Sums.{one-other, same_or_not}
 use Rattle.block_core.proofs.sound.Facts.{DoingFits, TaskFits}
-use Rattle.block_core.proofs.sound.TaskLines.{IsBusy}
+use Rattle.block_core.proofs.sound.TaskSubmissions.{IsBusy}
 use Rattle.block_core.proofs.sound.Orders.{Each, DoingPlaced, TaskPlaced, each_map}
 use Rattle.run_machine.specs.Scene.{is_disk}
 use Rattle.run_machine.specs.declared.event.TaskId.{TaskId}
@@ -28,11 +28,11 @@ use Rattle.run_machine.specs.Runs.{HasFree, HasEnded, unfinished}
 use Rattle.block_core.specs.Rooms.{HasRoomInBooks}
 use Rattle.block_core.proofs.sound.OffLevels.{off_levels}
 use Rattle.block_core.specs.Rounds.{round_of, is_of_round, all_worth, unfinished_of}
-use Rattle.block_core.proofs.sound.EventStages.{zeros, line_zero}
+use Rattle.block_core.proofs.sound.EventStages.{zeros, submission_zero}
 use Rattle.block_core.proofs.sound.Rounds.{from_round, TodosFit, TaskRounds, Tallied}
 use Rattle.block_core.proofs.unrefused.NodeNeeds.{Needs}
 use Rattle.block_core.proofs.sound.Posts.{ByRounds, starts, AtPost, Posted}
-use Rattle.block_core.proofs.stuck.NothingWaits.{IsPool, spares, StillDoing, StillTaken, StillWriter, IsStill, AllStill, zero_or, some_place, line_below}
+use Rattle.block_core.proofs.stuck.NothingWaits.{IsPool, spares, StillDoing, StillTaken, StillWriter, IsStill, AllStill, zero_or, some_place, submission_below}
 use Rattle.block_core.proofs.stuck.WaitersBelow.{Known, none_open, all_home, has_spare}
 use Rattle.block_core.proofs.stuck.Frees.{task_free}
 use Rattle.block_core.proofs.stuck.FreeEvents.{HasNumbers, free_of}
@@ -56,21 +56,21 @@ device_in (id.Rescuer dev) = dev.0
 device_in (id.Completer disk) = disk.0
 device_in id.Keeper = 0
 
-is_rescuer : (x : TaskState) (dev : DevId) → id_of x ≡ id.Rescuer dev → (line : Line) × (x ≡ Rescuer dev line)
-is_rescuer (Writer number todo taken line) dev is = absurd cc
-is_rescuer (Rescuer other line) dev is = let e : other.0 ≡ dev.0 = ap device_in is in (line, ap (λ n. Rescuer (record { 0 = n }) line) e)
+is_rescuer : (x : TaskState) (dev : DevId) → id_of x ≡ id.Rescuer dev → (submission : Submission) × (x ≡ Rescuer dev submission)
+is_rescuer (Writer number todo taken submission) dev is = absurd cc
+is_rescuer (Rescuer other submission) dev is = let e : other.0 ≡ dev.0 = ap device_in is in (submission, ap (λ n. Rescuer (record { 0 = n }) submission) e)
 is_rescuer (Completer disk carried) dev is = absurd cc
 is_rescuer (Keeper keeping) dev is = absurd cc
 
 is_completer : (x : TaskState) (dev : DevId) → id_of x ≡ id.Completer dev → (carried : Carried) × (x ≡ Completer dev carried)
-is_completer (Writer number todo taken line) dev is = absurd cc
-is_completer (Rescuer other line) dev is = absurd cc
+is_completer (Writer number todo taken submission) dev is = absurd cc
+is_completer (Rescuer other submission) dev is = absurd cc
 is_completer (Completer disk carried) dev is = let e : disk.0 ≡ dev.0 = ap device_in is in (carried, ap (λ n. Completer (record { 0 = n }) carried) e)
 is_completer (Keeper keeping) dev is = absurd cc
 
 is_keeper : (x : TaskState) → id_of x ≡ id.Keeper → (keeping : Keeping) × (x ≡ Keeper keeping)
-is_keeper (Writer number todo taken line) is = absurd cc
-is_keeper (Rescuer other line) is = absurd cc
+is_keeper (Writer number todo taken submission) is = absurd cc
+is_keeper (Rescuer other submission) is = absurd cc
 is_keeper (Completer disk carried) is = absurd cc
 is_keeper (Keeper keeping) is = (keeping, refl)
 
@@ -132,7 +132,7 @@ module _ (scene : Scene) (s : State) (level : ℕ → ℕ → ℕ) (known : Know
 
     busy_none : (limit : ℕ) (doing : Doing) (lists : TaskLists) → DoingFits setup doing lists → DoingPlaced setup limit doing lists → IsBusy doing → StillDoing s doing → ⊥
     busy_none limit doing lists fits d busy h =
-        let b = line_below scene s known.ground (off_levels level) (off_levels level) limit doing lists fits d busy h in spare b.0 b.4 b.3
+        let b = submission_below scene s known.ground (off_levels level) (off_levels level) limit doing lists fits d busy h in spare b.0 b.4 b.3
 
     writer_later : (number : ℕ) (todo : List Todo) (taken : Gathered) (doing : Doing) (lists : TaskLists) → DoingFits setup doing lists → DoingPlaced setup 32 doing lists → StillWriter s todo taken doing → ByRounds todo
         → Each (λ (t : Todo). now < t.round) todo
@@ -157,10 +157,10 @@ module _ (scene : Scene) (s : State) (level : ℕ → ℕ → ℕ) (known : Know
     taken_zero (HasBoth item vector) = refl
 
     task_none : (place : ℕ) (x : TaskState) → TaskFits scene x → TaskPlaced setup x → TaskRounds rounds keeper now place x → AtPost ids keeper scene s.objects.tally place x → IsStill s x → task_weight u place x ≡ 0
-    task_none place (Writer number todo taken line) fits t r post h =
-        let later = writer_later number todo taken line.doing line.lists fits.1 t.1 h post.1.0 in
-        omega (arith, none_now todo later r, taken_zero taken, line_zero (λ todos taken. all_worth (is_of_round rounds now) todos) (is_of_round rounds now) 32 line)
-    task_none place (Rescuer dev line) fits t r post h = line_zero (λ todos taken. all_worth (is_of_round rounds now) todos) (is_of_round rounds now) dev.0 line
+    task_none place (Writer number todo taken submission) fits t r post h =
+        let later = writer_later number todo taken submission.doing submission.lists fits.1 t.1 h post.1.0 in
+        omega (arith, none_now todo later r, taken_zero taken, submission_zero (λ todos taken. all_worth (is_of_round rounds now) todos) (is_of_round rounds now) 32 submission)
+    task_none place (Rescuer dev submission) fits t r post h = submission_zero (λ todos taken. all_worth (is_of_round rounds now) todos) (is_of_round rounds now) dev.0 submission
     task_none place (Completer disk Empty) fits t r post h = refl
     task_none place (Completer disk (Brings bio status)) fits t r post h = refl
     task_none place (Completer disk (Carries w closed)) fits t r post h = absurd h

@@ -10,12 +10,12 @@ use Rattle.bio_lists.specs.Submission.{no_lists}
 use Rattle.bio_books.specs.Books.{Node, VectorItem, SlipItem, Holding, node_at, keeping, parent_of}
 use Rattle.model_disks.specs.Disks.{DiskState}
 use Rattle.run_machine.specs.Scene.{Setup, Scene}
-use Rattle.run_machine.specs.Lines.{Doing, Rests, Drives, Copies, Breaks, Line, rests}
+use Rattle.run_machine.specs.Submissions.{Doing, Rests, Drives, Copies, Breaks, Submission, rests}
 use Rattle.run_machine.specs.Tasks.{TaskState, Writer, Rescuer, Completer, Keeper, Todo, Gathered, NoBio, HasBio, HasBoth, Empty, Brings, Carries, Fails}
 use Rattle.run_machine.specs.Runs.{State}
-use Rattle.block_core.specs.Weights.{Weight, Pending, Rescued, Lined, total, sum_at, one, weigh_option, doing_weight, task_weight, line_weight, book_weight, elements_of_pool, holding_elements, refs, names_node, under, legs_left, count_of}
-use Rattle.block_core.proofs.sound.Facts.{DoingFits, LineFits, TaskFits, Kept}
-use Rattle.block_core.proofs.sound.TaskLines.{IsBusy}
+use Rattle.block_core.specs.Weights.{Weight, Pending, Rescued, Lined, total, sum_at, one, weigh_option, doing_weight, task_weight, submission_weight, book_weight, elements_of_pool, holding_elements, refs, names_node, under, legs_left, count_of}
+use Rattle.block_core.proofs.sound.Facts.{DoingFits, SubmissionFits, TaskFits, Kept}
+use Rattle.block_core.proofs.sound.TaskSubmissions.{IsBusy}
 use Rattle.block_core.proofs.sound.Orders.{IsOwn, DoingPlaced, TaskPlaced, Placed, Ground}
 use Rattle.std.specs.Prelude.{min}
 use Rattle.block_core.proofs.sound.Alive.{IsAlive}
@@ -23,7 +23,7 @@ use Rattle.block_core.proofs.moves.Totals.{part_of}
 use Rattle.block_core.specs.Weights.{apart}
 use Rattle.block_core.proofs.sound.OffLevels.{bio_off, parent_off, held_off, off_levels}
 use Rattle.block_core.proofs.stuck.Waits.{DoingWaits, TaskWaits, Waits}
-use Rattle.block_core.proofs.stuck.NothingWaits.{IsPool, spares, StillDoing, StillWriter, StillRescuer, IsStill, AllStill, Below, lower, zero_or, some_place, some_one, one-eq, both, Found, line_found, line_below}
+use Rattle.block_core.proofs.stuck.NothingWaits.{IsPool, spares, StillDoing, StillWriter, StillRescuer, IsStill, AllStill, Below, lower, zero_or, some_place, some_one, one-eq, both, Found, submission_found, submission_below}
 
 -- what holds of a state of a run, so far as no task waits for itself
 pub record Known (scene : Scene) (s : State) (level : ℕ → ℕ → ℕ) : Type 0 where
@@ -43,12 +43,12 @@ module _ (scene : Scene) (s : State) (level : ℕ → ℕ → ℕ) (known : Know
   abbrev off : Weight
   off = off_levels level
 
-  -- a busy line of a task
-  still_line : (s : State) (todo : List Todo) (taken : Gathered) (doing : Doing) → IsBusy doing → StillWriter s todo taken doing → StillDoing s doing
-  still_line s todo taken Rests busy still = absurd busy
-  still_line s todo taken (Drives bio ask) busy still = still
-  still_line s todo taken (Copies bio master leg want) busy still = still
-  still_line s todo taken (Breaks breach kept) busy still = still
+  -- a busy submission of a task
+  still_submission : (s : State) (todo : List Todo) (taken : Gathered) (doing : Doing) → IsBusy doing → StillWriter s todo taken doing → StillDoing s doing
+  still_submission s todo taken Rests busy still = absurd busy
+  still_submission s todo taken (Drives bio ask) busy still = still
+  still_submission s todo taken (Copies bio master leg want) busy still = still
+  still_submission s todo taken (Breaks breach kept) busy still = still
 
   still_rescuer : (s : State) (dev : ℕ) (doing : Doing) → IsBusy doing → StillRescuer s dev doing → StillDoing s doing
   still_rescuer s dev Rests busy still = absurd busy
@@ -63,39 +63,39 @@ module _ (scene : Scene) (s : State) (level : ℕ → ℕ → ℕ) (known : Know
   rests_or_busy (Breaks breach kept) = inr tt
 
   -- at rest the lists are empty
-  rests_zero : (u : Weight) (limit : ℕ) (line : Line) → line.doing ≡ Rests → LineFits setup line → line_weight u limit line ≡ 0
-  rests_zero u limit line is fits =
-      let none : line.lists ≡ no_lists = subst (λ (d : Doing). DoingFits setup d line.lists) is fits in
-      ap (λ (d : Doing). doing_weight u limit d + sum_by (u.bio (Lined limit)) line.lists.list0 + sum_by (u.bio (Lined limit)) line.lists.list1) is
+  rests_zero : (u : Weight) (limit : ℕ) (submission : Submission) → submission.doing ≡ Rests → SubmissionFits setup submission → submission_weight u limit submission ≡ 0
+  rests_zero u limit submission is fits =
+      let none : submission.lists ≡ no_lists = subst (λ (d : Doing). DoingFits setup d submission.lists) is fits in
+      ap (λ (d : Doing). doing_weight u limit d + sum_by (u.bio (Lined limit)) submission.lists.list0 + sum_by (u.bio (Lined limit)) submission.lists.list1) is
       ∙ ap (λ (l : TaskLists). 0 + sum_by (u.bio (Lined limit)) l.list0 + sum_by (u.bio (Lined limit)) l.list1) none
 
-  line_any : (u : Weight) (limit : ℕ) (line : Line) → LineFits setup line → DoingPlaced setup limit line.doing line.lists → DoingWaits setup line.doing line.lists
-      → (IsBusy line.doing → StillDoing s line.doing) → 1 ≤ line_weight u limit line → line_weight off limit line ≡ 0 → Found scene s known.ground u off limit
-  line_any u limit line fits d w still some none = elim (rests_or_busy line.doing) [
-    | inl is ↦ absurd (omega (arith, some, rests_zero u limit line is fits))
-    | inr busy ↦ line_found scene s known.ground u off limit line.doing line.lists fits d w (still busy) some none
+  submission_any : (u : Weight) (limit : ℕ) (submission : Submission) → SubmissionFits setup submission → DoingPlaced setup limit submission.doing submission.lists → DoingWaits setup submission.doing submission.lists
+      → (IsBusy submission.doing → StillDoing s submission.doing) → 1 ≤ submission_weight u limit submission → submission_weight off limit submission ≡ 0 → Found scene s known.ground u off limit
+  submission_any u limit submission fits d w still some none = elim (rests_or_busy submission.doing) [
+    | inl is ↦ absurd (omega (arith, some, rests_zero u limit submission is fits))
+    | inr busy ↦ submission_found scene s known.ground u off limit submission.doing submission.lists fits d w (still busy) some none
   ]
 
-  -- what a task has that weighs: a bio or a run of its line, or a bio in its hand with which it waits for a vector
+  -- what a task has that weighs: a bio or a run of its submission, or a bio in its hand with which it waits for a vector
   abbrev Has : Weight → Type 0
   Has u = ((limit : ℕ) × Found scene s known.ground u off limit) ⊎ ((item : Item Pad) × (1 ≤ u.hand item) × (item.share.no ≡ 65) × (spares s 64 ≡ 0))
 
   task_found : (u : Weight) → ((n : ℕ) (todos : List Todo) (taken : Gathered) → u.todo n todos taken ≡ 0) → (place : ℕ) (x : TaskState) → TaskFits scene x → TaskPlaced setup x → TaskWaits setup x → IsStill s x
       → 1 ≤ task_weight u place x → task_weight off place x ≡ 0 → Has u
-  task_found u todos place (Writer number todo NoBio line) fits t w still some none =
+  task_found u todos place (Writer number todo NoBio submission) fits t w still some none =
       let z = todos number todo NoBio in
-      inl (32, line_any u 32 line fits.1 t.1 w (λ busy. still_line s todo NoBio line.doing busy still) (omega (arith, some, z)) (omega (arith, none)))
-  task_found u todos place (Writer number todo (HasBio item) line) fits t w still some none =
+      inl (32, submission_any u 32 submission fits.1 t.1 w (λ busy. still_submission s todo NoBio submission.doing busy still) (omega (arith, some, z)) (omega (arith, none)))
+  task_found u todos place (Writer number todo (HasBio item) submission) fits t w still some none =
       let z = todos number todo (HasBio item) in
-      let at_rest : line ≡ rests = fits.2 in
-      let empty : spares s 64 ≡ 0 = subst (λ (l : Line). StillWriter s todo (HasBio item) l.doing) at_rest still in
-      let nothing : line_weight u 32 line ≡ 0 = ap (line_weight u 32) at_rest in
+      let at_rest : submission ≡ rests = fits.2 in
+      let empty : spares s 64 ≡ 0 = subst (λ (l : Submission). StillWriter s todo (HasBio item) l.doing) at_rest still in
+      let nothing : submission_weight u 32 submission ≡ 0 = ap (submission_weight u 32) at_rest in
       inr (item, omega (arith, some, z, nothing), t.2, empty)
-  task_found u todos place (Writer number todo (HasBoth item vector) line) fits t w still some none =
-      let at_rest : line ≡ rests = fits.2 in
-      absurd (subst (λ (l : Line). StillWriter s todo (HasBoth item vector) l.doing) at_rest still)
-  task_found u todos place (Rescuer dev line) fits t w still some none =
-      inl (dev.0, line_any u dev.0 line fits.1 t w (λ busy. still_rescuer s dev.0 line.doing busy still) some none)
+  task_found u todos place (Writer number todo (HasBoth item vector) submission) fits t w still some none =
+      let at_rest : submission ≡ rests = fits.2 in
+      absurd (subst (λ (l : Submission). StillWriter s todo (HasBoth item vector) l.doing) at_rest still)
+  task_found u todos place (Rescuer dev submission) fits t w still some none =
+      inl (dev.0, submission_any u dev.0 submission fits.1 t w (λ busy. still_rescuer s dev.0 submission.doing busy still) some none)
   task_found u todos place (Completer disk Empty) fits t w still some none = absurd (omega (arith, some))
   task_found u todos place (Completer disk (Brings bio status)) fits t w still some none = absurd still
   task_found u todos place (Completer disk (Carries writer closed)) fits t w still some none = absurd still
@@ -111,7 +111,7 @@ module _ (scene : Scene) (s : State) (level : ℕ → ℕ → ℕ) (known : Know
       let still : IsStill s (Rescuer (record { 0 = dev }) r.1) = subst (IsStill s) r.3 (c.still r.0 r.2) in
       elim (rests_or_busy r.1.doing) [
         | inl is ↦ absurd (some (subst (StillRescuer s dev) is still))
-        | inr busy ↦ line_below scene s known.ground off off dev r.1.doing r.1.lists fits.1 t busy (still_rescuer s dev r.1.doing busy still)
+        | inr busy ↦ submission_below scene s known.ground off off dev r.1.doing r.1.lists fits.1 t busy (still_rescuer s dev r.1.doing busy still)
       ]
     where
       by_rescuer : (s.objects.rescue dev ≡ []) ⊎ (setup.rescuer dev ≡ true) → setup.rescuer dev ≡ true

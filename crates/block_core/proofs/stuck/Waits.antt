@@ -15,20 +15,20 @@ use Rattle.bioset_pools.specs.Sets.{bios_of, waits_first}
 use Rattle.bio_books.specs.Books.{keeping}
 use Rattle.run_machine.specs.Maps.{upd}
 use Rattle.run_machine.specs.Scene.{Setup, Scene, tree_at}
-use Rattle.run_machine.specs.Lines.{Want, Takes, Punts as WantsPunt, Links, ToPush, ToCut, ToRecord, ToMaster, Doing, Rests, Drives, Copies, Breaks, Line, settled, goes_on, copies, asks_at, first_length, landed, legs_of, leg_at, is_of, punted, not_punted}
+use Rattle.run_machine.specs.Submissions.{Want, Takes, Punts as WantsPunt, Links, ToPush, ToCut, ToRecord, ToMaster, Doing, Rests, Drives, Copies, Breaks, Submission, settled, goes_on, copies, asks_at, first_length, landed, legs_of, leg_at, is_of, punted, not_punted}
 use Rattle.run_machine.specs.Tasks.{TaskState, Writer, Rescuer, Completer, Keeper}
 use Rattle.run_machine.specs.Objects.{clear_bio}
 use Rattle.run_machine.specs.Runs.{State}
-use Rattle.block_core.proofs.moves.Moves.{Move, Can, after, limit_of, with_line, HasLine, Wants, with_want, filled_of, cut_lists}
+use Rattle.block_core.proofs.moves.Moves.{Move, Can, after, limit_of, with_submission, HasSubmission, Wants, with_want, filled_of, cut_lists}
 use Rattle.block_core.proofs.moves.Moves as moves
 use Rattle.block_core.proofs.sound.Facts.{TaskFits, Kept}
 use Rattle.block_core.proofs.moves.Geometry.{IsThere}
-use Rattle.block_core.proofs.sound.TaskLines.{all-upd, line_fits}
+use Rattle.block_core.proofs.sound.TaskSubmissions.{all-upd, submission_fits}
 use Rattle.block_core.proofs.sound.Orders.{Each, Above, IsPlaced, IsOwn, DoingPlaced, TaskPlaced, Placed, Ground, of_set}
 use Rattle.std.specs.Prelude.{All}
 use Rattle.std.proofs.lemmas.List.Elements.{All-nil, All-cons}
 use Rattle.bioset_pools.specs.Sets.{is_empty}
-use Rattle.block_core.proofs.sound.OrdersKept.{all_at, line_placed}
+use Rattle.block_core.proofs.sound.OrdersKept.{all_at, submission_placed}
 use Rattle.block_core.specs.Waits.{NoneBehind, DoesNotWaitForItself, TaskDoesNotWait, NoneWaitsForItself}
 
 -- where it waits, list 0 is empty
@@ -48,8 +48,8 @@ DoingWaits setup (Copies bio master leg want) lists = WantWaits (setup.rescuer b
 DoingWaits setup (Breaks breach kept) lists = Unit {0}
 
 abbrev pub TaskWaits : Setup → TaskState → Type 0
-TaskWaits setup (Writer number todo taken line) = DoingWaits setup line.doing line.lists
-TaskWaits setup (Rescuer dev line) = DoingWaits setup line.doing line.lists
+TaskWaits setup (Writer number todo taken submission) = DoingWaits setup submission.doing submission.lists
+TaskWaits setup (Rescuer dev submission) = DoingWaits setup submission.doing submission.lists
 TaskWaits setup (Completer disk carried) = Unit {0}
 TaskWaits setup (Keeper keeping) = Unit {0}
 
@@ -99,8 +99,8 @@ module _ (setup : Setup) (r : AreRescued setup) where
   copies_wait lists bio master leg next = by_test (leg == legs_of (tree_at setup bio.dev)) refl
     where
       by_test : (v : Bool) → (leg == legs_of (tree_at setup bio.dev)) ≡ v
-          → let line : Line = (if v then goes_on setup bio.dev lists else record { doing = Copies bio master leg (Takes (waits_first (setup.rescuer bio.dev.0) lists)); lists = lists }) in
-          DoingWaits setup line.doing line.lists
+          → let submission : Submission = (if v then goes_on setup bio.dev lists else record { doing = Copies bio master leg (Takes (waits_first (setup.rescuer bio.dev.0) lists)); lists = lists }) in
+          DoingWaits setup submission.doing submission.lists
       by_test true is = settled_waits (order bio.dev lists)
       by_test false is = next is
 
@@ -165,15 +165,15 @@ punted_wait setup limit (Drives bio (ToMaster slip)) dev lists h d = absurd h
 punted_wait setup limit Rests dev lists h d = absurd h
 punted_wait setup limit (Breaks breach kept) dev lists h d = absurd h
 
-pub line_waits : (setup : Setup) (x : TaskState) (doing : Doing) (lists : TaskLists) → TaskWaits setup x → HasLine x doing lists → DoingWaits setup doing lists
-line_waits setup (Writer number todo taken line) doing lists t h = subst (λ (l : Line). DoingWaits setup l.doing l.lists) h t
-line_waits setup (Rescuer dev line) doing lists t h = subst (λ (l : Line). DoingWaits setup l.doing l.lists) h t
-line_waits setup (Completer disk carried) doing lists t h = absurd h
-line_waits setup (Keeper keeping) doing lists t h = absurd h
+pub submission_waits : (setup : Setup) (x : TaskState) (doing : Doing) (lists : TaskLists) → TaskWaits setup x → HasSubmission x doing lists → DoingWaits setup doing lists
+submission_waits setup (Writer number todo taken submission) doing lists t h = subst (λ (l : Submission). DoingWaits setup l.doing l.lists) h t
+submission_waits setup (Rescuer dev submission) doing lists t h = subst (λ (l : Submission). DoingWaits setup l.doing l.lists) h t
+submission_waits setup (Completer disk carried) doing lists t h = absurd h
+submission_waits setup (Keeper keeping) doing lists t h = absurd h
 
-relined : (setup : Setup) (x : TaskState) (new : Line) → DoingWaits setup new.doing new.lists → TaskWaits setup (with_line x new)
-relined setup (Writer number todo taken line) new n = n
-relined setup (Rescuer dev line) new n = n
+relined : (setup : Setup) (x : TaskState) (new : Submission) → DoingWaits setup new.doing new.lists → TaskWaits setup (with_submission x new)
+relined setup (Writer number todo taken submission) new n = n
+relined setup (Rescuer dev submission) new n = n
 relined setup (Completer disk carried) new n = tt
 relined setup (Keeper keeping) new n = tt
 
@@ -181,37 +181,37 @@ module _ (scene : Scene) (s : State) (g : Ground scene.setup) (r : AreRescued sc
   goes : (place : ℕ) (y : TaskState) → TaskWaits scene.setup y → (j : ℕ) → TaskWaits scene.setup (upd s.task place y j)
   goes place y fits = all-upd (TaskWaits scene.setup) s.task place y i.tasks fits
 
-  on_line : (place : ℕ) (x : TaskState) (new : Line) → DoingWaits scene.setup new.doing new.lists → (j : ℕ) → TaskWaits scene.setup (upd s.task place (with_line x new) j)
-  on_line place x new fits = goes place (with_line x new) (relined scene.setup x new fits)
+  on_submission : (place : ℕ) (x : TaskState) (new : Submission) → DoingWaits scene.setup new.doing new.lists → (j : ℕ) → TaskWaits scene.setup (upd s.task place (with_submission x new) j)
+  on_submission place x new fits = goes place (with_submission x new) (relined scene.setup x new fits)
 
-  has : (place : ℕ) (x : TaskState) (doing : Doing) (lists : TaskLists) → s.task place ≡ x → HasLine x doing lists → DoingWaits scene.setup doing lists
-  has place x doing lists is h = line_waits scene.setup x doing lists (subst (TaskWaits scene.setup) is (i.tasks place)) h
+  has : (place : ℕ) (x : TaskState) (doing : Doing) (lists : TaskLists) → s.task place ≡ x → HasSubmission x doing lists → DoingWaits scene.setup doing lists
+  has place x doing lists is h = submission_waits scene.setup x doing lists (subst (TaskWaits scene.setup) is (i.tasks place)) h
 
-  at : (place : ℕ) (x : TaskState) (doing : Doing) (lists : TaskLists) → s.task place ≡ x → HasLine x doing lists → DoingPlaced scene.setup (limit_of x) doing lists
-  at place x doing lists is h = line_placed scene.setup x doing lists (subst (TaskPlaced scene.setup) is (p.tasks place)) h
+  at : (place : ℕ) (x : TaskState) (doing : Doing) (lists : TaskLists) → s.task place ≡ x → HasSubmission x doing lists → DoingPlaced scene.setup (limit_of x) doing lists
+  at place x doing lists is h = submission_placed scene.setup x doing lists (subst (TaskPlaced scene.setup) is (p.tasks place)) h
 
   tasks : (m : Move) → Can scene s m → (j : ℕ) → TaskWaits scene.setup ((after scene s m).task j)
   tasks (moves.TakesFirst place writer todo later move) c = goes place _ tt
   tasks (moves.TakesVector place writer todo later item move) c = goes place _ tt
-  tasks (moves.TakesSub place x doing lists dev waits move) c = on_line place x _ (links_wait scene.setup r doing dev (Takes waits) (clear_bio (scene.ledger (2 * dev.0))) lists c.3)
-  tasks (moves.TakesSlip place x bio lists move) c = on_line place x _ tt
+  tasks (moves.TakesSub place x doing lists dev waits move) c = on_submission place x _ (links_wait scene.setup r doing dev (Takes waits) (clear_bio (scene.ledger (2 * dev.0))) lists c.3)
+  tasks (moves.TakesSlip place x bio lists move) c = on_submission place x _ tt
   tasks (moves.MissesOne place x number used) c = goes place x (subst (TaskWaits scene.setup) c.1 (i.tasks place))
-  tasks (moves.MissesTry place x doing lists dev used) c = on_line place x _ (punts_wait scene.setup r doing dev lists c.3 (has place x doing lists c.1 c.2))
-  tasks (moves.Punts place x doing lists dev) c = on_line place x _ (punted_wait scene.setup (limit_of x) doing dev lists c.3 (at place x doing lists c.1 c.2))
+  tasks (moves.MissesTry place x doing lists dev used) c = on_submission place x _ (punts_wait scene.setup r doing dev lists c.3 (has place x doing lists c.1 c.2))
+  tasks (moves.Punts place x doing lists dev) c = on_submission place x _ (punted_wait scene.setup (limit_of x) doing dev lists c.3 (at place x doing lists c.1 c.2))
   tasks (moves.Pops place dev bio bios) c = goes place _ (settled_waits scene.setup r (bio ∷ []))
-  tasks (moves.Pushes place x bio lists) c = on_line place x _ (settled_waits scene.setup r (order bio.bio.dev lists))
+  tasks (moves.Pushes place x bio lists) c = on_submission place x _ (settled_waits scene.setup r (order bio.bio.dev lists))
   tasks (moves.Completed place disk index bio status new) c = goes place _ tt
   tasks (moves.Begins place writer todo later item vector key) c = goes place _ (settled_waits scene.setup r (filled_of writer todo item vector key ∷ []))
   tasks (moves.Chained place x bio lists hand number kind sizes members key node) c =
-      on_line place x _ (settled_waits scene.setup r (order bio.bio.dev (cut_lists bio lists hand (first_length kind sizes bio.bio.range) key kind sizes members)))
+      on_submission place x _ (settled_waits scene.setup r (order bio.bio.dev (cut_lists bio lists hand (first_length kind sizes bio.bio.range) key kind sizes members)))
   tasks (moves.Mastered place x bio lists slip key node) c =
       let d = at place x (Drives bio (ToMaster slip)) lists c.1 c.2 in
-      on_line place x _ (copies_wait scene.setup r lists bio.bio key 0 (λ is. waits_or_tries scene.setup bio.bio.dev lists d.0))
+      on_submission place x _ (copies_wait scene.setup r lists bio.bio key 0 (λ is. waits_or_tries scene.setup bio.bio.dev lists d.0))
   tasks (moves.Legged place x bio lists master leg hand key node) c =
       let d = at place x (Copies bio master leg (Links hand)) lists c.1 c.2 in
-      let lt = line_fits scene x (Copies bio master leg (Links hand)) lists (subst (TaskFits scene) c.1 (k.tasks place)) c.2 in
+      let lt = submission_fits scene x (Copies bio master leg (Links hand)) lists (subst (TaskFits scene) c.1 (k.tasks place)) c.2 in
       let item = leg_at bio hand leg key (tree_at scene.setup bio.dev) in
-      on_line place x _ (copies_wait scene.setup r (submitted item lists) bio master (leg + 1)
+      on_submission place x _ (copies_wait scene.setup r (submitted item lists) bio master (leg + 1)
       (λ is.
       let ne = eqb-false (leg + 1) (legs_of (tree_at scene.setup bio.dev)) is in
       tries scene.setup bio.dev (submitted item lists) (r bio d.0 (omega (arith, lt, ne))) (one_more lists.list0 item)))
@@ -287,8 +287,8 @@ module _ (setup : Setup) (limit : ℕ) where
   doing_behind (Breaks breach kept) lists w d = tt
 
 task_behind : (setup : Setup) (x : TaskState) → TaskWaits setup x → TaskPlaced setup x → TaskDoesNotWait setup x
-task_behind setup (Writer number todo taken line) w t = doing_behind setup 32 line.doing line.lists w t.1
-task_behind setup (Rescuer dev line) w t = doing_behind setup dev.0 line.doing line.lists w t
+task_behind setup (Writer number todo taken submission) w t = doing_behind setup 32 submission.doing submission.lists w t.1
+task_behind setup (Rescuer dev submission) w t = doing_behind setup dev.0 submission.doing submission.lists w t
 task_behind setup (Completer disk carried) w t = tt
 task_behind setup (Keeper keeping) w t = tt
 

@@ -4,16 +4,16 @@ use Rattle.bio_records.specs.declared.tasks.TaskLists.{TaskLists}
 use Rattle.run_machine.specs.declared.event.Event.{Event}
 use Rattle.run_machine.specs.Maps.{upd}
 use Rattle.run_machine.specs.Scene.{Scene}
-use Rattle.run_machine.specs.Lines.{Doing, Line}
+use Rattle.run_machine.specs.Submissions.{Doing, Submission}
 use Rattle.run_machine.specs.Tasks.{TaskState, Writer, Rescuer, Completer, Keeper, Todo, Gathered, NoBio, HasBio, HasBoth}
 use Rattle.run_machine.specs.Opened.{scene, todos, duties}
 use Rattle.run_machine.specs.Runs.{State, IsRun}
 use Rattle.block_core.specs.Breaks.{failed}
-use Rattle.block_core.proofs.moves.Moves.{Move, Can, after, HasLine, with_line}
+use Rattle.block_core.proofs.moves.Moves.{Move, Can, after, HasSubmission, with_submission}
 use Rattle.block_core.proofs.moves.Moves as moves
 use Rattle.block_core.proofs.sound.Facts.{Fair}
 use Rattle.block_core.proofs.sound.Orders.{Ground}
-use Rattle.block_core.proofs.sound.TaskLines.{all-upd}
+use Rattle.block_core.proofs.sound.TaskSubmissions.{all-upd}
 use Rattle.block_core.proofs.moves.StepMoves.{step_is_move}
 use Rattle.block_core.proofs.start.FactsAtStart.{Begins}
 use Rattle.block_core.proofs.sound.Wholes.{Whole, runs_whole}
@@ -28,17 +28,17 @@ IsForOne (todo ∷ later) (HasBoth item vector) = Unit {0}
 
 -- and a completer never fails
 abbrev pub GoesOnCarrying : TaskState → Type 0
-GoesOnCarrying (Writer number todo taken line) = IsForOne todo taken
-GoesOnCarrying (Rescuer dev line) = Unit {0}
+GoesOnCarrying (Writer number todo taken submission) = IsForOne todo taken
+GoesOnCarrying (Rescuer dev submission) = Unit {0}
 GoesOnCarrying (Completer disk carried) = failed carried ≡ false
 GoesOnCarrying (Keeper keeping) = Unit {0}
 
-lined : (x : TaskState) (doing : Doing) (lists : TaskLists) (line : Line) → HasLine x doing lists → GoesOnCarrying x
-    → GoesOnCarrying (with_line x line)
-lined (Writer number todo taken old) doing lists line h on = on
-lined (Rescuer dev old) doing lists line h on = tt
-lined (Completer disk carried) doing lists line h on = absurd h
-lined (Keeper keeping) doing lists line h on = tt
+lined : (x : TaskState) (doing : Doing) (lists : TaskLists) (submission : Submission) → HasSubmission x doing lists → GoesOnCarrying x
+    → GoesOnCarrying (with_submission x submission)
+lined (Writer number todo taken old) doing lists submission h on = on
+lined (Rescuer dev old) doing lists submission h on = tt
+lined (Completer disk carried) doing lists submission h on = absurd h
+lined (Keeper keeping) doing lists submission h on = tt
 
 module _ (scene : Scene) (s : State) (all : (place : ℕ) → GoesOnCarrying (s.task place)) where
   goes : (place : ℕ) (y : TaskState) → GoesOnCarrying y → (other : ℕ) → GoesOnCarrying (upd s.task place y other)
@@ -77,7 +77,7 @@ module _ (scene : Scene) (f : Fair scene) (g : Ground scene.setup) where
       (subst (λ (x : State). (place : ℕ) → GoesOnCarrying (x.task place)) (sym moved.is) (carries_on scene s all moved.move moved.can)) run
 
 pub begins_on : (scene : Scene) (x : TaskState) → Begins scene x → GoesOnCarrying x
-begins_on scene (Writer number todo taken line) b = subst (IsForOne todo) (sym b.1) tt
-begins_on scene (Rescuer dev line) b = tt
+begins_on scene (Writer number todo taken submission) b = subst (IsForOne todo) (sym b.1) tt
+begins_on scene (Rescuer dev submission) b = tt
 begins_on scene (Completer disk carried) b = ap failed b.1
 begins_on scene (Keeper keeping) b = tt

@@ -12,13 +12,13 @@ use Rattle.bio_lists.specs.Submission.{submitted}
 use Rattle.bio_books.specs.Books.{Node, BookState, VectorItem, with_node}
 use Rattle.run_machine.specs.Maps.{upd}
 use Rattle.run_machine.specs.Scene.{Setup, Scene, tree_at}
-use Rattle.run_machine.specs.Lines.{Links, ToPush, ToCut, ToMaster, Doing, Drives, Copies, rests, copies, first_length, landed, legs_of, leg_at}
+use Rattle.run_machine.specs.Submissions.{Links, ToPush, ToCut, ToMaster, Doing, Drives, Copies, rests, copies, first_length, landed, legs_of, leg_at}
 use Rattle.run_machine.specs.Tasks.{TaskState, Writer, Todo}
 use Rattle.run_machine.specs.Runs.{State}
 use Rattle.block_core.specs.Touches.{Touch, Opens, Shuts, Passes}
-use Rattle.block_core.specs.Weights.{Weight, Lined, line_weight, one}
+use Rattle.block_core.specs.Weights.{Weight, Lined, submission_weight, one}
 use Rattle.block_core.specs.Rooms.{need_at, todo_need, legs_need, room, HasRoomInBooks}
-use Rattle.block_core.proofs.moves.Moves.{Move, Can, after, lost, gained, limit_of, HasLine, touch_by, gathered_of, filled_of, cut_lists}
+use Rattle.block_core.proofs.moves.Moves.{Move, Can, after, lost, gained, limit_of, HasSubmission, touch_by, gathered_of, filled_of, cut_lists}
 use Rattle.block_core.proofs.moves.Moves as moves
 use Rattle.block_core.proofs.moves.Sums.{upd-same, upd-other, same_or_not}
 use Rattle.block_core.proofs.moves.Listed.{landed_same}
@@ -27,8 +27,8 @@ use Rattle.block_core.proofs.moves.Geometry.{IsThere}
 use Rattle.block_core.proofs.sound.Orders.{Each, IsOwn, DoingPlaced, TodoThere, TaskPlaced, Placed, Ground}
 use Rattle.block_core.proofs.moves.Deltas.{delta}
 use Rattle.block_core.proofs.moves.Landings.{AreThere, IsLanding, settled_there, goes_there, copies_there, all_there, none_there, cut_there, leg_there}
-use Rattle.block_core.proofs.sound.TaskLines.{line_fits}
-use Rattle.block_core.proofs.sound.OrdersKept.{line_placed}
+use Rattle.block_core.proofs.sound.TaskSubmissions.{submission_fits}
+use Rattle.block_core.proofs.sound.OrdersKept.{submission_placed}
 use Rattle.block_core.proofs.sound.SumParts.{cut_weight, unless_less}
 use Rattle.block_core.proofs.unrefused.NodeNeeds.{Needs, mirror_need, legs_on}
 
@@ -42,7 +42,7 @@ opened_worth worth (Opens writer node) = worth writer
 opened_worth worth (Shuts writer node) = 0
 opened_worth worth Passes = 0
 
--- bios of a line need what they needed, the first of them where it lands
+-- bios of a submission need what they needed, the first of them where it lands
 landed_room : (setup : Setup) → Needs setup → (w limit : ℕ) (item : Item Pad) → IsThere setup item.bio
     → (room setup w).bio (Lined limit) (record item { bio = landed (tree_at setup item.bio.dev) item.bio }) ≡ (room setup w).bio (Lined limit) item
 landed_room setup n w limit item is =
@@ -51,7 +51,7 @@ landed_room setup n w limit item is =
     ∙ ap (λ v. one item.bio.writer w * v) (n.lands item.bio is)
 
 copies_room : (setup : Setup) (n : Needs setup) (w : ℕ) (worth : ℕ → ℕ) (limit : ℕ) (lists : TaskLists) (bio : Bio) (master leg : ℕ) → AreThere setup lists.list0 → AreThere setup lists.list1
-    → line_weight (room_worth setup w worth) limit (copies setup lists bio master leg)
+    → submission_weight (room_worth setup w worth) limit (copies setup lists bio master leg)
     ≤ one bio.writer w * legs_need setup bio leg + sum_by ((room_worth setup w worth).bio (Lined limit)) lists.list0 + sum_by ((room_worth setup w worth).bio (Lined limit)) lists.list1
 copies_room setup n w worth limit lists bio master leg first second = omega (
   arith,
@@ -76,8 +76,8 @@ module _ (scene : Scene) (s : State) (g : Ground scene.setup) (n : Needs scene.s
   Spends w worth m =
       gained scene (room_worth scene.setup w worth) s m + opened_worth (λ writer. one writer w) (touch_by m) ≤ lost scene (room_worth scene.setup w worth) s m + opened_worth worth (touch_by m)
 
-  has : (place : ℕ) (x : TaskState) (doing : Doing) (lists : TaskLists) → s.task place ≡ x → HasLine x doing lists → DoingPlaced scene.setup (limit_of x) doing lists
-  has place x doing lists is h = line_placed scene.setup x doing lists (subst (TaskPlaced scene.setup) is (a.tasks place)) h
+  has : (place : ℕ) (x : TaskState) (doing : Doing) (lists : TaskLists) → s.task place ≡ x → HasSubmission x doing lists → DoingPlaced scene.setup (limit_of x) doing lists
+  has place x doing lists is h = submission_placed scene.setup x doing lists (subst (TaskPlaced scene.setup) is (a.tasks place)) h
 
   lands : (w : ℕ) (worth : ℕ → ℕ) → IsLanding scene.setup (room_worth scene.setup w worth)
   lands w worth = landed_room scene.setup n w
@@ -135,7 +135,7 @@ module _ (scene : Scene) (s : State) (g : Ground scene.setup) (n : Needs scene.s
   -- links of legs
   spends w worth (moves.Legged place x bio lists master leg hand key node) c =
       let d = has place x (Copies bio master leg (Links hand)) lists c.1 c.2 in
-      let lt = line_fits scene x (Copies bio master leg (Links hand)) lists (subst (TaskFits scene) c.1 (i.tasks place)) c.2 in
+      let lt = submission_fits scene x (Copies bio master leg (Links hand)) lists (subst (TaskFits scene) c.1 (i.tasks place)) c.2 in
       let item = leg_at bio hand leg key (tree_at scene.setup bio.dev) in
       let more = submitted item lists in
       let first = leg_there scene.setup (limit_of x) g bio hand lists master leg key d lt in

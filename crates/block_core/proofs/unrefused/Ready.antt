@@ -16,7 +16,7 @@ use Rattle.bio_books.specs.Links.{IsFull, Linked, Made, NoRoom, Stray, ChainsAt,
 use Rattle.bio_books.specs.Drops.{Ended, DropsAt}
 use Rattle.bio_books.specs.Drops as end
 use Rattle.run_machine.specs.Scene.{Scene, tree_at}
-use Rattle.run_machine.specs.Lines.{Takes, Punts, Links, ToPush, ToCut, ToRecord, ToMaster, Doing, Rests, Drives, Copies, Breaks, Line, line_request}
+use Rattle.run_machine.specs.Submissions.{Takes, Punts, Links, ToPush, ToCut, ToRecord, ToMaster, Doing, Rests, Drives, Copies, Breaks, Submission, submission_request}
 use Rattle.run_machine.specs.Requests as requests
 use Rattle.run_machine.specs.Requests.{Request, Reply, Opening}
 use Rattle.run_machine.specs.Tasks.{TaskState, Writer, Rescuer, Completer, Keeper, Keeping, Keeps, Stops, Resizes, Starts, Todo, Gathered, NoBio, HasBio, HasBoth, Carried, Empty, Brings, Carries, Fails, request, with_bio, needs_vector}
@@ -25,18 +25,18 @@ use Rattle.run_machine.specs.Runs.{State}
 use Rattle.block_core.specs.Weights.{one, task_weight, refs, count_of, legs_left}
 use Rattle.block_core.specs.Rooms.{need_at, todo_need, legs_need, room, HasRoomInBooks}
 use Rattle.block_core.specs.Breaks.{is_refusal}
-use Rattle.block_core.proofs.moves.Moves.{HasLine}
+use Rattle.block_core.proofs.moves.Moves.{HasSubmission}
 use Rattle.block_core.proofs.moves.Sums.{one-same}
 use Rattle.block_core.specs.Roles.{named}
 use Rattle.block_core.proofs.sound.Facts.{own_part, own_of, TaskFits, Kept}
 use Rattle.block_core.proofs.sound.Orders.{TaskPlaced, Placed}
 use Rattle.block_core.proofs.moves.Deltas.{vacant_at}
-use Rattle.block_core.proofs.sound.TaskLines.{line_fits}
-use Rattle.block_core.proofs.sound.OrdersKept.{line_placed}
+use Rattle.block_core.proofs.sound.TaskSubmissions.{submission_fits}
+use Rattle.block_core.proofs.sound.OrdersKept.{submission_placed}
 use Rattle.block_core.proofs.unrefused.NodeNeeds.{Needs, mirror_need, cut_need, legs_few}
 use Rattle.block_core.proofs.stuck.Idle.{open_in_books, open_at}
 use Rattle.block_core.proofs.unrefused.VacantPlaces.{HasVacant, has_vacant}
-use Rattle.block_core.proofs.moves.Totals.{task_part, line_part, within, refs_within, carrying, carried_few}
+use Rattle.block_core.proofs.moves.Totals.{task_part, submission_part, within, refs_within, carrying, carried_few}
 
 -- a node is open at a place
 pub record IsOpenAt (book : BookState) (place : ℕ) : Type 0 where
@@ -232,53 +232,53 @@ module _ (scene : Scene) (s : State) (n : Needs scene.setup) (small : IsSmall sc
   in_books writer key stands = open_in_books scene s i writer key stands.node stands.is
 
   -- a submission
-  ready_line : (x : TaskState) (doing : Doing) (lists : TaskLists) → s.task place ≡ x → HasLine x doing lists → IsReady s.objects (line_request scene.setup doing lists)
-  ready_line x Rests lists is h = tt
-  ready_line x (Breaks breach kept) lists is h = tt
-  ready_line x (Drives bio ToPush) lists is h = tt
-  ready_line x (Drives bio (ToCut (Takes waits))) lists is h = tt
-  ready_line x (Drives bio (ToCut Punts)) lists is h = tt
-  ready_line x (Drives bio (ToCut (Links hand))) lists is h =
+  ready_submission : (x : TaskState) (doing : Doing) (lists : TaskLists) → s.task place ≡ x → HasSubmission x doing lists → IsReady s.objects (submission_request scene.setup doing lists)
+  ready_submission x Rests lists is h = tt
+  ready_submission x (Breaks breach kept) lists is h = tt
+  ready_submission x (Drives bio ToPush) lists is h = tt
+  ready_submission x (Drives bio (ToCut (Takes waits))) lists is h = tt
+  ready_submission x (Drives bio (ToCut Punts)) lists is h = tt
+  ready_submission x (Drives bio (ToCut (Links hand))) lists is h =
       let doing : Doing = Drives bio (ToCut (Links hand)) in
       let writer = bio.bio.writer in
       let key = bio.bio.node in
-      let d = line_placed scene.setup x doing lists (subst (TaskPlaced scene.setup) is (a.tasks place)) h in
+      let d = submission_placed scene.setup x doing lists (subst (TaskPlaced scene.setup) is (a.tasks place)) h in
       let need = cut_need scene.setup n bio (Links hand) (tree_at scene.setup bio.bio.dev) refl d.1.0.0 d.3 in
       let all : one writer writer * need_at scene.setup bio.bio ≡ need_at scene.setup bio.bio = ap (λ k. k * need_at scene.setup bio.bio) (one-same writer) ∙ omega arith in
       let names_it : one writer writer * one key key ≡ 1 = ap (λ k. k * one key key) (one-same writer) ∙ (ap (λ k. 1 * k) (one-same key)) in
-      let stands = is_open x writer key is (omega (arith, names_it, line_part (refs scene.setup writer key) place x doing lists h)) in
-      (has_vacant scene s r place x writer here is (in_books writer key stands) (omega (arith, need, all, line_part (room scene.setup writer) place x doing lists h)), stands)
-  ready_line x (Drives bio ToRecord) lists is h = tt
-  ready_line x (Drives bio (ToMaster slip)) lists is h =
+      let stands = is_open x writer key is (omega (arith, names_it, submission_part (refs scene.setup writer key) place x doing lists h)) in
+      (has_vacant scene s r place x writer here is (in_books writer key stands) (omega (arith, need, all, submission_part (room scene.setup writer) place x doing lists h)), stands)
+  ready_submission x (Drives bio ToRecord) lists is h = tt
+  ready_submission x (Drives bio (ToMaster slip)) lists is h =
       let doing : Doing = Drives bio (ToMaster slip) in
       let writer = bio.bio.writer in
       let key = bio.bio.node in
-      let d = line_placed scene.setup x doing lists (subst (TaskPlaced scene.setup) is (a.tasks place)) h in
+      let d = submission_placed scene.setup x doing lists (subst (TaskPlaced scene.setup) is (a.tasks place)) h in
       let there = d.1.0.0 in
       let need = mirror_need (tree_at scene.setup bio.bio.dev) bio.bio.range bio.bio.dev.0 slip d.3 there.some in
       let all : one writer writer * need_at scene.setup bio.bio ≡ need_at scene.setup bio.bio = ap (λ k. k * need_at scene.setup bio.bio) (one-same writer) ∙ omega arith in
       let names_it : one writer writer * one key key ≡ 1 = ap (λ k. k * one key key) (one-same writer) ∙ (ap (λ k. 1 * k) (one-same key)) in
-      let stands = is_open x writer key is (omega (arith, names_it, line_part (refs scene.setup writer key) place x doing lists h)) in
-      (has_vacant scene s r place x writer here is (in_books writer key stands) (omega (arith, need, all, line_part (room scene.setup writer) place x doing lists h)), stands)
-  ready_line x (Copies bio master leg (Takes waits)) lists is h = tt
-  ready_line x (Copies bio master leg Punts) lists is h = tt
-  ready_line x (Copies bio master leg (Links hand)) lists is h =
+      let stands = is_open x writer key is (omega (arith, names_it, submission_part (refs scene.setup writer key) place x doing lists h)) in
+      (has_vacant scene s r place x writer here is (in_books writer key stands) (omega (arith, need, all, submission_part (room scene.setup writer) place x doing lists h)), stands)
+  ready_submission x (Copies bio master leg (Takes waits)) lists is h = tt
+  ready_submission x (Copies bio master leg Punts) lists is h = tt
+  ready_submission x (Copies bio master leg (Links hand)) lists is h =
       let doing : Doing = Copies bio master leg (Links hand) in
       let writer = bio.writer in
-      let lt = line_fits scene x doing lists (subst (TaskFits scene) is (i.tasks place)) h in
+      let lt = submission_fits scene x doing lists (subst (TaskFits scene) is (i.tasks place)) h in
       let few = legs_few (tree_at scene.setup bio.dev) bio.range leg in
       let all : one writer writer * legs_need scene.setup bio leg ≡ legs_need scene.setup bio leg = ap (λ k. k * legs_need scene.setup bio leg) (one-same writer) ∙ omega arith in
       let left = legs_left scene.setup bio leg in
       let refers : one writer writer * one master master * left ≡ left = ap (λ k. k * one master master * left) (one-same writer) ∙ (ap (λ k. 1 * k * left) (one-same master) ∙ omega arith) in
-      let stands = is_open x writer master is (omega (arith, refers, lt, line_part (refs scene.setup writer master) place x doing lists h)) in
-      (has_vacant scene s r place x writer here is (in_books writer master stands) (omega (arith, few, lt, all, line_part (room scene.setup writer) place x doing lists h)), stands)
+      let stands = is_open x writer master is (omega (arith, refers, lt, submission_part (refs scene.setup writer master) place x doing lists h)) in
+      (has_vacant scene s r place x writer here is (in_books writer master stands) (omega (arith, few, lt, all, submission_part (room scene.setup writer) place x doing lists h)), stands)
 
   -- a writer that has still to begin a write
-  begins : (number : ℕ) (todo : Todo) (later : List Todo) (taken : Gathered) (line : Line) → s.task place ≡ Writer number (todo ∷ later) taken line → number < scene.books
+  begins : (number : ℕ) (todo : Todo) (later : List Todo) (taken : Gathered) (submission : Submission) → s.task place ≡ Writer number (todo ∷ later) taken submission → number < scene.books
       → HasVacant (s.objects.book number)
-  begins number todo later taken line is lt =
+  begins number todo later taken submission is lt =
       let all = ap (λ k. k * sum_by (todo_need scene.setup) (todo ∷ later)) (one-same number) in
-      has_vacant scene s r place (Writer number (todo ∷ later) taken line) number here is lt (omega (arith, all, sum_by-cons (todo_need scene.setup) todo later))
+      has_vacant scene s r place (Writer number (todo ∷ later) taken submission) number here is lt (omega (arith, all, sum_by-cons (todo_need scene.setup) todo later))
 
   vector_or_not : (b : Bool) (number : ℕ) (todo : Todo) → HasVacant (s.objects.book number) → IsReady s.objects (with_bio number b todo)
   vector_or_not true number todo vacant = tt
@@ -291,15 +291,15 @@ module _ (scene : Scene) (s : State) (n : Needs scene.setup) (small : IsSmall sc
   ready_writer number (todo ∷ later) NoBio Rests lists is lt = tt
   ready_writer number (todo ∷ later) (HasBio bio) Rests lists is lt = vector_or_not (needs_vector todo.write) number todo (begins number todo later (HasBio bio) _ is lt)
   ready_writer number (todo ∷ later) (HasBoth bio vector) Rests lists is lt = begins number todo later (HasBoth bio vector) _ is lt
-  ready_writer number todos taken (Drives bio ask) lists is lt = ready_line _ (Drives bio ask) lists is refl
-  ready_writer number todos taken (Copies bio master leg want) lists is lt = ready_line _ (Copies bio master leg want) lists is refl
+  ready_writer number todos taken (Drives bio ask) lists is lt = ready_submission _ (Drives bio ask) lists is refl
+  ready_writer number todos taken (Copies bio master leg want) lists is lt = ready_submission _ (Copies bio master leg want) lists is refl
   ready_writer number todos taken (Breaks breach kept) lists is lt = tt
 
   ready_rescuer : (dev : DevId) (doing : Doing) (lists : TaskLists) → s.task place ≡ Rescuer dev (record { doing = doing; lists = lists })
       → IsReady s.objects (request scene.setup (Rescuer dev (record { doing = doing; lists = lists })))
   ready_rescuer dev Rests lists is = tt
-  ready_rescuer dev (Drives bio ask) lists is = ready_line _ (Drives bio ask) lists is refl
-  ready_rescuer dev (Copies bio master leg want) lists is = ready_line _ (Copies bio master leg want) lists is refl
+  ready_rescuer dev (Drives bio ask) lists is = ready_submission _ (Drives bio ask) lists is refl
+  ready_rescuer dev (Copies bio master leg want) lists is = ready_submission _ (Copies bio master leg want) lists is refl
   ready_rescuer dev (Breaks breach kept) lists is = tt
 
   -- a completer tells an end
@@ -331,8 +331,8 @@ module _ (scene : Scene) (s : State) (n : Needs scene.setup) (small : IsSmall sc
   ready_keeper (Stops breach) = tt
 
   ready_task : (x : TaskState) → s.task place ≡ x → TaskFits scene x → IsReady s.objects (request scene.setup x)
-  ready_task (Writer number todo taken line) is fits = ready_writer number todo taken line.doing line.lists is fits.0
-  ready_task (Rescuer dev line) is fits = ready_rescuer dev line.doing line.lists is
+  ready_task (Writer number todo taken submission) is fits = ready_writer number todo taken submission.doing submission.lists is fits.0
+  ready_task (Rescuer dev submission) is fits = ready_rescuer dev submission.doing submission.lists is
   ready_task (Completer disk carried) is fits = ready_carried disk carried is
   ready_task (Keeper keeping) is fits = ready_keeper keeping
 

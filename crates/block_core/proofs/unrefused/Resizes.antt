@@ -6,7 +6,7 @@ use Rattle.stack_base.specs.declared.ids.PoolId.{PoolId}
 use Rattle.bio_books.specs.Books.{Node, node_at, parent_of}
 use Rattle.bio_books.specs.Drops.{Closed}
 use Rattle.run_machine.specs.Scene.{Scene}
-use Rattle.run_machine.specs.Lines.{Line}
+use Rattle.run_machine.specs.Submissions.{Submission}
 use Rattle.run_machine.specs.Requests as requests
 use Rattle.run_machine.specs.Tasks.{Writer, Completer, Keeper, Keeps, Resizes, Duty, Todo, Gathered, NoBio, HasBio, HasBoth, Carries}
 use Rattle.run_machine.specs.Runs.{State, IsLet}
@@ -69,21 +69,21 @@ module _ (rounds : List ℕ) (keeper : ℕ) (scene : Scene) (s : State) (i : Kep
       worth = ap (λ parent. tops_left parent * one r r) top ∙ ap (λ n. 1 * n) (one-same r)
 
   -- what is in a hand is for the first of some writes
-  no_hand : (place number : ℕ) (todos : List Todo) (taken : Gathered) (line : Line) → place < scene.tasks → s.task place ≡ Writer number todos taken line → taken ≡ NoBio
-  no_hand place number todos NoBio line here is = refl
-  no_hand place number [] (HasBio item) line here is = absurd (subst GoesOnCarrying is (on place))
-  no_hand place number [] (HasBoth item vector) line here is = absurd (subst GoesOnCarrying is (on place))
-  no_hand place number (todo ∷ later) (HasBio item) line here is =
+  no_hand : (place number : ℕ) (todos : List Todo) (taken : Gathered) (submission : Submission) → place < scene.tasks → s.task place ≡ Writer number todos taken submission → taken ≡ NoBio
+  no_hand place number todos NoBio submission here is = refl
+  no_hand place number [] (HasBio item) submission here is = absurd (subst GoesOnCarrying is (on place))
+  no_hand place number [] (HasBoth item vector) submission here is = absurd (subst GoesOnCarrying is (on place))
+  no_hand place number (todo ∷ later) (HasBio item) submission here is =
       let r = round_of rounds todo.number in
       absurd (elim (over r) [
-        | inl none ↦ omega (arith, one-same r, none, task_part scene (unfinished_of (is_of_round rounds r)) s place (Writer number (todo ∷ later) (HasBio item) line) here is)
-        | inr none ↦ omega (arith, one-same r, none, task_part scene (begun_of (is_of_round rounds r)) s place (Writer number (todo ∷ later) (HasBio item) line) here is)
+        | inl none ↦ omega (arith, one-same r, none, task_part scene (unfinished_of (is_of_round rounds r)) s place (Writer number (todo ∷ later) (HasBio item) submission) here is)
+        | inr none ↦ omega (arith, one-same r, none, task_part scene (begun_of (is_of_round rounds r)) s place (Writer number (todo ∷ later) (HasBio item) submission) here is)
       ])
-  no_hand place number (todo ∷ later) (HasBoth item vector) line here is =
+  no_hand place number (todo ∷ later) (HasBoth item vector) submission here is =
       let r = round_of rounds todo.number in
       absurd (elim (over r) [
-        | inl none ↦ omega (arith, one-same r, none, task_part scene (unfinished_of (is_of_round rounds r)) s place (Writer number (todo ∷ later) (HasBoth item vector) line) here is)
-        | inr none ↦ omega (arith, one-same r, none, task_part scene (begun_of (is_of_round rounds r)) s place (Writer number (todo ∷ later) (HasBoth item vector) line) here is)
+        | inl none ↦ omega (arith, one-same r, none, task_part scene (unfinished_of (is_of_round rounds r)) s place (Writer number (todo ∷ later) (HasBoth item vector) submission) here is)
+        | inr none ↦ omega (arith, one-same r, none, task_part scene (begun_of (is_of_round rounds r)) s place (Writer number (todo ∷ later) (HasBoth item vector) submission) here is)
       ])
 
   none_begun : NoneBegun scene s

@@ -13,7 +13,7 @@ use Rattle.layout_model.specs.Bound.{most_elements}
 use Rattle.bio_records.specs.declared.tasks.TaskLists.{TaskLists}
 use Rattle.run_machine.specs.declared.event.Event.{Event}
 use Rattle.run_machine.specs.Scene.{Scene, is_disk}
-use Rattle.run_machine.specs.Lines.{Doing, Rests, Drives, Copies, Breaks, rests}
+use Rattle.run_machine.specs.Submissions.{Doing, Rests, Drives, Copies, Breaks, rests}
 use Rattle.run_machine.specs.Tasks.{TaskState, Writer, Rescuer, Completer, Keeper, Keeps, Stops, Duty, Todo, NoBio, Empty, look_of}
 use Rattle.run_machine.specs.Opened.{Scenario, scene, start, tasks as opened_tasks, todos, todos_of, is_by, writers, duties, keepers, places_of, setup as setup_in, at as device_at}
 use Rattle.run_machine.specs.Runs.{State, IsRun, IsLet}
@@ -33,15 +33,15 @@ use Rattle.block_core.proofs.unrefused.Resizes.{nothing_out}
 use Rattle.block_core.proofs.unrefused.Hands.{GoesOnCarrying, runs_on, begins_on}
 
 -- what fits did not break off
-unbroken_line : (scene : Scene) (doing : Doing) (lists : TaskLists) → DoingFits scene.setup doing lists → broke_in doing ≡ false
-unbroken_line scene Rests lists fits = refl
-unbroken_line scene (Drives bio ask) lists fits = refl
-unbroken_line scene (Copies bio master leg want) lists fits = refl
-unbroken_line scene (Breaks breach kept) lists fits = absurd fits
+unbroken_submission : (scene : Scene) (doing : Doing) (lists : TaskLists) → DoingFits scene.setup doing lists → broke_in doing ≡ false
+unbroken_submission scene Rests lists fits = refl
+unbroken_submission scene (Drives bio ask) lists fits = refl
+unbroken_submission scene (Copies bio master leg want) lists fits = refl
+unbroken_submission scene (Breaks breach kept) lists fits = absurd fits
 
 unbroken : (scene : Scene) (x : TaskState) → TaskFits scene x → GoesOnCarrying x → is_broken x ≡ false
-unbroken scene (Writer number todo taken line) fits on = unbroken_line scene line.doing line.lists fits.1
-unbroken scene (Rescuer dev line) fits on = unbroken_line scene line.doing line.lists fits.1
+unbroken scene (Writer number todo taken submission) fits on = unbroken_submission scene submission.doing submission.lists fits.1
+unbroken scene (Rescuer dev submission) fits on = unbroken_submission scene submission.doing submission.lists fits.1
 unbroken scene (Completer disk carried) fits on = on
 unbroken scene (Keeper (Keeps duties)) fits on = refl
 unbroken scene (Keeper (Stops breach)) fits on = absurd fits

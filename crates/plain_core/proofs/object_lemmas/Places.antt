@@ -13,7 +13,7 @@ use Rattle.std.specs.Prelude.{filter}
 use Rattle.std.proofs.lemmas.List.Elements.{All-append, All-filter}
 use Rattle.stack_base.specs.declared.ids.DevId.{DevId}
 use Rattle.bio_records.specs.declared.tasks.TaskLists.{TaskLists}
-use Rattle.run_machine.specs.Lines.{is_of, punted}
+use Rattle.run_machine.specs.Submissions.{is_of, punted}
 use Rattle.task_steps.specs.Within.{IsWithinDevice, AreWithin, IsItemWithin, ListsAreWithin}
 use Rattle.bio_records.specs.Sorting.{is_lower, is_same}
 use Rattle.bio_lists.specs.Submission.{submitted, order}

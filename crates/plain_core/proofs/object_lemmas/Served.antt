@@ -22,7 +22,7 @@ use Rattle.run_machine.specs.declared.event.What.{What}
 use Rattle.run_machine.specs.declared.event.What.TheVariants as told
 use Rattle.run_machine.specs.Requests.{Opening, GiveBio, GiveVec, GiveSlip, Punt, Pop, Push, Complete, Link, Drop, Done, Resize, NextRound, Did, Popped, Completed, LinkedTo, DroppedTo, OutIs, Nothing}
 use Rattle.run_machine.specs.Events.{pool_of, how_of, drop_of, resize_of}
-use Rattle.run_machine.specs.Lines.{punted}
+use Rattle.run_machine.specs.Submissions.{punted}
 use Rattle.run_machine.specs.Maps.{upd}
 use Rattle.run_machine.specs.Objects.{Opened}
 use Rattle.plain_core.specs.objects.Books.{ended_of_plain, end_of, IsToldBy}

@@ -24,12 +24,12 @@ use Rattle.bio_records.specs.Items.{Item}
 use Rattle.model_disks.specs.Disks.{DiskState}
 use Rattle.work_text.specs.declared.Work.{Work}
 use Rattle.run_machine.specs.Events.{pool_of}
-use Rattle.run_machine.specs.Lines.{rests}
+use Rattle.run_machine.specs.Submissions.{rests}
 use Rattle.run_machine.specs.Opened.{Scenario, at, duties, is_numbered, keepers, no_task, objects, places_of, records_of, reserve_of, setup, tasks, todos_of, writers}
 use Rattle.task_steps.specs.Routed.{Routing, places_at, routing_setup}
 use Rattle.run_machine.specs.Scene.{is_disk, keeps_data, setup_of}
 use Rattle.run_machine.specs.Tasks.{Duty, TaskState, Writer, Rescuer, Completer, Keeper, Keeps, NoBio, Empty}
-use Rattle.task_steps.specs.Within.{AreWithin, IsItemWithin, LineFits, TaskFits}
+use Rattle.task_steps.specs.Within.{AreWithin, IsItemWithin, SubmissionFits, TaskFits}
 use Rattle.plain_core.specs.Cores.{CoreState, AreFound, IsCore}
 use Rattle.plain_core.specs.objects.Ledgers.{ledger_of}
 use Rattle.plain_core.specs.opening.Opening.{core_objects_of, CanOpen, IsOpenedCore, new_book, new_books, new_disk, new_disks, new_pool, new_pools, scenario_by}
@@ -123,7 +123,7 @@ module _ (stack : Stack) (scripts : List (PoolId × Answers)) where
 pub round_count : (rounds left : List ℕ) → left ≡ left_in rounds → length left ≡ rounds_in rounds
 round_count rounds left is = ap length is ∙ length-map-range_with_len (in_round rounds) 0 (rounds_in rounds)
 
-rest_fits : (stack : Stack) → LineFits stack rests
+rest_fits : (stack : Stack) → SubmissionFits stack rests
 rest_fits stack = record { doing = tt; lists = (All-nil (IsItemWithin stack), All-nil (IsItemWithin stack)) }
 
 keeper_fits : (stack : Stack) (duties : List Duty) → All (TaskFits stack) (keepers duties)

@@ -11,7 +11,7 @@ use Rattle.stack_base.specs.declared.stack.Stack.{Stack}
 use Rattle.work_text.specs.declared.Work.{Work}
 use Rattle.run_machine.specs.Scenario.{change_of}
 use Rattle.run_machine.specs.Events.{id_of}
-use Rattle.run_machine.specs.Lines.{rests}
+use Rattle.run_machine.specs.Submissions.{rests}
 use Rattle.task_core.specs.opened.OfOne.{states}
 use Rattle.task_core.specs.opened.OpenTasks.{AreTasksOf}
 use Rattle.task_steps.specs.Routed.{Routing}

@@ -1,7 +1,7 @@
 -- What tasks need is what their requests do, and when what they look at lets them ask.
 use Rattle.std.proofs.Common.{◌≡◌, ℕ, Bool, true, false, nat_le, ◌==◌, List, ◌∷◌, sum, refl, sym, ap, ◌∙◌, subst, IsTrue}
 use Rattle.stack_base.specs.declared.ids.DevId.{DevId}
-use Rattle.run_machine.specs.Lines as line
+use Rattle.run_machine.specs.Submissions as submission
 use Rattle.run_machine.specs.Objects.{Serves}
 use Rattle.run_machine.specs.Requests.{Reply, Present, LeftOver, LookRound, LookLeft}
 use Rattle.run_machine.specs.Scene.{Setup}
@@ -13,36 +13,36 @@ use Rattle.plain_core.specs.objects.Plain.{CoreObjects, objects_of_core}
 use Rattle.plain_core.specs.steps.Submissions.{IsSubmitting}
 
 -- a busy task asks for what its submission does
-pub busy_writer : (s : Setup) (n : ℕ) (todo : List task.Todo) (taken : task.Gathered) (doing : line.Doing) (l : line.Line) → IsSubmitting doing
-    → task.writer_request s n todo taken doing l ≡ line.line_request s doing l.lists
-busy_writer s n todo taken line.Rests l busy = absurd busy
-busy_writer s n todo taken (line.Drives part ask) l busy = refl
-busy_writer s n todo taken (line.Copies bio master leg want) l busy = refl
-busy_writer s n todo taken (line.Breaks breach kept) l busy = refl
+pub busy_writer : (s : Setup) (n : ℕ) (todo : List task.Todo) (taken : task.Gathered) (doing : submission.Doing) (l : submission.Submission) → IsSubmitting doing
+    → task.writer_request s n todo taken doing l ≡ submission.submission_request s doing l.lists
+busy_writer s n todo taken submission.Rests l busy = absurd busy
+busy_writer s n todo taken (submission.Drives part ask) l busy = refl
+busy_writer s n todo taken (submission.Copies bio master leg want) l busy = refl
+busy_writer s n todo taken (submission.Breaks breach kept) l busy = refl
 
-pub busy_rescuer : (s : Setup) (dev : DevId) (doing : line.Doing) (l : line.Line) → IsSubmitting doing
-    → task.rescuer_request s dev doing l ≡ line.line_request s doing l.lists
-busy_rescuer s dev line.Rests l busy = absurd busy
-busy_rescuer s dev (line.Drives part ask) l busy = refl
-busy_rescuer s dev (line.Copies bio master leg want) l busy = refl
-busy_rescuer s dev (line.Breaks breach kept) l busy = refl
+pub busy_rescuer : (s : Setup) (dev : DevId) (doing : submission.Doing) (l : submission.Submission) → IsSubmitting doing
+    → task.rescuer_request s dev doing l ≡ submission.submission_request s doing l.lists
+busy_rescuer s dev submission.Rests l busy = absurd busy
+busy_rescuer s dev (submission.Drives part ask) l busy = refl
+busy_rescuer s dev (submission.Copies bio master leg want) l busy = refl
+busy_rescuer s dev (submission.Breaks breach kept) l busy = refl
 
 -- the look of a writer whose next write has no bio yet
 round_let : (old : CoreObjects) (n : ℕ) (next : task.Todo) (later : List task.Todo) (lists : _) (answer : Bool) → nat_le next.round old.tally.round ≡ answer
-    → IsDecisionOf answer (TaskIsLet old (task.Writer n (next ∷ later) task.NoBio (record { doing = line.Rests; lists = lists })))
+    → IsDecisionOf answer (TaskIsLet old (task.Writer n (next ∷ later) task.NoBio (record { doing = submission.Rests; lists = lists })))
 round_let old n next later lists true is = (Present old.tally.round, (refl, refl), is)
 round_let old n next later lists false is = λ seen. by seen.0 seen.1 seen.2
   where
     by : (reply : Reply) → Serves ledger_of (objects_of_core old) LookRound reply (objects_of_core old)
-        → IsTrue (task.lets (task.Writer n (next ∷ later) task.NoBio (record { doing = line.Rests; lists = lists })) reply) → ⊥
+        → IsTrue (task.lets (task.Writer n (next ∷ later) task.NoBio (record { doing = submission.Rests; lists = lists })) reply) → ⊥
     by (Present round) serves lets = no_both (sym (ap (nat_le next.round) serves.0 ∙ is) ∙ lets)
       where
         no_both : false ≡ true → ⊥
         no_both e = cc
     by _ serves lets = absurd serves
 
-pub writer_let : (old : CoreObjects) (n : ℕ) (todo : List task.Todo) (next : task.Todo) (later : List task.Todo) (taken : task.Gathered) (l : line.Line) (answer : Bool)
-    → todo ≡ next ∷ later → taken ≡ task.NoBio → l.doing ≡ line.Rests → nat_le next.round old.tally.round ≡ answer → IsDecisionOf answer (TaskIsLet old (task.Writer n todo taken l))
+pub writer_let : (old : CoreObjects) (n : ℕ) (todo : List task.Todo) (next : task.Todo) (later : List task.Todo) (taken : task.Gathered) (l : submission.Submission) (answer : Bool)
+    → todo ≡ next ∷ later → taken ≡ task.NoBio → l.doing ≡ submission.Rests → nat_le next.round old.tally.round ≡ answer → IsDecisionOf answer (TaskIsLet old (task.Writer n todo taken l))
 writer_let old n todo next later taken l answer is none rests test =
     subst (λ ts. IsDecisionOf answer (TaskIsLet old (task.Writer n ts taken l))) (sym is)
     (subst (λ t. IsDecisionOf answer (TaskIsLet old (task.Writer n (next ∷ later) t l))) (sym none)

@@ -11,7 +11,7 @@ use Rattle.bio_books.specs.Links.{Made}
 use Rattle.run_machine.specs.declared.event.What.{What}
 use Rattle.run_machine.specs.Requests.{Reply, GiveBio, GiveSlip, Complete, Drop, Done, Did, Completed, DroppedTo, LeftOver, LookRound, Present, HadBio, HadVec, Missed, Pop, Popped, Link, LinkedTo, Write}
 use Rattle.run_machine.specs.Tasks as task
-use Rattle.run_machine.specs.Lines as line
+use Rattle.run_machine.specs.Submissions as submission
 use Rattle.run_machine.specs.Runs.{IsLet}
 use Rattle.std.specs.Prelude.{nat_le}
 use Rattle.std.proofs.lemmas.Bool.Decides.{nat_tests}
@@ -28,7 +28,7 @@ use Rattle.plain_core.specs.declared.steps.task.Carried.TheVariants as carried
 use Rattle.plain_core.specs.objects.Plain.{CoreObjects, objects_of_core}
 use Rattle.plain_core.specs.steps.Views.{carried_of_plain}
 use Rattle.plain_core.specs.steps.Answers.{IsAnswer, Refuses, HasAnswer}
-use Rattle.plain_core.specs.steps.Submissions.{IsSubmitting, LineMoves}
+use Rattle.plain_core.specs.steps.Submissions.{IsSubmitting, SubmissionMoves}
 use Rattle.plain_core.specs.steps.Takes.{TakesPart, TakesVector}
 use Rattle.plain_core.specs.steps.Moves.{TaskMoves, duty_reply}
 use Rattle.plain_core.specs.steps.Closing.{IsCarried, GivesFirst, PassesOn, ClosesOn, bare}
@@ -100,66 +100,66 @@ carried_told old new disk b what part again bio status e after is is_bio is_agai
     )
 
 -- a rescuer's or a writer's submission goes on
-pub rescuer_line : (r : Routing) (old new : CoreObjects) (dev : DevId) (doing : line.Doing) (lists : TaskLists) (after : line.Line) (what : What) (result : Result (Unit {0}) CoreFault)
-    → IsSubmitting doing → LineMoves r old (record { doing = doing; lists = lists }) what result new after
+pub rescuer_submission : (r : Routing) (old new : CoreObjects) (dev : DevId) (doing : submission.Doing) (lists : TaskLists) (after : submission.Submission) (what : What) (result : Result (Unit {0}) CoreFault)
+    → IsSubmitting doing → SubmissionMoves r old (record { doing = doing; lists = lists }) what result new after
     → TaskMoves r old (task.Rescuer dev (record { doing = doing; lists = lists })) what result new (task.Rescuer dev after)
-rescuer_line r old new dev line.Rests lists after what result busy m = absurd busy
-rescuer_line r old new dev (line.Drives bio ask) lists after what (Ok d) busy m = (m.0, tt, m.1, ap (task.Rescuer dev) m.2)
-rescuer_line r old new dev (line.Drives bio ask) lists after what (Err fault.NotEnabled) busy m = (m.0, ap (task.Rescuer dev) m.1, λ let_it. m.2)
-rescuer_line r old new dev (line.Drives bio ask) lists after what (Err fault.Memory) busy m = (m.0, ap (task.Rescuer dev) m.1, busy, tt, m.2)
-rescuer_line r old new dev (line.Copies bio master leg want) lists after what (Ok d) busy m = (m.0, tt, m.1, ap (task.Rescuer dev) m.2)
-rescuer_line r old new dev (line.Copies bio master leg want) lists after what (Err fault.NotEnabled) busy m = (m.0, ap (task.Rescuer dev) m.1, λ let_it. m.2)
-rescuer_line r old new dev (line.Copies bio master leg want) lists after what (Err fault.Memory) busy m = (m.0, ap (task.Rescuer dev) m.1, busy, tt, m.2)
-rescuer_line r old new dev (line.Breaks breach kept) lists after what (Ok d) busy m = (m.0, tt, m.1, ap (task.Rescuer dev) m.2)
-rescuer_line r old new dev (line.Breaks breach kept) lists after what (Err fault.NotEnabled) busy m = (m.0, ap (task.Rescuer dev) m.1, λ let_it. m.2)
-rescuer_line r old new dev (line.Breaks breach kept) lists after what (Err fault.Memory) busy m = (m.0, ap (task.Rescuer dev) m.1, busy, tt, m.2)
+rescuer_submission r old new dev submission.Rests lists after what result busy m = absurd busy
+rescuer_submission r old new dev (submission.Drives bio ask) lists after what (Ok d) busy m = (m.0, tt, m.1, ap (task.Rescuer dev) m.2)
+rescuer_submission r old new dev (submission.Drives bio ask) lists after what (Err fault.NotEnabled) busy m = (m.0, ap (task.Rescuer dev) m.1, λ let_it. m.2)
+rescuer_submission r old new dev (submission.Drives bio ask) lists after what (Err fault.Memory) busy m = (m.0, ap (task.Rescuer dev) m.1, busy, tt, m.2)
+rescuer_submission r old new dev (submission.Copies bio master leg want) lists after what (Ok d) busy m = (m.0, tt, m.1, ap (task.Rescuer dev) m.2)
+rescuer_submission r old new dev (submission.Copies bio master leg want) lists after what (Err fault.NotEnabled) busy m = (m.0, ap (task.Rescuer dev) m.1, λ let_it. m.2)
+rescuer_submission r old new dev (submission.Copies bio master leg want) lists after what (Err fault.Memory) busy m = (m.0, ap (task.Rescuer dev) m.1, busy, tt, m.2)
+rescuer_submission r old new dev (submission.Breaks breach kept) lists after what (Ok d) busy m = (m.0, tt, m.1, ap (task.Rescuer dev) m.2)
+rescuer_submission r old new dev (submission.Breaks breach kept) lists after what (Err fault.NotEnabled) busy m = (m.0, ap (task.Rescuer dev) m.1, λ let_it. m.2)
+rescuer_submission r old new dev (submission.Breaks breach kept) lists after what (Err fault.Memory) busy m = (m.0, ap (task.Rescuer dev) m.1, busy, tt, m.2)
 
 -- a writer's submission: it looks at nothing
-no_look : (todo : List task.Todo) (taken : task.Gathered) (doing : line.Doing) → IsSubmitting doing → task.writer_look todo taken doing ≡ None
+no_look : (todo : List task.Todo) (taken : task.Gathered) (doing : submission.Doing) → IsSubmitting doing → task.writer_look todo taken doing ≡ None
 no_look [] taken doing busy = refl
-no_look (t ∷ todo) task.NoBio line.Rests busy = absurd busy
-no_look (t ∷ todo) task.NoBio (line.Drives bio ask) busy = refl
-no_look (t ∷ todo) task.NoBio (line.Copies bio master leg want) busy = refl
-no_look (t ∷ todo) task.NoBio (line.Breaks breach kept) busy = refl
+no_look (t ∷ todo) task.NoBio submission.Rests busy = absurd busy
+no_look (t ∷ todo) task.NoBio (submission.Drives bio ask) busy = refl
+no_look (t ∷ todo) task.NoBio (submission.Copies bio master leg want) busy = refl
+no_look (t ∷ todo) task.NoBio (submission.Breaks breach kept) busy = refl
 no_look (t ∷ todo) (task.HasBio bio) doing busy = refl
 no_look (t ∷ todo) (task.HasBoth bio vector) doing busy = refl
 
-asks_line : (r : Routing) (n : ℕ) (todo : List task.Todo) (taken : task.Gathered) (doing : line.Doing) (lists : TaskLists) → IsSubmitting doing
-    → task.request (routing_setup r) (task.Writer n todo taken (record { doing = doing; lists = lists })) ≡ line.line_request (routing_setup r) doing lists
-asks_line r n todo taken line.Rests lists busy = absurd busy
-asks_line r n todo taken (line.Drives bio ask) lists busy = refl
-asks_line r n todo taken (line.Copies bio master leg want) lists busy = refl
-asks_line r n todo taken (line.Breaks breach kept) lists busy = refl
+asks_submission : (r : Routing) (n : ℕ) (todo : List task.Todo) (taken : task.Gathered) (doing : submission.Doing) (lists : TaskLists) → IsSubmitting doing
+    → task.request (routing_setup r) (task.Writer n todo taken (record { doing = doing; lists = lists })) ≡ submission.submission_request (routing_setup r) doing lists
+asks_submission r n todo taken submission.Rests lists busy = absurd busy
+asks_submission r n todo taken (submission.Drives bio ask) lists busy = refl
+asks_submission r n todo taken (submission.Copies bio master leg want) lists busy = refl
+asks_submission r n todo taken (submission.Breaks breach kept) lists busy = refl
 
-answers_line : (r : Routing) (n : ℕ) (todo : List task.Todo) (taken : task.Gathered) (doing : line.Doing) (lists : TaskLists) (reply : Reply) → IsSubmitting doing
-    → task.Writer n todo taken (line.line_answered (routing_setup r) doing lists reply) ≡ task.answered (routing_setup r) (task.Writer n todo taken (record { doing = doing; lists = lists })) reply
-answers_line r n todo taken line.Rests lists reply busy = absurd busy
-answers_line r n todo taken (line.Drives bio ask) lists reply busy = refl
-answers_line r n todo taken (line.Copies bio master leg want) lists reply busy = refl
-answers_line r n todo taken (line.Breaks breach kept) lists reply busy = refl
+answers_submission : (r : Routing) (n : ℕ) (todo : List task.Todo) (taken : task.Gathered) (doing : submission.Doing) (lists : TaskLists) (reply : Reply) → IsSubmitting doing
+    → task.Writer n todo taken (submission.submission_answered (routing_setup r) doing lists reply) ≡ task.answered (routing_setup r) (task.Writer n todo taken (record { doing = doing; lists = lists })) reply
+answers_submission r n todo taken submission.Rests lists reply busy = absurd busy
+answers_submission r n todo taken (submission.Drives bio ask) lists reply busy = refl
+answers_submission r n todo taken (submission.Copies bio master leg want) lists reply busy = refl
+answers_submission r n todo taken (submission.Breaks breach kept) lists reply busy = refl
 
-pub writer_line : (r : Routing) (old new : CoreObjects) (n : ℕ) (todo : List task.Todo) (taken : task.Gathered) (before after : line.Line) (what : What) (result : Result (Unit {0}) CoreFault)
-    → IsSubmitting before.doing → LineMoves r old before what result new after
+pub writer_submission : (r : Routing) (old new : CoreObjects) (n : ℕ) (todo : List task.Todo) (taken : task.Gathered) (before after : submission.Submission) (what : What) (result : Result (Unit {0}) CoreFault)
+    → IsSubmitting before.doing → SubmissionMoves r old before what result new after
     → TaskMoves r old (task.Writer n todo taken before) what result new (task.Writer n todo taken after)
-writer_line r old new n todo taken before after what (Ok d) busy m = (
+writer_submission r old new n todo taken before after what (Ok d) busy m = (
   m.0,
   subst (IsLet ledger_of (objects_of_core old) (task.Writer n todo taken before)) (sym (no_look todo taken before.doing busy)) tt,
-  subst (λ q. IsAnswer old q what m.0 new) (sym (asks_line r n todo taken before.doing before.lists busy)) m.1,
-  ap (task.Writer n todo taken) m.2 ∙ answers_line r n todo taken before.doing before.lists m.0 busy,
+  subst (λ q. IsAnswer old q what m.0 new) (sym (asks_submission r n todo taken before.doing before.lists busy)) m.1,
+  ap (task.Writer n todo taken) m.2 ∙ answers_submission r n todo taken before.doing before.lists m.0 busy,
 )
-writer_line r old new n todo taken before after what (Err fault.NotEnabled) busy m =
-    (m.0, ap (task.Writer n todo taken) m.1, λ let_it. subst (λ q. Refuses old q what) (sym (asks_line r n todo taken before.doing before.lists busy)) m.2)
-writer_line r old new n todo taken before after what (Err fault.Memory) busy m = (
+writer_submission r old new n todo taken before after what (Err fault.NotEnabled) busy m =
+    (m.0, ap (task.Writer n todo taken) m.1, λ let_it. subst (λ q. Refuses old q what) (sym (asks_submission r n todo taken before.doing before.lists busy)) m.2)
+writer_submission r old new n todo taken before after what (Err fault.Memory) busy m = (
   m.0,
   ap (task.Writer n todo taken) m.1,
   busy,
   subst (IsLet ledger_of (objects_of_core old) (task.Writer n todo taken before)) (sym (no_look todo taken before.doing busy)) tt,
-  subst (λ q. HasAnswer old q what) (sym (asks_line r n todo taken before.doing before.lists busy)) m.2,
+  subst (λ q. HasAnswer old q what) (sym (asks_submission r n todo taken before.doing before.lists busy)) m.2,
 )
 
 -- a writer at rest
-pub writer_ok : (r : Routing) (old new : CoreObjects) (n : ℕ) (tds : List task.Todo) (taken : task.Gathered) (before : line.Line) (what : What) (reply : Reply) (after : task.TaskState)
-    → before.doing ≡ line.Rests → IsLet ledger_of (objects_of_core old) (task.Writer n tds taken before) (task.writer_look tds taken line.Rests)
+pub writer_ok : (r : Routing) (old new : CoreObjects) (n : ℕ) (tds : List task.Todo) (taken : task.Gathered) (before : submission.Submission) (what : What) (reply : Reply) (after : task.TaskState)
+    → before.doing ≡ submission.Rests → IsLet ledger_of (objects_of_core old) (task.Writer n tds taken before) (task.writer_look tds taken submission.Rests)
     → IsAnswer old (task.write_request n tds taken) what reply new → after ≡ task.write_answered (routing_setup r) n tds taken before reply
     → TaskMoves r old (task.Writer n tds taken before) what (Ok (tt {0})) new after
 writer_ok r old new n tds taken before what reply after rests is_let answer is_after = (
@@ -170,28 +170,28 @@ writer_ok r old new n tds taken before what reply after rests is_let answer is_a
 )
 
 -- the next write's round has come
-pub round_come : (old : CoreObjects) (n : ℕ) (next : task.Todo) (later : List task.Todo) (before : line.Line) → nat_le next.round old.tally.round ≡ true
+pub round_come : (old : CoreObjects) (n : ℕ) (next : task.Todo) (later : List task.Todo) (before : submission.Submission) → nat_le next.round old.tally.round ≡ true
     → IsLet ledger_of (objects_of_core old) (task.Writer n (next ∷ later) task.NoBio before) (Some LookRound)
 round_come old n next later before come = (Present old.tally.round, (refl, refl), come)
 
-pub bio_taken : (r : Routing) (old new : CoreObjects) (n : ℕ) (tds later : List task.Todo) (next : task.Todo) (taken : task.Gathered) (before : line.Line) (what : What) (part : Item Pad)
-    → before.doing ≡ line.Rests → taken ≡ task.NoBio → tds ≡ next ∷ later → nat_le next.round old.tally.round ≡ true → TakesPart old Fs true what (Ok (Some part)) new
+pub bio_taken : (r : Routing) (old new : CoreObjects) (n : ℕ) (tds later : List task.Todo) (next : task.Todo) (taken : task.Gathered) (before : submission.Submission) (what : What) (part : Item Pad)
+    → before.doing ≡ submission.Rests → taken ≡ task.NoBio → tds ≡ next ∷ later → nat_le next.round old.tally.round ≡ true → TakesPart old Fs true what (Ok (Some part)) new
     → TaskMoves r old (task.Writer n tds taken before) what (Ok (tt {0})) new (task.Writer n tds (task.HasBio part) before)
 bio_taken r old new n tds later next taken before what part rests none is come t =
     subst (λ k. TaskMoves r old (task.Writer n tds k before) what (Ok (tt {0})) new (task.Writer n tds (task.HasBio part) before)) (sym none)
     (subst (λ l. TaskMoves r old (task.Writer n l task.NoBio before) what (Ok (tt {0})) new (task.Writer n l (task.HasBio part) before)) (sym is)
     (writer_ok r old new n (next ∷ later) task.NoBio before what (HadBio t.0 part) (task.Writer n (next ∷ later) (task.HasBio part) before) rests (round_come old n next later before come) t.1 refl))
 
-pub bio_missed : (r : Routing) (old new : CoreObjects) (n : ℕ) (tds later : List task.Todo) (next : task.Todo) (taken : task.Gathered) (before : line.Line) (what : What)
-    → before.doing ≡ line.Rests → taken ≡ task.NoBio → tds ≡ next ∷ later → nat_le next.round old.tally.round ≡ true → TakesPart old Fs true what (Ok None) new
+pub bio_missed : (r : Routing) (old new : CoreObjects) (n : ℕ) (tds later : List task.Todo) (next : task.Todo) (taken : task.Gathered) (before : submission.Submission) (what : What)
+    → before.doing ≡ submission.Rests → taken ≡ task.NoBio → tds ≡ next ∷ later → nat_le next.round old.tally.round ≡ true → TakesPart old Fs true what (Ok None) new
     → TaskMoves r old (task.Writer n tds taken before) what (Ok (tt {0})) new (task.Writer n tds taken before)
 bio_missed r old new n tds later next taken before what rests none is come t =
     subst (λ k. TaskMoves r old (task.Writer n tds k before) what (Ok (tt {0})) new (task.Writer n tds k before)) (sym none)
     (subst (λ l. TaskMoves r old (task.Writer n l task.NoBio before) what (Ok (tt {0})) new (task.Writer n l task.NoBio before)) (sym is)
     (writer_ok r old new n (next ∷ later) task.NoBio before what (Missed t.0) (task.Writer n (next ∷ later) task.NoBio before) rests (round_come old n next later before come) t.1 refl))
 
-pub rescuer_popped : (r : Routing) (old new : CoreObjects) (dev : DevId) (before after : line.Line) (what : What) (part : Item Pad) → before.doing ≡ line.Rests
-    → IsAnswer old (Pop dev) what (Popped part) new → after ≡ line.settled (routing_setup r) (part ∷ [])
+pub rescuer_popped : (r : Routing) (old new : CoreObjects) (dev : DevId) (before after : submission.Submission) (what : What) (part : Item Pad) → before.doing ≡ submission.Rests
+    → IsAnswer old (Pop dev) what (Popped part) new → after ≡ submission.settled (routing_setup r) (part ∷ [])
     → TaskMoves r old (task.Rescuer dev before) what (Ok (tt {0})) new (task.Rescuer dev after)
 rescuer_popped r old new dev before after what part rests answer is = (
   Popped part,
@@ -200,7 +200,7 @@ rescuer_popped r old new dev before after what part rests answer is = (
   ap (task.Rescuer dev) is ∙ ap (λ d. task.rescuer_answered (routing_setup r) dev d before (Popped part)) (sym rests),
 )
 
-module _ (r : Routing) (old new : CoreObjects) (n : ℕ) (tds later : List task.Todo) (next : task.Todo) (taken : task.Gathered) (before : line.Line) (what : What) (rests : before.doing ≡ line.Rests) (is : tds ≡ next ∷ later) where
+module _ (r : Routing) (old new : CoreObjects) (n : ℕ) (tds later : List task.Todo) (next : task.Todo) (taken : task.Gathered) (before : submission.Submission) (what : What) (rests : before.doing ≡ submission.Rests) (is : tds ≡ next ∷ later) where
   -- with a bio, and with a vector too
   pub vector_taken : (part : Item Pad) (vector : VectorItem) → taken ≡ task.HasBio part → task.needs_vector next.write ≡ true → TakesVector old what (Ok (Some vector)) new
       → TaskMoves r old (task.Writer n tds taken before) what (Ok (tt {0})) new (task.Writer n tds (task.HasBoth part vector) before)
@@ -219,7 +219,7 @@ module _ (r : Routing) (old new : CoreObjects) (n : ℕ) (tds later : List task.
       (subst (λ b. IsAnswer old (task.with_bio n b next) what (Missed t.0) new) (sym needs) t.1) refl))
 
   pub short_begun : (part filled : Item Pad) (node : ℕ) (after : task.TaskState) → taken ≡ task.HasBio part → task.needs_vector next.write ≡ false
-      → filled ≡ task.filled_short n next node part → after ≡ task.Writer n later task.NoBio (line.settled (routing_setup r) (filled ∷ []))
+      → filled ≡ task.filled_short n next node part → after ≡ task.Writer n later task.NoBio (submission.settled (routing_setup r) (filled ∷ []))
       → IsAnswer old (Link n (Write next.number None)) what (LinkedTo (Made node)) new
       → TaskMoves r old (task.Writer n tds taken before) what (Ok (tt {0})) new after
   short_begun part filled node after has needs is_filled is_after answer =
@@ -227,10 +227,10 @@ module _ (r : Routing) (old new : CoreObjects) (n : ℕ) (tds later : List task.
       (subst (λ l. TaskMoves r old (task.Writer n l (task.HasBio part) before) what (Ok (tt {0})) new after) (sym is)
       (writer_ok r old new n (next ∷ later) (task.HasBio part) before what (LinkedTo (Made node)) after rests tt
       (subst (λ b. IsAnswer old (task.with_bio n b next) what (LinkedTo (Made node)) new) (sym needs) answer)
-      (is_after ∙ ap (λ i. task.Writer n later task.NoBio (line.settled (routing_setup r) (i ∷ []))) is_filled)))
+      (is_after ∙ ap (λ i. task.Writer n later task.NoBio (submission.settled (routing_setup r) (i ∷ []))) is_filled)))
 
   pub long_begun : (part filled : Item Pad) (vector full : VectorItem) (node : ℕ) (after : task.TaskState) → taken ≡ task.HasBoth part vector
-      → full ≡ task.filled_vector next vector → filled ≡ task.filled n next node part → after ≡ task.Writer n later task.NoBio (line.settled (routing_setup r) (filled ∷ []))
+      → full ≡ task.filled_vector next vector → filled ≡ task.filled n next node part → after ≡ task.Writer n later task.NoBio (submission.settled (routing_setup r) (filled ∷ []))
       → IsAnswer old (Link n (Write next.number (Some full))) what (LinkedTo (Made node)) new
       → TaskMoves r old (task.Writer n tds taken before) what (Ok (tt {0})) new after
   long_begun part filled vector full node after has is_full is_filled is_after answer =
@@ -238,7 +238,7 @@ module _ (r : Routing) (old new : CoreObjects) (n : ℕ) (tds later : List task.
       (subst (λ l. TaskMoves r old (task.Writer n l (task.HasBoth part vector) before) what (Ok (tt {0})) new after) (sym is)
       (writer_ok r old new n (next ∷ later) (task.HasBoth part vector) before what (LinkedTo (Made node)) after rests tt
       (subst (λ v. IsAnswer old (Link n (Write next.number (Some v))) what (LinkedTo (Made node)) new) is_full answer)
-      (is_after ∙ ap (λ i. task.Writer n later task.NoBio (line.settled (routing_setup r) (i ∷ []))) is_filled)))
+      (is_after ∙ ap (λ i. task.Writer n later task.NoBio (submission.settled (routing_setup r) (i ∷ []))) is_filled)))
 
 pub come_by : (mine wanted here present : ℕ) → mine ≡ wanted → here ≡ present → wanted ≤ here → nat_le mine present ≡ true
 come_by mine wanted here present same is le = grind (arith, nat_tests)

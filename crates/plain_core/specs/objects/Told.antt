@@ -18,7 +18,7 @@ use Rattle.run_machine.specs.declared.event.Got.{Got}
 use Rattle.run_machine.specs.declared.event.What.{What}
 use Rattle.run_machine.specs.declared.event.What.TheVariants as told
 use Rattle.run_machine.specs.Events.{take_of, how_of}
-use Rattle.run_machine.specs.Lines.{punted, not_punted}
+use Rattle.run_machine.specs.Submissions.{punted, not_punted}
 use Rattle.run_machine.specs.Requests.{Opening}
 use Rattle.run_machine.specs.Objects.{Opened, done_one}
 use Rattle.plain_core.specs.objects.Pools.{move_of, CanTake}

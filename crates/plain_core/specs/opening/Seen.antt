@@ -1,7 +1,7 @@
 -- Tasks that have not begun, in the order of their slots.
 use Rattle.std.specs.Prelude.{◌≡◌, ◌+◌, ◌≤◌, ℕ, All, List, [], ◌∷◌}
 use Rattle.run_machine.specs.Events.{id_of}
-use Rattle.run_machine.specs.Lines.{rests}
+use Rattle.run_machine.specs.Submissions.{rests}
 use Rattle.run_machine.specs.Tasks.{TaskState, NoBio, Empty, Keeps, Stops, Writer, Rescuer, Completer, Keeper}
 use Rattle.plain_core.specs.Cores.{slot_of}
 use Rattle.plain_core.specs.steps.Duties.{IsOfPool}
@@ -9,8 +9,8 @@ use Rattle.plain_core.specs.steps.Duties.{IsOfPool}
 -- It has nothing at hand, no element and no submission, as each task that has not begun. Of the keeper, which never has an element, this says that
 -- it has not broken off, and that its changes of reserves name pools that a stack can have.
 abbrev pub HasNotBegun : TaskState → Type 0
-HasNotBegun (Writer number todo taken line) = (taken ≡ NoBio) × (line ≡ rests)
-HasNotBegun (Rescuer dev line) = line ≡ rests
+HasNotBegun (Writer number todo taken submission) = (taken ≡ NoBio) × (submission ≡ rests)
+HasNotBegun (Rescuer dev submission) = submission ≡ rests
 HasNotBegun (Completer disk carried) = carried ≡ Empty
 HasNotBegun (Keeper (Keeps duties)) = All IsOfPool duties
 HasNotBegun (Keeper (Stops breach)) = ⊥

@@ -11,7 +11,7 @@ use Rattle.run_machine.specs.declared.event.Event.{Event}
 use Rattle.run_machine.specs.declared.event.TaskId.{TaskId}
 use Rattle.run_machine.specs.declared.event.What.{What}
 use Rattle.run_machine.specs.Events.{id_of, is_free, what_of}
-use Rattle.run_machine.specs.Lines.{Doing, line_request}
+use Rattle.run_machine.specs.Submissions.{Doing, submission_request}
 use Rattle.run_machine.specs.Objects.{Objects, Serves}
 use Rattle.run_machine.specs.Requests.{Request, Reply, Opening, Write, Chain, Master, Leg, TakeBio, TakeVec, TakeSlip, GiveBio, GiveVec, GiveSlip, Punt, Pop, Push, Complete, Link, Drop, Done, Resize, NextRound, LookRound, LookLeft, Rest}
 use Rattle.task_steps.specs.Routed.{Routing, routing_setup}
@@ -82,7 +82,7 @@ NeedIsMet old need.Round = old.tally.round + 1 < length old.tally.left
 
 -- what a request of a submission needs, and one of a task, whatever is known of the stack
 abbrev pub IsNeedOfDoing : Need → Doing → Type 0
-IsNeedOfDoing need doing = (s : Setup) (lists : TaskLists) → need ≡ need_of (line_request s doing lists)
+IsNeedOfDoing need doing = (s : Setup) (lists : TaskLists) → need ≡ need_of (submission_request s doing lists)
 
 abbrev pub IsNeedOfTask : Need → TaskState → Type 0
 IsNeedOfTask need task = (s : Setup) → need ≡ need_of (request s task)

@@ -4,7 +4,7 @@ use Rattle.bio_records.specs.declared.bio.Pad.{Pad}
 use Rattle.bio_records.specs.Items.{Item}
 use Rattle.run_machine.specs.declared.event.What.{What}
 use Rattle.run_machine.specs.Requests.{Reply, Did, OutIs}
-use Rattle.run_machine.specs.Lines as line
+use Rattle.run_machine.specs.Submissions as submission
 use Rattle.run_machine.specs.Tasks as task
 use Rattle.run_machine.specs.Tasks.{TaskState, request, answered, look_of}
 use Rattle.run_machine.specs.Runs.{IsLet}
@@ -49,7 +49,7 @@ duty_reply (task.Starts round later) = Did
 -- a writer that has begun its next write with this bio
 abbrev pub begun_with : Routing → Writer → Item Pad → TaskState
 begun_with r writer part =
-    task.Writer writer.number (drop 1 writer.todo) task.NoBio (line.settled (routing_setup r) (part ∷ []))
+    task.Writer writer.number (drop 1 writer.todo) task.NoBio (submission.settled (routing_setup r) (part ∷ []))
 
 -- a writer goes on, in any case or where its next write is so
 abbrev pub WriterMoves : Routing → CoreObjects → Writer → What → Result (Unit {0}) CoreFault → CoreObjects → Writer → Type 0

@@ -9,7 +9,7 @@ use Rattle.bio_books.specs.Books.{VectorItem, SlipItem}
 use Rattle.run_machine.specs.declared.event.Got.{Got}
 use Rattle.run_machine.specs.declared.event.What.{What}
 use Rattle.run_machine.specs.Requests.{Reply, TakeBio, TakeVec, TakeSlip, HadBio, HadVec, HadSlip, Missed}
-use Rattle.run_machine.specs.Lines as line
+use Rattle.run_machine.specs.Submissions as submission
 use Rattle.plain_core.specs.declared.steps.task.Want.{Want}
 use Rattle.plain_core.specs.objects.Plain.{CoreObjects}
 use Rattle.plain_core.specs.steps.Views.{want_of_plain}
@@ -39,9 +39,9 @@ TakesVector old what (Err fault.NotEnabled) new = (new ≡ old) × Refuses old T
 TakesVector old what (Err fault.Memory) new = ⊥
 
 -- what a driver wants behind its attempt at a bio
-abbrev pub IsWanted : Bool → Reply → line.Want → Type 0
-IsWanted waits (HadBio got hand) want = want ≡ line.Links hand
-IsWanted waits (Missed used) want = want ≡ line.after_miss waits
+abbrev pub IsWanted : Bool → Reply → submission.Want → Type 0
+IsWanted waits (HadBio got hand) want = want ≡ submission.Links hand
+IsWanted waits (Missed used) want = want ≡ submission.after_miss waits
 IsWanted waits reply want = ⊥
 
 abbrev pub TakesWant : CoreObjects → DevId → Bool → What → Result Want CoreFault → CoreObjects → Type 0

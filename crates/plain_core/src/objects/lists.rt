@@ -3,7 +3,7 @@ ghost use Rattle.std.specs.Prelude.{◌≡◌, ℕ, ◌+◌, ◌*◌, ◌-◌, �
 ghost use Rattle.std.specs.VecDeque.{deque_capacity};
 ghost use Rattle.bio_lists.specs.Submission.{no_lists, submitted, order};
 ghost use Rattle.bioset_pools.specs.Sets.{is_empty};
-ghost use Rattle.run_machine.specs.Lines.{is_of, punted, not_punted};
+ghost use Rattle.run_machine.specs.Submissions.{is_of, punted, not_punted};
 ghost use Rattle.plain_core.specs.objects.Lists.{lists_of, is_picked, ListsHaveCapacity, IsFirstOfBios};
 
 use crate::objects::part::Part;

@@ -1,12 +1,12 @@
 //! Tasks in their order, each found by its name.
 ghost use Rattle.std.specs.Prelude.{◌≡◌, ◌<◌, ◌+◌, [], ◌∷◌, map, length, IfOk, OnOk};
 ghost use Rattle.plain_core.specs.Cores.{slot_of};
-ghost use Rattle.run_machine.specs.Lines.{rests};
+ghost use Rattle.run_machine.specs.Submissions.{rests};
 ghost use Rattle.plain_core.specs.opening.Opening.{AreTasksSeated, Seats, task_slot};
-ghost use Rattle.plain_core.specs.steps.Views.{line_of_plain, task_of_plain};
+ghost use Rattle.plain_core.specs.steps.Views.{submission_of_plain, task_of_plain};
 
 use crate::objects::lists::Lists;
-use crate::steps::task::{Doing, Line, Task};
+use crate::steps::task::{Doing, Submission, Task};
 use std::alloc::{AllocError, Global};
 use task_core::TaskId;
 
@@ -38,10 +38,10 @@ pub fn seat(tasks: &mut Vec<Task>, places: &mut Vec<u32>, task: Task) -> Result<
 }
 
 /// A submission that has not begun.
-pub fn resting(alloc: Global) -> Line
-    ensures { line_of_plain result ≡ rests }
+pub fn resting(alloc: Global) -> Submission
+    ensures { submission_of_plain result ≡ rests }
 {
-    Line {
+    Submission {
         doing: Doing::Rests,
         lists: Lists::new(alloc),
     }

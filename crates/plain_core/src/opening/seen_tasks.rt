@@ -22,7 +22,7 @@ fn writer_seen(alloc: Global, writer: &opened::Writer) -> Result<Writer, AllocEr
         number: writer.number(),
         todo: Todos::new(Vec::from_slice(alloc, writer.todo().rest())?),
         taken: Gathered::NoBio,
-        line: resting(alloc),
+        submission: resting(alloc),
     })
 }
 
@@ -43,7 +43,7 @@ fn task_seen(alloc: Global, task: &opened::Task) -> Result<Task, AllocError>
         Kind::Writer(writer) => Ok(Task::Writer(writer_seen(alloc, writer)?)),
         Kind::Rescuer(rescuer) => Ok(Task::Rescuer(Rescuer {
             dev: rescuer.dev(),
-            line: resting(alloc),
+            submission: resting(alloc),
         })),
         Kind::Completer { disk, carried: _ } => Ok(Task::Completer(Completer {
             disk: *disk,

@@ -1,6 +1,6 @@
 //! Which task can go on without ordinary memory.
 ghost use Rattle.std.specs.Prelude.{◌≡◌};
-ghost use Rattle.run_machine.specs.Lines.{Rests as AtRest};
+ghost use Rattle.run_machine.specs.Submissions.{Rests as AtRest};
 ghost use Rattle.task_steps.specs.Routed.{Routing};
 ghost use Rattle.plain_core.specs.objects.Questions.{IsDecisionOf};
 ghost use Rattle.plain_core.specs.steps.Free.{NeedIsMet, TaskIsFree, TaskIsLet};
@@ -63,7 +63,7 @@ fn is_met(objects: &Objects, need: Need) -> bool
 
 // Whether the round of a writer at rest has come, if it has a write to begin.
 fn write_is_let(objects: &Objects, writer: &Writer) -> bool
-    requires { doing_of_plain writer.now.line.doing ≡ AtRest }
+    requires { doing_of_plain writer.now.submission.doing ≡ AtRest }
     ensures { IsDecisionOf result (TaskIsLet objects.now (writer_of writer.now)) }
 {
     let Some(next) = writer.todo.first() else {
@@ -80,7 +80,7 @@ fn write_is_let(objects: &Objects, writer: &Writer) -> bool
 fn writer_is_let(objects: &Objects, writer: &Writer) -> bool
     ensures { IsDecisionOf result (TaskIsLet objects.now (writer_of writer.now)) }
 {
-    !writer.line.rests() || write_is_let(objects, writer)
+    !writer.submission.rests() || write_is_let(objects, writer)
 }
 
 // Whether what the keeper looks at lets it ask.

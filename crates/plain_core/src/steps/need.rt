@@ -1,6 +1,6 @@
 //! What tasks need so that they can go on without ordinary memory.
 ghost use Rattle.std.specs.Prelude.{◌≡◌, None, Some};
-ghost use Rattle.run_machine.specs.Lines.{line_request, Rests as AtRest};
+ghost use Rattle.run_machine.specs.Submissions.{submission_request, Rests as AtRest};
 ghost use Rattle.run_machine.specs.Scene.{Setup};
 ghost use Rattle.run_machine.specs.Tasks.{closed_request};
 ghost use Rattle.plain_core.specs.steps.Free.{need_of, IsNeedOfDoing, IsNeedOfTask};
@@ -12,7 +12,8 @@ ghost use Rattle.plain_core.specs.steps.Closing.{closed_asks};
 use crate::objects::node::Closed;
 use crate::objects::part::Part;
 use crate::steps::task::{
-    Ask, Carried, Completer, Copying, Doing, Gathered, Keeper, Line, Rescuer, Task, Want, Writer,
+    Ask, Carried, Completer, Copying, Doing, Gathered, Keeper, Rescuer, Submission, Task, Want,
+    Writer,
 };
 use stack_base::{DevId, PoolId};
 use task_core::{Duty, needs_vector};
@@ -101,10 +102,10 @@ fn copy_need(copying: &Copying, want: &Want) -> Need
 }
 
 // What a submission needs.
-fn line_need(line: &Line) -> Need
-    ensures { (s : Setup) → result ≡ need_of (line_request s (doing_of_plain line.now.doing) (lists_of line.now.lists)) }
+fn submission_need(submission: &Submission) -> Need
+    ensures { (s : Setup) → result ≡ need_of (submission_request s (doing_of_plain submission.now.doing) (lists_of submission.now.lists)) }
 {
-    match &line.doing {
+    match &submission.doing {
         Doing::Rests => Need::Never,
         Doing::Drives(part, ask) => drive_need(part, ask),
         Doing::Copies(copying, want) => copy_need(copying, want),
@@ -113,7 +114,7 @@ fn line_need(line: &Line) -> Need
 
 // What a writer at rest needs.
 fn write_need(writer: &Writer) -> Need
-    requires { doing_of_plain writer.now.line.doing ≡ AtRest }
+    requires { doing_of_plain writer.now.submission.doing ≡ AtRest }
     ensures { IsNeedOfTask result (writer_of writer.now) }
 {
     let Some(next) = writer.todo.first() else {
@@ -142,10 +143,10 @@ fn write_need(writer: &Writer) -> Need
 fn writer_need(writer: &Writer) -> Need
     ensures { IsNeedOfTask result (writer_of writer.now) }
 {
-    if writer.line.rests() {
+    if writer.submission.rests() {
         write_need(writer)
     } else {
-        line_need(&writer.line)
+        submission_need(&writer.submission)
     }
 }
 
@@ -153,10 +154,10 @@ fn writer_need(writer: &Writer) -> Need
 fn rescuer_need(rescuer: &Rescuer) -> Need
     ensures { IsNeedOfTask result (rescuer_of rescuer.now) }
 {
-    if rescuer.line.rests() {
+    if rescuer.submission.rests() {
         Need::Rescued(rescuer.dev)
     } else {
-        line_need(&rescuer.line)
+        submission_need(&rescuer.submission)
     }
 }
 

@@ -1,7 +1,7 @@
 //! Tasks as plain data.
 ghost use Rattle.std.specs.Prelude.{◌≡◌, ◌≢◌, [], All, drop, map, MatchBool, MatchOption};
 ghost use Rattle.run_machine.specs.Events.{id_of};
-ghost use Rattle.run_machine.specs.Lines.{Rests};
+ghost use Rattle.run_machine.specs.Submissions.{Rests};
 ghost use Rattle.plain_core.specs.steps.Views.{doing_of_plain, gathered_of_plain, task_of_plain};
 ghost use Rattle.plain_core.specs.steps.Submissions.{IsSubmitting};
 ghost use Rattle.task_steps.specs.KeeperViews.{duty_of};
@@ -55,12 +55,12 @@ pub struct Copying {
 
 /// A submission.
 #[derive(Drop)]
-pub struct Line {
+pub struct Submission {
     pub doing: Doing,
     pub lists: Lists,
 }
 
-impl Line {
+impl Submission {
     /// Whether no submission is under way.
     pub fn rests(&self) -> bool
         ensures { MatchBool result (doing_of_plain self.now.doing ≡ Rests) (IsSubmitting (doing_of_plain self.now.doing)) }
@@ -108,14 +108,14 @@ pub struct Writer {
     pub number: u32,
     pub todo: Todos,
     pub taken: Gathered,
-    pub line: Line,
+    pub submission: Submission,
 }
 
 /// The rescuer of a device's set.
 #[derive(Drop)]
 pub struct Rescuer {
     pub dev: DevId,
-    pub line: Line,
+    pub submission: Submission,
 }
 
 /// The completer of a disk.

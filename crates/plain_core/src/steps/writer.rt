@@ -1,11 +1,11 @@
 //! Steps of writers.
 ghost use Rattle.std.specs.Prelude.{◌≡◌, ◌≢◌, [], ◌∷◌, true, false, drop, None};
 ghost use Rattle.layout_model.specs.Writes.{IsWrite};
-ghost use Rattle.run_machine.specs.Lines.{settled, Rests as AtRest};
+ghost use Rattle.run_machine.specs.Submissions.{settled, Rests as AtRest};
 ghost use Rattle.task_steps.specs.Routed.{routing_setup};
 ghost use Rattle.run_machine.specs.Tasks.{needs_vector, NoBio, HasBio, HasBoth};
 ghost use Rattle.task_steps.specs.Within.{IsWithinDevice, TaskFits};
-ghost use Rattle.plain_core.specs.steps.Views.{line_of_plain, doing_of_plain, gathered_of_plain, writer_of};
+ghost use Rattle.plain_core.specs.steps.Views.{submission_of_plain, doing_of_plain, gathered_of_plain, writer_of};
 ghost use Rattle.plain_core.specs.steps.Moves.{begun_with, WriterMoves, WriterMovesFor};
 ghost use Rattle.plain_core.specs.steps.Takes.{TakesVector};
 
@@ -13,21 +13,21 @@ use crate::fault::CoreFault;
 use crate::objects::Objects;
 use crate::objects::part::{Data, Hand, Part, Vector};
 use crate::steps::asks;
-use crate::steps::line::take::take_part;
-use crate::steps::line::{drive, line_step};
-use crate::steps::task::{Gathered, Line, Writer};
+use crate::steps::submission::take::take_part;
+use crate::steps::submission::{drive, submission_step};
+use crate::steps::task::{Gathered, Submission, Writer};
 use bio_records::Pad;
 use layout_model::Write;
 use stack_base::{PoolId, SetId};
 use task_core::{Got, Routes, Todo, What, first_bio, needs_vector};
 
 // A bio is submitted.
-pub(crate) fn start(routes: &Routes, part: Part, line: &mut Line)
+pub(crate) fn start(routes: &Routes, part: Part, submission: &mut Submission)
     requires { IsWithinDevice routes.now.stack part.bio }
-    ensures { line_of_plain line.new ≡ settled (routing_setup routes.now) (part ∷ []) }
+    ensures { submission_of_plain submission.new ≡ settled (routing_setup routes.now) (part ∷ []) }
 {
-    line.lists.clear();
-    drive(routes, part, line);
+    submission.lists.clear();
+    drive(routes, part, submission);
 }
 
 // An attempt at a vector.
@@ -58,7 +58,7 @@ fn begin(routes: &Routes, writer: &mut Writer, part: Part)
     requires next { writer.old.todo ≢ [] }
     ensures { writer_of writer.new ≡ begun_with routes.now writer.old part }
 {
-    start(routes, part, &mut writer.line);
+    start(routes, part, &mut writer.submission);
     writer.taken = Gathered::NoBio;
     writer.todo.advance();
 }
@@ -70,7 +70,7 @@ fn take_step(
     round: u32,
     what: &What,
 ) -> Result<(), CoreFault>
-    requires rests { doing_of_plain writer.old.line.doing ≡ AtRest }
+    requires rests { doing_of_plain writer.old.submission.doing ≡ AtRest }
     requires taken { gathered_of_plain writer.old.taken ≡ NoBio }
     ensures { WriterMovesFor (λ next. next.round ≡ round) objects.old writer.old what.now result objects.new writer.new }
 {
@@ -94,7 +94,7 @@ fn vector_step(
     hand: &Hand,
     what: &What,
 ) -> Result<(), CoreFault>
-    requires rests { doing_of_plain writer.old.line.doing ≡ AtRest }
+    requires rests { doing_of_plain writer.old.submission.doing ≡ AtRest }
     requires taken { gathered_of_plain writer.old.taken ≡ HasBio hand.now }
     ensures { WriterMovesFor (λ next. needs_vector next.write ≡ true) objects.old writer.old what.now result objects.new writer.new }
 {
@@ -117,7 +117,7 @@ fn short_step(
     hand: &Hand,
     what: &What,
 ) -> Result<(), CoreFault>
-    requires rests { doing_of_plain writer.old.line.doing ≡ AtRest }
+    requires rests { doing_of_plain writer.old.submission.doing ≡ AtRest }
     requires taken { gathered_of_plain writer.old.taken ≡ HasBio hand.now }
     requires next { writer.old.todo ≡ next.now ∷ drop 1 writer.old.todo }
     requires write { IsWrite routes.now.stack next.now.write }
@@ -144,7 +144,7 @@ fn long_step(
     vector: &Vector,
     what: &What,
 ) -> Result<(), CoreFault>
-    requires rests { doing_of_plain writer.old.line.doing ≡ AtRest }
+    requires rests { doing_of_plain writer.old.submission.doing ≡ AtRest }
     requires taken { gathered_of_plain writer.old.taken ≡ HasBoth hand.now vector.now }
     requires next { writer.old.todo ≡ next.now ∷ drop 1 writer.old.todo }
     requires write { IsWrite routes.now.stack next.now.write }
@@ -168,7 +168,7 @@ fn write_step(
     writer: &mut Writer,
     what: &What,
 ) -> Result<(), CoreFault>
-    requires rests { doing_of_plain writer.old.line.doing ≡ AtRest }
+    requires rests { doing_of_plain writer.old.submission.doing ≡ AtRest }
     requires fits { TaskFits routes.now.stack (writer_of writer.old) }
     ensures { WriterMoves routes.now objects.old writer.old what.now result objects.new writer.new }
 {
@@ -204,8 +204,8 @@ pub fn writer_step(
     requires fits { TaskFits routes.now.stack (writer_of writer.old) }
     ensures { WriterMoves routes.now objects.old writer.old what.now result objects.new writer.new }
 {
-    if !writer.line.rests() {
-        return line_step(routes, objects, &mut writer.line, what);
+    if !writer.submission.rests() {
+        return submission_step(routes, objects, &mut writer.submission, what);
     }
     write_step(routes, objects, writer, what)
 }

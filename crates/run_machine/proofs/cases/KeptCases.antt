@@ -12,49 +12,49 @@ use Rattle.run_machine.specs.declared.event.Breach.TheVariants as breach
 use Rattle.run_machine.specs.Scene.{Setup}
 use Rattle.run_machine.specs.Requests.{LinkedTo, DroppedTo, Spent}
 use Rattle.run_machine.specs.Kept.{KeptBio, KeptVec, KeptSlip}
-use Rattle.run_machine.specs.Lines.{Punts, Links, ToPush, ToCut, ToMaster, Drives, Copies, Breaks, Line, punted, not_punted, line_answered}
+use Rattle.run_machine.specs.Submissions.{Punts, Links, ToPush, ToCut, ToMaster, Drives, Copies, Breaks, Submission, punted, not_punted, submission_answered}
 use Rattle.run_machine.specs.Tasks.{Todo, HasBio, HasBoth, Writer, Brings, Carries, Fails, filled_vector, write_answered, carried_answered}
 
 module _ (setup : Setup) (lists : TaskLists) where
   -- a disk had no ticket for a bio: the bio
-  a_push : (bio : Item Pad) → line_answered setup (Drives bio ToPush) lists Spent ≡ record { doing = Breaks breach.Spent (KeptBio bio ∷ []); lists = lists }
+  a_push : (bio : Item Pad) → submission_answered setup (Drives bio ToPush) lists Spent ≡ record { doing = Breaks breach.Spent (KeptBio bio ∷ []); lists = lists }
   a_push bio = refl
 
   -- a rescuer's list had none: the bio at the driver, and those that were handed over, which are in no list any more
-  a_punt : (bio : Item Pad) → line_answered setup (Drives bio (ToCut Punts)) lists Spent
+  a_punt : (bio : Item Pad) → submission_answered setup (Drives bio (ToCut Punts)) lists Spent
       ≡ record { doing = Breaks breach.Spent (KeptBio bio ∷ map KeptBio (punted bio.bio.dev lists)); lists = not_punted bio.bio.dev lists }
   a_punt bio = refl
 
   -- a mirror's: the parent has the bio that is copied
-  a_punt_for_a_leg : (bio : Bio) (master leg : ℕ) → line_answered setup (Copies bio master leg Punts) lists Spent
+  a_punt_for_a_leg : (bio : Bio) (master leg : ℕ) → submission_answered setup (Copies bio master leg Punts) lists Spent
       ≡ record { doing = Breaks breach.Spent (map KeptBio (punted bio.dev lists)); lists = not_punted bio.dev lists }
   a_punt_for_a_leg bio master leg = refl
 
   -- a book had no vacant place for the front of a bio: both bios
-  a_split : (bio hand : Item Pad) → line_answered setup (Drives bio (ToCut (Links hand))) lists (LinkedTo (NoRoom nothing_held))
+  a_split : (bio hand : Item Pad) → submission_answered setup (Drives bio (ToCut (Links hand))) lists (LinkedTo (NoRoom nothing_held))
       ≡ record { doing = Breaks (breach.NoRoom bio.bio.writer (setup.places bio.bio.writer)) (KeptBio bio ∷ KeptBio hand ∷ []); lists = lists }
   a_split bio hand = refl
 
   -- the node of a mirror's bio was not open: the bio and the record come back
-  a_master : (bio : Item Pad) (slip : SlipItem) → line_answered setup (Drives bio (ToMaster slip)) lists (LinkedTo (Stray (unmastered bio slip)))
+  a_master : (bio : Item Pad) (slip : SlipItem) → submission_answered setup (Drives bio (ToMaster slip)) lists (LinkedTo (Stray (unmastered bio slip)))
       ≡ record { doing = Breaks (breach.Stray bio.bio.writer bio.bio.node) (KeptBio bio ∷ KeptSlip slip ∷ []); lists = lists }
   a_master bio slip = refl
 
-  a_leg : (bio : Bio) (hand : Item Pad) (master leg : ℕ) → line_answered setup (Copies bio master leg (Links hand)) lists Spent
+  a_leg : (bio : Bio) (hand : Item Pad) (master leg : ℕ) → submission_answered setup (Copies bio master leg (Links hand)) lists Spent
       ≡ record { doing = Breaks breach.Spent (KeptBio hand ∷ []); lists = lists }
   a_leg bio hand master leg = refl
 
 -- a writer that was refused the node of a write with a vector has its bio, and the vector with the segments of the write comes back
-a_write : (setup : Setup) (writer : ℕ) (todo : Todo) (later : List Todo) (bio : Item Pad) (vector : VectorItem) (line : Line)
-    → write_answered setup writer (todo ∷ later) (HasBoth bio vector) line (LinkedTo (NoRoom (holding_vector (Some (filled_vector todo vector)))))
+a_write : (setup : Setup) (writer : ℕ) (todo : Todo) (later : List Todo) (bio : Item Pad) (vector : VectorItem) (submission : Submission)
+    → write_answered setup writer (todo ∷ later) (HasBoth bio vector) submission (LinkedTo (NoRoom (holding_vector (Some (filled_vector todo vector)))))
     ≡ Writer writer (todo ∷ later) (HasBio bio)
-    (record line { doing = Breaks (breach.NoRoom writer (setup.places writer)) (KeptVec (filled_vector todo vector) ∷ []) })
-a_write setup writer todo later bio vector line = refl
+    (record submission { doing = Breaks (breach.NoRoom writer (setup.places writer)) (KeptVec (filled_vector todo vector) ∷ []) })
+a_write setup writer todo later bio vector submission = refl
 
-a_write_without_a_ticket : (setup : Setup) (writer : ℕ) (todo : Todo) (later : List Todo) (bio : Item Pad) (vector : VectorItem) (line : Line)
-    → write_answered setup writer (todo ∷ later) (HasBoth bio vector) line Spent
-    ≡ Writer writer (todo ∷ later) (HasBio bio) (record line { doing = Breaks breach.Spent (KeptVec (filled_vector todo vector) ∷ []) })
-a_write_without_a_ticket setup writer todo later bio vector line = refl
+a_write_without_a_ticket : (setup : Setup) (writer : ℕ) (todo : Todo) (later : List Todo) (bio : Item Pad) (vector : VectorItem) (submission : Submission)
+    → write_answered setup writer (todo ∷ later) (HasBoth bio vector) submission Spent
+    ≡ Writer writer (todo ∷ later) (HasBio bio) (record submission { doing = Breaks breach.Spent (KeptVec (filled_vector todo vector) ∷ []) })
+a_write_without_a_ticket setup writer todo later bio vector submission = refl
 
 -- a completer: the bio that it brought to a node that is not open, and all that a closed node held where the first of it could not be given
 an_end : (bio : Item Pad) (status : Status) → carried_answered (Brings bio status) (DroppedTo (end.Stray (Some bio)))

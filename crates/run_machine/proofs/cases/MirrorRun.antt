@@ -34,7 +34,7 @@ use Rattle.run_machine.specs.declared.event.What.TheVariants as what
 use Rattle.run_machine.specs.Maps.{upd}
 use Rattle.run_machine.specs.Scene.{Scene}
 use Rattle.run_machine.specs.Requests.{HadBio, HadSlip, Missed as missed, LinkedTo, Did, Popped, Completed, DroppedTo, Present}
-use Rattle.run_machine.specs.Lines.{rests, leg_at}
+use Rattle.run_machine.specs.Submissions.{rests, leg_at}
 use Rattle.run_machine.specs.Tasks.{TaskState, Writer, Rescuer, Completer, NoBio, Empty, filled_short}
 use Rattle.run_machine.specs.Objects.{clear_bio, clear_slip, done_one}
 use Rattle.run_machine.specs.Opened.{no_task}

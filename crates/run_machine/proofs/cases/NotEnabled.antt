@@ -23,7 +23,7 @@ use Rattle.run_machine.specs.declared.event.What.TheVariants as what
 use Rattle.run_machine.specs.Maps.{upd}
 use Rattle.run_machine.specs.Scene.{Setup, Scene}
 use Rattle.bioset_pools.specs.Sets.{waits_first}
-use Rattle.run_machine.specs.Lines.{Takes, Punts, after_miss, rests}
+use Rattle.run_machine.specs.Submissions.{Takes, Punts, after_miss, rests}
 use Rattle.run_machine.specs.Tasks.{Todo, TaskState, Writer, HasBio, Keeper, Keeps, Starts}
 use Rattle.run_machine.specs.Objects.{TallyState}
 use Rattle.run_machine.specs.Opened.{at}

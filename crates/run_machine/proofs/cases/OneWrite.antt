@@ -36,7 +36,7 @@ use Rattle.run_machine.specs.declared.event.What.TheVariants as what
 use Rattle.run_machine.specs.Maps.{upd}
 use Rattle.run_machine.specs.Scene.{Setup, Scene}
 use Rattle.run_machine.specs.Requests.{HadBio, LinkedTo, Did, Completed, DroppedTo, Present}
-use Rattle.run_machine.specs.Lines.{rests}
+use Rattle.run_machine.specs.Submissions.{rests}
 use Rattle.run_machine.specs.Tasks.{Todo, TaskState, Writer, Completer, NoBio, Empty, filled_short}
 use Rattle.run_machine.specs.Objects.{clear_bio, done_one, TallyState}
 use Rattle.run_machine.specs.Opened.{Scenario, at, places_of}

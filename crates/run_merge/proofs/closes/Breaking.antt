@@ -2,7 +2,7 @@
 use Rattle.std.proofs.Common.{◌≡◌, true, refl, sym, ◌∙◌, ap}
 use Rattle.std.specs.Option.{is_some}
 use Rattle.run_machine.specs.Laws.{OfNone, object_of}
-use Rattle.run_machine.specs.Lines.{Doing, Rests, Drives, Copies, Breaks}
+use Rattle.run_machine.specs.Submissions.{Doing, Rests, Drives, Copies, Breaks}
 use Rattle.run_machine.specs.Requests.{Request, Reply, Rest}
 use Rattle.run_machine.specs.Scene.{Setup}
 use Rattle.run_machine.specs.Tasks.{Empty, Brings, Carries, Fails, Keeps, Stops, TaskState, Writer, Rescuer, Completer, Keeper, request, answered}
@@ -13,16 +13,16 @@ use Rattle.shared_objects.specs.Logs.{is_stop}
 use Rattle.shared_objects.proofs.Breaking as tasks
 use Rattle.shared_objects.proofs.Staying.{stop_struck}
 
-line_is : (doing : Doing) → broke_in doing ≡ is_some (doing_breach doing)
-line_is Rests = refl
-line_is (Drives bio ask) = refl
-line_is (Copies bio master leg want) = refl
-line_is (Breaks breach kept) = refl
+submission_is : (doing : Doing) → broke_in doing ≡ is_some (doing_breach doing)
+submission_is Rests = refl
+submission_is (Drives bio ask) = refl
+submission_is (Copies bio master leg want) = refl
+submission_is (Breaks breach kept) = refl
 
 -- a task broke off exactly where it has a breach
 pub broken_is : (task : TaskState) → is_broken task ≡ is_some (breach_of task)
-broken_is (Writer number todo taken line) = line_is line.doing
-broken_is (Rescuer dev line) = line_is line.doing
+broken_is (Writer number todo taken submission) = submission_is submission.doing
+broken_is (Rescuer dev submission) = submission_is submission.doing
 broken_is (Completer disk Empty) = refl
 broken_is (Completer disk (Brings bio status)) = refl
 broken_is (Completer disk (Carries writer closed)) = refl

@@ -7,7 +7,7 @@ use Rattle.std.proofs.lemmas.List.Elements.{All-weaker, filter-append}
 use Rattle.elem_ledger.specs.Ledger.{LedgerId}
 use Rattle.tick_clock.specs.Tickets.{PassState}
 use Rattle.run_machine.specs.Laws.{Object, OfTally, object_of}
-use Rattle.run_machine.specs.Lines.{Doing, Rests}
+use Rattle.run_machine.specs.Submissions.{Doing, Rests}
 use Rattle.run_machine.specs.Objects.{TallyState}
 use Rattle.run_machine.specs.Opened.{Scenario, setup, start}
 use Rattle.run_machine.specs.Requests.{Request, Reply, LookRound, LookLeft, Present, LeftOver}
@@ -79,8 +79,8 @@ writer_looks (todo ∷ later) taken doing look is = absurd (true≢false (sym (a
 
 is_look : (task : TaskState) (look : Request) → look_of task ≡ Some look → IsLook look
 unfolding some_or is_some_look
-is_look (Writer number todo taken line) look is = writer_looks todo taken line.doing look is
-is_look (Rescuer dev line) look is = absurd (true≢false (sym (ap is_some_look is)))
+is_look (Writer number todo taken submission) look is = writer_looks todo taken submission.doing look is
+is_look (Rescuer dev submission) look is = absurd (true≢false (sym (ap is_some_look is)))
 is_look (Completer disk carried) look is = absurd (true≢false (sym (ap is_some_look is)))
 is_look (Keeper (Keeps [])) look is = absurd (true≢false (sym (ap is_some_look is)))
 is_look (Keeper (Keeps (duty ∷ duties))) look is = subst IsLook (ap (some_or look) is) left_look

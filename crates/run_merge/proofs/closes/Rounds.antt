@@ -13,7 +13,7 @@ use Rattle.run_machine.specs.declared.event.TaskId.{TaskId}
 use Rattle.run_machine.specs.declared.event.TaskId.TheVariants as id
 use Rattle.run_machine.specs.Events.{id_of}
 use Rattle.run_machine.specs.Laws.{OfTally}
-use Rattle.run_machine.specs.Lines.{rests}
+use Rattle.run_machine.specs.Submissions.{rests}
 use Rattle.run_machine.specs.Objects.{TallyState}
 use Rattle.run_machine.specs.Opened.{Change, Scenario, at, duties, duties_of, keepers, round_count, tasks, todos_of, writers, writes_from, writes_in}
 use Rattle.run_machine.specs.Opened as opened
@@ -40,8 +40,8 @@ use Rattle.run_merge.proofs.products.Asking.{is_keeping, writer_keeps_none, resc
 
 -- how many rounds a task may start
 abbrev pub starts_left : TaskState → ℕ
-starts_left (Writer number todo taken line) = 0
-starts_left (Rescuer dev line) = 0
+starts_left (Writer number todo taken submission) = 0
+starts_left (Rescuer dev submission) = 0
 starts_left (Completer disk carried) = 0
 starts_left (Keeper (Keeps duties)) = starts duties
 starts_left (Keeper (Stops breach)) = 0
@@ -56,8 +56,8 @@ is_keeper other = false
 
 no_starts : (task : TaskState) → is_keeper (id_of task) ≡ false → starts_left task ≡ 0
 unfolding is_keeper
-no_starts (Writer number todo taken line) not = refl
-no_starts (Rescuer dev line) not = refl
+no_starts (Writer number todo taken submission) not = refl
+no_starts (Rescuer dev submission) not = refl
 no_starts (Completer disk carried) not = refl
 no_starts (Keeper keeping) not = absurd (true≢false not)
 
@@ -90,9 +90,9 @@ module _ (setup : Setup) where
   one_event : (task : TaskState) (asked : Request) (reply : Reply) → asked ≡ struck (request setup task) → is_event asked reply ≡ true
       → starts_left (answered setup task reply) + one_if (is_next_round asked) ≤ starts_left task
   unfolding is_keeper
-  one_event (Writer number todo taken line) asked reply asks event =
-      other_task (Writer number todo taken line) asked reply refl asks (writer_keeps_none setup number todo taken line.doing line)
-  one_event (Rescuer dev line) asked reply asks event = other_task (Rescuer dev line) asked reply refl asks (rescuer_keeps_none setup dev line.doing line)
+  one_event (Writer number todo taken submission) asked reply asks event =
+      other_task (Writer number todo taken submission) asked reply refl asks (writer_keeps_none setup number todo taken submission.doing submission)
+  one_event (Rescuer dev submission) asked reply asks event = other_task (Rescuer dev submission) asked reply refl asks (rescuer_keeps_none setup dev submission.doing submission)
   one_event (Completer disk carried) asked reply asks event = other_task (Completer disk carried) asked reply refl asks (completer_keeps_none disk carried)
   one_event (Keeper (Keeps [])) asked reply asks event = absurd (true≢false (sym event ∙ ap (λ a. is_event a reply) asks))
   one_event (Keeper (Keeps (Resizes pool min later ∷ duties))) asked reply asks event =

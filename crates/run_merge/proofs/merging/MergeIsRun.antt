@@ -6,7 +6,7 @@ use Rattle.std.proofs.lemmas.List.{map-append}
 use Rattle.std.proofs.lemmas.List.Elements.{All-map, filter-append}
 use Rattle.elem_ledger.specs.Ledger.{LedgerId}
 use Rattle.run_machine.specs.Laws.{OfTally, object_of}
-use Rattle.run_machine.specs.Lines.{Doing, Rests}
+use Rattle.run_machine.specs.Submissions.{Doing, Rests}
 use Rattle.run_machine.specs.Opened.{Scenario, scene, start, setup}
 use Rattle.run_machine.specs.Requests.{Present, LeftOver}
 use Rattle.run_machine.specs.Runs.{State, IsLet}
@@ -55,11 +55,11 @@ module _ (s : Scenario) (ledger : ℕ → LedgerId) (good : IsScenario s) (namin
     k = known s ledger good naming between state reached
 
     pub still_let : (place : ℕ) (x : TaskState) → state.task place ≡ x → LetsAsk s ledger (history_of OfTally hs) ticket x (look_of x) → IsLet ledger state.objects x (look_of x)
-    still_let place (Writer number todo taken line) at looked = by_writer todo taken line.doing looked
+    still_let place (Writer number todo taken submission) at looked = by_writer todo taken submission.doing looked
       where
         by_writer : (todo : List Todo) (taken : Gathered) (doing : Doing)
-            → LetsAsk s ledger (history_of OfTally hs) ticket (Writer number todo taken line) (writer_look todo taken doing)
-            → IsLet ledger state.objects (Writer number todo taken line) (writer_look todo taken doing)
+            → LetsAsk s ledger (history_of OfTally hs) ticket (Writer number todo taken submission) (writer_look todo taken doing)
+            → IsLet ledger state.objects (Writer number todo taken submission) (writer_look todo taken doing)
         by_writer [] taken doing looked = tt
         by_writer (todo ∷ later) NoBio Rests (was, few, Present now, serves, le) =
             let l = is_later was few in
@@ -69,7 +69,7 @@ module _ (s : Scenario) (ledger : ℕ → LedgerId) (good : IsScenario s) (namin
         by_writer (todo ∷ later) NoBio Rests (was, few, reply, serves, le) = absurd serves
         by_writer (todo ∷ later) NoBio doing looked = tt
         by_writer (todo ∷ later) taken doing looked = tt
-    still_let place (Rescuer dev line) at looked = tt
+    still_let place (Rescuer dev submission) at looked = tt
     still_let place (Completer disk carried) at looked = tt
     still_let place (Keeper (Keeps [])) at looked = tt
     still_let place (Keeper (Keeps (duty ∷ duties))) at (was, few, LeftOver many, serves, same) =

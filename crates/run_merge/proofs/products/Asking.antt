@@ -7,7 +7,7 @@ use Rattle.bio_books.specs.Books.{VectorItem, SlipItem}
 use Rattle.bio_books.specs.Drops.{Closed}
 use Rattle.stack_base.specs.declared.ids.DevId.{DevId}
 use Rattle.run_machine.specs.Scene.{Setup}
-use Rattle.run_machine.specs.Lines.{Takes, Punts, Links, ToPush, ToCut, ToRecord, ToMaster, Doing, Rests, Drives, Copies, Breaks, Line, line_request}
+use Rattle.run_machine.specs.Submissions.{Takes, Punts, Links, ToPush, ToCut, ToRecord, ToMaster, Doing, Rests, Drives, Copies, Breaks, Submission, submission_request}
 use Rattle.run_machine.specs.Requests.{Request, NextRound, Resize}
 use Rattle.run_machine.specs.Tasks.{Todo, Gathered, NoBio, HasBio, HasBoth, Carried, Empty, Brings, Carries, Fails, request, write_request, with_bio, needs_vector, writer_request, rescuer_request, carried_request, closed_request}
 use Rattle.shared_objects.specs.Calls.{struck}
@@ -18,18 +18,18 @@ is_keeping (NextRound round) = true
 is_keeping (Resize pool min) = true
 is_keeping request = false
 
-line_keeps_none : (setup : Setup) (doing : Doing) (lists : TaskLists) → is_keeping (struck (line_request setup doing lists)) ≡ false
-line_keeps_none setup Rests lists = refl
-line_keeps_none setup (Breaks breach kept) lists = refl
-line_keeps_none setup (Drives bio ToPush) lists = refl
-line_keeps_none setup (Drives bio (ToCut (Takes waits))) lists = refl
-line_keeps_none setup (Drives bio (ToCut Punts)) lists = refl
-line_keeps_none setup (Drives bio (ToCut (Links hand))) lists = refl
-line_keeps_none setup (Drives bio ToRecord) lists = refl
-line_keeps_none setup (Drives bio (ToMaster slip)) lists = refl
-line_keeps_none setup (Copies bio master leg (Takes waits)) lists = refl
-line_keeps_none setup (Copies bio master leg Punts) lists = refl
-line_keeps_none setup (Copies bio master leg (Links hand)) lists = refl
+submission_keeps_none : (setup : Setup) (doing : Doing) (lists : TaskLists) → is_keeping (struck (submission_request setup doing lists)) ≡ false
+submission_keeps_none setup Rests lists = refl
+submission_keeps_none setup (Breaks breach kept) lists = refl
+submission_keeps_none setup (Drives bio ToPush) lists = refl
+submission_keeps_none setup (Drives bio (ToCut (Takes waits))) lists = refl
+submission_keeps_none setup (Drives bio (ToCut Punts)) lists = refl
+submission_keeps_none setup (Drives bio (ToCut (Links hand))) lists = refl
+submission_keeps_none setup (Drives bio ToRecord) lists = refl
+submission_keeps_none setup (Drives bio (ToMaster slip)) lists = refl
+submission_keeps_none setup (Copies bio master leg (Takes waits)) lists = refl
+submission_keeps_none setup (Copies bio master leg Punts) lists = refl
+submission_keeps_none setup (Copies bio master leg (Links hand)) lists = refl
 
 write_keeps_none : (writer : ℕ) (todo : List Todo) (taken : Gathered) → is_keeping (struck (write_request writer todo taken)) ≡ false
 write_keeps_none writer [] taken = refl
@@ -49,18 +49,18 @@ closed_keeps_none writer closed None None (Some slip) parent = refl
 closed_keeps_none writer closed None None None (Some parent) = refl
 closed_keeps_none writer closed None None None None = refl
 
-pub writer_keeps_none : (setup : Setup) (number : ℕ) (todo : List Todo) (taken : Gathered) (doing : Doing) (line : Line)
-    → is_keeping (struck (writer_request setup number todo taken doing line)) ≡ false
-writer_keeps_none setup number todo taken Rests line = write_keeps_none number todo taken
-writer_keeps_none setup number todo taken (Drives bio ask) line = line_keeps_none setup (Drives bio ask) line.lists
-writer_keeps_none setup number todo taken (Copies bio master leg want) line = line_keeps_none setup (Copies bio master leg want) line.lists
-writer_keeps_none setup number todo taken (Breaks breach kept) line = refl
+pub writer_keeps_none : (setup : Setup) (number : ℕ) (todo : List Todo) (taken : Gathered) (doing : Doing) (submission : Submission)
+    → is_keeping (struck (writer_request setup number todo taken doing submission)) ≡ false
+writer_keeps_none setup number todo taken Rests submission = write_keeps_none number todo taken
+writer_keeps_none setup number todo taken (Drives bio ask) submission = submission_keeps_none setup (Drives bio ask) submission.lists
+writer_keeps_none setup number todo taken (Copies bio master leg want) submission = submission_keeps_none setup (Copies bio master leg want) submission.lists
+writer_keeps_none setup number todo taken (Breaks breach kept) submission = refl
 
-pub rescuer_keeps_none : (setup : Setup) (dev : DevId) (doing : Doing) (line : Line) → is_keeping (struck (rescuer_request setup dev doing line)) ≡ false
-rescuer_keeps_none setup dev Rests line = refl
-rescuer_keeps_none setup dev (Drives bio ask) line = line_keeps_none setup (Drives bio ask) line.lists
-rescuer_keeps_none setup dev (Copies bio master leg want) line = line_keeps_none setup (Copies bio master leg want) line.lists
-rescuer_keeps_none setup dev (Breaks breach kept) line = refl
+pub rescuer_keeps_none : (setup : Setup) (dev : DevId) (doing : Doing) (submission : Submission) → is_keeping (struck (rescuer_request setup dev doing submission)) ≡ false
+rescuer_keeps_none setup dev Rests submission = refl
+rescuer_keeps_none setup dev (Drives bio ask) submission = submission_keeps_none setup (Drives bio ask) submission.lists
+rescuer_keeps_none setup dev (Copies bio master leg want) submission = submission_keeps_none setup (Copies bio master leg want) submission.lists
+rescuer_keeps_none setup dev (Breaks breach kept) submission = refl
 
 pub completer_keeps_none : (disk : DevId) (carried : Carried) → is_keeping (struck (carried_request disk carried)) ≡ false
 completer_keeps_none disk Empty = refl

@@ -6,7 +6,7 @@ use Rattle.std.proofs.lemmas.List.{length-append}
 use Rattle.std.proofs.lemmas.List.Elements.{filter-append}
 use Rattle.elem_ledger.specs.Ledger.{LedgerId}
 use Rattle.run_machine.specs.Laws.{OfTally, object_of}
-use Rattle.run_machine.specs.Lines.{Doing, Rests}
+use Rattle.run_machine.specs.Submissions.{Doing, Rests}
 use Rattle.run_machine.specs.Objects.{TallyState, Objects, Serves}
 use Rattle.run_machine.specs.Opened.{Scenario, setup}
 use Rattle.run_machine.specs.Requests as requests
@@ -100,15 +100,15 @@ module _ (s : Scenario) (ledger : ℕ → LedgerId) (before : List Entry) (state
       omega (arith, known.sums, none, later)
 
   pub lets : (place : ℕ) (x : TaskState) → state.task place ≡ x → ComesBehind s before x (struck (request (setup s) x)) → IsLet ledger state.objects x (look_of x)
-  lets place (Writer number todo taken line) at comes = by_writer todo taken line.doing comes.takes
+  lets place (Writer number todo taken submission) at comes = by_writer todo taken submission.doing comes.takes
     where
       by_writer : (todo : List Todo) (taken : Gathered) (doing : Doing) → RoundHasCome todo taken doing before
-          → IsLet ledger state.objects (Writer number todo taken line) (writer_look todo taken doing)
+          → IsLet ledger state.objects (Writer number todo taken submission) (writer_look todo taken doing)
       by_writer [] taken doing come = tt
       by_writer (todo ∷ later) NoBio Rests come = (Present state.objects.tally.round, (refl, refl), le-leb todo.round state.objects.tally.round (omega (arith, come, count)))
       by_writer (todo ∷ later) NoBio doing come = tt
       by_writer (todo ∷ later) taken doing come = tt
-  lets place (Rescuer dev line) at comes = tt
+  lets place (Rescuer dev submission) at comes = tt
   lets place (Completer disk carried) at comes = tt
   lets place (Keeper (Keeps [])) at comes = tt
   lets place (Keeper (Keeps (Starts round later ∷ duties))) at comes = (
@@ -124,22 +124,22 @@ module _ (s : Scenario) (ledger : ℕ → LedgerId) (before : List Entry) (state
   lets place (Keeper (Stops breach)) at comes = tt
 
   pub comes_by : (place : ℕ) (x : TaskState) → state.task place ≡ x → IsLet ledger state.objects x (look_of x) → ComesBehind s before x (struck (request (setup s) x))
-  comes_by place (Writer number todo taken line) at may =
-      no_keeper s before (Writer number todo taken line) (struck (request (setup s) (Writer number todo taken line)))
-      (by_writer todo taken line.doing may) (writer_keeps_none (setup s) number todo taken line.doing line)
+  comes_by place (Writer number todo taken submission) at may =
+      no_keeper s before (Writer number todo taken submission) (struck (request (setup s) (Writer number todo taken submission)))
+      (by_writer todo taken submission.doing may) (writer_keeps_none (setup s) number todo taken submission.doing submission)
     where
       by_round : (round now : ℕ) → now ≡ state.objects.tally.round → nat_le round now ≡ true → round ≤ rounds_started before
       by_round round now at le = let few = leb-true round now le in omega (arith, at, few, count)
 
-      by_writer : (todo : List Todo) (taken : Gathered) (doing : Doing) → IsLet ledger state.objects (Writer number todo taken line) (writer_look todo taken doing)
+      by_writer : (todo : List Todo) (taken : Gathered) (doing : Doing) → IsLet ledger state.objects (Writer number todo taken submission) (writer_look todo taken doing)
           → RoundHasCome todo taken doing before
       by_writer [] taken doing may = tt
       by_writer (todo ∷ later) NoBio Rests (Present now, serves, le) = by_round todo.round now serves.0 le
       by_writer (todo ∷ later) NoBio Rests (seen, serves, le) = absurd serves
       by_writer (todo ∷ later) NoBio doing may = tt
       by_writer (todo ∷ later) taken doing may = tt
-  comes_by place (Rescuer dev line) at may =
-      no_keeper s before (Rescuer dev line) (struck (request (setup s) (Rescuer dev line))) tt (rescuer_keeps_none (setup s) dev line.doing line)
+  comes_by place (Rescuer dev submission) at may =
+      no_keeper s before (Rescuer dev submission) (struck (request (setup s) (Rescuer dev submission))) tt (rescuer_keeps_none (setup s) dev submission.doing submission)
   comes_by place (Completer disk carried) at may =
       no_keeper s before (Completer disk carried) (struck (request (setup s) (Completer disk carried))) tt (completer_keeps_none disk carried)
   comes_by place (Keeper (Keeps [])) at may = record { takes = tt; rounds = λ starts. absurd (true≢false (sym starts)); resizes = λ changes. absurd (true≢false (sym changes)) }

@@ -46,10 +46,10 @@ module _ (s : Scenario) (before : List Entry) (state : State) (known : Known s b
   -- which is the one behind the present round
   number_is : (place number : ℕ) (x : TaskState) → state.task place ≡ x → request (setup s) x ≡ NextRound number → number ≡ state.objects.tally.round + 1
   unfolding round_number
-  number_is place number (Writer writer todo taken line) at is =
-      none (is_keeping (struck (request (setup s) (Writer writer todo taken line)))) (ap (λ r. is_keeping (struck r)) is) (writer_keeps_none (setup s) writer todo taken line.doing line)
-  number_is place number (Rescuer dev line) at is =
-      none (is_keeping (struck (request (setup s) (Rescuer dev line)))) (ap (λ r. is_keeping (struck r)) is) (rescuer_keeps_none (setup s) dev line.doing line)
+  number_is place number (Writer writer todo taken submission) at is =
+      none (is_keeping (struck (request (setup s) (Writer writer todo taken submission)))) (ap (λ r. is_keeping (struck r)) is) (writer_keeps_none (setup s) writer todo taken submission.doing submission)
+  number_is place number (Rescuer dev submission) at is =
+      none (is_keeping (struck (request (setup s) (Rescuer dev submission)))) (ap (λ r. is_keeping (struck r)) is) (rescuer_keeps_none (setup s) dev submission.doing submission)
   number_is place number (Completer disk carried) at is =
       none (is_keeping (struck (request (setup s) (Completer disk carried)))) (ap (λ r. is_keeping (struck r)) is) (completer_keeps_none disk carried)
   number_is place number (Keeper (Keeps [])) at is = none false (ap is_keeping is) refl

@@ -26,9 +26,9 @@ use Rattle.work_text.specs.declared.Resize.{Resize}
 use Rattle.work_text.specs.declared.Work.{Work}
 use Rattle.task_core.specs.declared.opening.Opened.{Opened}
 use Rattle.run_machine.specs.Events.{pool_of}
-use Rattle.task_steps.specs.Homes.{TodoFits, IsLineOf, IsOwned, DutyFits, IsTaskOf}
+use Rattle.task_steps.specs.Homes.{TodoFits, IsSubmissionOf, IsOwned, DutyFits, IsTaskOf}
 use Rattle.task_core.specs.Leaving.{IsReservedForRun}
-use Rattle.run_machine.specs.Lines.{rests}
+use Rattle.run_machine.specs.Submissions.{rests}
 use Rattle.task_core.specs.opened.NewTasks.{AreShared, writers_of, others_in, tally_in, reserves_in}
 use Rattle.task_core.specs.opened.OpenTasks.{AreTasksOf}
 use Rattle.run_machine.specs.Objects.{Objects, TallyState}
@@ -98,8 +98,8 @@ range_below n = λ k d lt.
 module _ (s : Scenario) (stage : Stage) (stacks : stage.routing.stack ≡ s.stack) (setups : routing_setup stage.routing ≡ opened.setup s)
     (many : stage.writes ≡ length s.writes) (paired : length s.rounds ≡ length s.writes) (served : All (IsWrite s.stack) s.writes)
     (segments : All (λ (write : Write). write.count ≤ 2048) s.writes) (changes : All (λ (change : Change). IsTrue (is_pool stage change.pool) × (1 ≤ change.min) × (change.min ≤ stage.most (pool_number change.pool))) s.changes) where
-  new_line : IsLineOf stage rests
-  new_line = record {
+  new_submission : IsSubmissionOf stage rests
+  new_submission = record {
     fits = record { doing = tt; lists = (All-nil (IsItemWithin stage.routing.stack), All-nil (IsItemWithin stage.routing.stack)) };
     doing = tt;
     list0 = All-nil (IsOwned stage);
@@ -126,7 +126,7 @@ module _ (s : Scenario) (stage : Stage) (stacks : stage.routing.stack ≡ s.stac
   writers_home =
       All-map (IsTaskOf stage) (λ writer. Writer writer (todos_of s writer) NoBio rests) (writers s)
       (All-weaker (λ writer. list_any (is_by writer) (todos s) ≡ true) (λ writer. IsTaskOf stage (Writer writer (todos_of s writer) NoBio rests))
-      (λ writer is. (writer_booked writer is, All-filter (is_by writer) (TodoFits stage) (todos s) todos_fit, tt, new_line))
+      (λ writer is. (writer_booked writer is, All-filter (is_by writer) (TodoFits stage) (todos s) todos_fit, tt, new_submission))
       (writers s) (all_passing (λ writer. list_any (is_by writer) (todos s)) (range_with_len 0 8)))
 
   rescuers_home : All (IsTaskOf stage) (map (λ dev. Rescuer (at dev) rests) (filter (opened.setup s).rescuer (range_with_len 0 (opened.setup s).count)))
@@ -140,7 +140,7 @@ module _ (s : Scenario) (stage : Stage) (stacks : stage.routing.stack ≡ s.stac
       let known = is_below (get_or devices k d) (opened.setup s).count below in
       let both : (nat_lt (get_or devices k d) (opened.setup s).count && (opened.setup s).rescuer (get_or devices k d)) ≡ true =
       ap (λ b. b && (opened.setup s).rescuer (get_or devices k d)) known ∙ has in
-      (ap (λ (su : Setup). nat_lt (get_or devices k d) su.count && su.rescuer (get_or devices k d)) setups ∙ both, new_line))
+      (ap (λ (su : Setup). nat_lt (get_or devices k d) su.count && su.rescuer (get_or devices k d)) setups ∙ both, new_submission))
 
   completers_home : All (IsTaskOf stage) (map (λ dev. Completer (at dev) Empty) (filter (is_disk (opened.setup s)) (range_with_len 0 (opened.setup s).count)))
   completers_home =

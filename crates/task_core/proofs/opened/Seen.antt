@@ -15,7 +15,7 @@ use Rattle.task_steps.specs.declared.step.Step.{Step}
 use Rattle.task_steps.specs.declared.step.Step.TheVariants.{Stepped, Waiting, Ended}
 use Rattle.run_machine.specs.Maps.{upd}
 use Rattle.run_machine.specs.Scene.{Setup}
-use Rattle.run_machine.specs.Lines.{Doing, Rests, Drives, Copies, Breaks}
+use Rattle.run_machine.specs.Submissions.{Doing, Rests, Drives, Copies, Breaks}
 use Rattle.run_machine.specs.Requests as requests
 use Rattle.run_machine.specs.Requests.{Request, Reply}
 use Rattle.run_machine.specs.Tasks.{TaskState, Writer, Rescuer, Completer, Keeper, Keeps, Stops, Todo, Gathered, NoBio, HasBio, HasBoth, request, writer_look, look_of, lets, answered}
@@ -56,8 +56,8 @@ writer_looks (todo ∷ later) (HasBoth bio vector) doing look e = absurd (none_i
 writer_looks [] taken doing look e = absurd (none_is look e)
 
 task_looks : (task : TaskState) (look : Request) → look_of task ≡ Some look → IsLook look
-task_looks (Writer number todos taken line) look e = writer_looks todos taken line.doing look e
-task_looks (Rescuer dev line) look e = absurd (none_is look e)
+task_looks (Writer number todos taken submission) look e = writer_looks todos taken submission.doing look e
+task_looks (Rescuer dev submission) look e = absurd (none_is look e)
 task_looks (Completer disk carried) look e = absurd (none_is look e)
 task_looks (Keeper (Keeps (duty ∷ duties))) look e = look_at look requests.LookLeft e tt
 task_looks (Keeper (Keeps [])) look e = absurd (none_is look e)

@@ -15,7 +15,7 @@ use Rattle.run_machine.specs.Scene.{Setup, is_disk}
 use Rattle.task_steps.specs.KeeperViews.{duty_of}
 use Rattle.task_steps.specs.Routed.{Routing, routing_setup}
 use Rattle.task_steps.specs.TaskViews.{TaskOf, task_of}
-use Rattle.run_machine.specs.Lines.{rests}
+use Rattle.run_machine.specs.Submissions.{rests}
 use Rattle.run_machine.specs.Tasks.{Todo, NoBio, Empty, Duty, Resizes, Starts, TaskState, Writer, Rescuer, Completer}
 use Rattle.run_machine.specs.Objects.{TallyState}
 use Rattle.run_machine.specs.Opened.{Change, is_by, at, keepers}

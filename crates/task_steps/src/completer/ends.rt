@@ -52,7 +52,7 @@ impl Carried {
     }
 
     // What is left of a node that was told of an end, and the event of that.
-    #[inline(always)] // as `Line::becomes`
+    #[inline(always)] // as `Submission::becomes`
     fn told(
         &mut self,
         disk: DevId,

@@ -5,12 +5,12 @@ ghost use Rattle.bio_records.specs.Items.{item_of, IsAlone};
 ghost use Rattle.bio_split.specs.Split.{split_front, split_rest};
 ghost use Rattle.run_machine.specs.Scene.{tree_at};
 ghost use Rattle.run_machine.specs.Requests.{Punt, Link as LinkOf, Chain};
-ghost use Rattle.run_machine.specs.Lines.{punted};
+ghost use Rattle.run_machine.specs.Submissions.{punted};
 ghost use Rattle.task_steps.specs.declared.submission.Doing.TheVariants as doing';
 ghost use Rattle.task_steps.specs.declared.submission.Want.TheVariants.{Punts, Links};
 ghost use Rattle.task_steps.specs.Within.{IsWithinDevice, ListsAreWithin, is_cut};
 ghost use Rattle.task_steps.specs.Routed.{routing_setup, sent};
-ghost use Rattle.task_steps.specs.LineViews.{cutting, IsDoingAlone};
+ghost use Rattle.task_steps.specs.SubmissionViews.{cutting, IsDoingAlone};
 ghost use Rattle.task_steps.specs.Answers.{Ready, Does, AlwaysDoes};
 
 use crate::calls::{open_node, punt_all};

@@ -2,12 +2,12 @@
 ghost use Rattle.std.specs.Prelude.{◌≡◌, ◌<◌, length, true, None};
 ghost use Rattle.bio_records.specs.Items.{item_of, IsAlone};
 ghost use Rattle.run_machine.specs.Scene.{tree_at};
-ghost use Rattle.run_machine.specs.Lines.{Rests, Drives, goes_on};
+ghost use Rattle.run_machine.specs.Submissions.{Rests, Drives, goes_on};
 ghost use Rattle.task_steps.specs.declared.submission.Doing.TheVariants as doing';
-ghost use Rattle.task_steps.specs.Within.{IsWithinDevice, ListsAreWithin, is_cut, DoingFits, LineFits};
+ghost use Rattle.task_steps.specs.Within.{IsWithinDevice, ListsAreWithin, is_cut, DoingFits, SubmissionFits};
 ghost use Rattle.task_steps.specs.Routed.{routing_setup};
-ghost use Rattle.task_steps.specs.LineViews.{asking, cutting, copying, attempt_of, ask_of, doing_of, landed_line, submission_of, IsWantAlone, IsAskOfAlone, IsDoingAlone, is_asking};
-ghost use Rattle.task_steps.specs.Answers.{AsksFirst, Does, LineReady};
+ghost use Rattle.task_steps.specs.SubmissionViews.{asking, cutting, copying, attempt_of, ask_of, doing_of, landed_submission, submission_of, IsWantAlone, IsAskOfAlone, IsDoingAlone, is_asking};
+ghost use Rattle.task_steps.specs.Answers.{AsksFirst, Does, SubmissionReady};
 
 use crate::objects::Objects;
 use crate::routes::Routes;
@@ -38,12 +38,12 @@ fn asked(routes: &Routes, dev: DevId, lists: &TaskLists) -> DriverAsk
 }
 
 // The bio goes to its driver, while these wait.
-#[inline(always)] // as `Line::becomes`
+#[inline(always)] // as `Submission::becomes`
 pub(crate) fn serve(routes: &Routes, mut bio: BioElement, at: &mut Doing, lists: &TaskLists)
     requires rests { at.old ≡ doing'.Rests }
     requires within { IsWithinDevice routes.now.stack (item_of bio).bio }
     requires alone { IsAlone bio }
-    ensures line { submission_of at.new lists.now ≡ landed_line (routing_setup routes.now) lists.now (item_of bio) }
+    ensures submission { submission_of at.new lists.now ≡ landed_submission (routing_setup routes.now) lists.now (item_of bio) }
     ensures alone { IsDoingAlone at.new }
 {
     bio.body.bio = routes.land(bio.body.bio);
@@ -52,11 +52,11 @@ pub(crate) fn serve(routes: &Routes, mut bio: BioElement, at: &mut Doing, lists:
 }
 
 // The driver of a device has returned: the next bio goes to its driver, if one waits.
-#[inline(always)] // as `Line::becomes`
+#[inline(always)] // as `Submission::becomes`
 pub(crate) fn go_on(routes: &Routes, at: &mut Doing, lists: &mut TaskLists, served: DevId)
     requires rests { at.old ≡ doing'.Rests }
     requires lists { ListsAreWithin routes.now.stack lists.old }
-    ensures line { submission_of at.new lists.new ≡ goes_on (routing_setup routes.now) served lists.old }
+    ensures submission { submission_of at.new lists.new ≡ goes_on (routing_setup routes.now) served lists.old }
     ensures alone { IsDoingAlone at.new }
 {
     if let Some(bio) = lists.next(served) {
@@ -74,7 +74,7 @@ fn cut<O: Objects>(
     at: &mut Doing,
     lists: &mut TaskLists,
 ) -> Step
-    requires ready { LineReady O.Objects objects.old routes.now (cutting bio want) lists.old }
+    requires ready { SubmissionReady O.Objects objects.old routes.now (cutting bio want) lists.old }
     requires alone { IsAlone bio × IsWantAlone want }
     requires rests { at.old ≡ doing'.Rests }
     requires no_attempt { attempt_of (cutting bio want) ≡ None }
@@ -101,7 +101,7 @@ fn drive<O: Objects>(
     at: &mut Doing,
     lists: &mut TaskLists,
 ) -> Step
-    requires ready { LineReady O.Objects objects.old routes.now (asking bio ask) lists.old }
+    requires ready { SubmissionReady O.Objects objects.old routes.now (asking bio ask) lists.old }
     requires alone { IsAlone bio × IsAskOfAlone ask }
     requires rests { at.old ≡ doing'.Rests }
     requires no_attempt { attempt_of (asking bio ask) ≡ None }
@@ -128,7 +128,7 @@ fn copy<O: Objects>(
     at: &mut Doing,
     lists: &mut TaskLists,
 ) -> Step
-    requires ready { LineReady O.Objects objects.old routes.now (copying run want) lists.old }
+    requires ready { SubmissionReady O.Objects objects.old routes.now (copying run want) lists.old }
     requires alone { IsWantAlone want }
     requires rests { at.old ≡ doing'.Rests }
     requires no_attempt { attempt_of (copying run want) ≡ None }
@@ -153,12 +153,12 @@ pub(crate) fn turn<O: Objects>(
     at: &mut Doing,
     lists: &mut TaskLists,
 ) -> Step
-    requires ready { LineReady O.Objects objects.old routes.now (doing_of doing) lists.old }
+    requires ready { SubmissionReady O.Objects objects.old routes.now (doing_of doing) lists.old }
     requires alone { IsDoingAlone doing }
     requires asks { is_asking (doing_of doing) ≡ true }
     requires rests { at.old ≡ doing'.Rests }
     requires no_attempt { attempt_of (doing_of doing) ≡ None }
-    requires within { LineFits routes.now.stack (submission_of doing lists.old) }
+    requires within { SubmissionFits routes.now.stack (submission_of doing lists.old) }
     ensures does { Does O.Objects routes.now task (doing_of doing) lists.old objects.old (at.new, result) lists.new objects.new }
     ensures alone { IsDoingAlone at.new }
 {

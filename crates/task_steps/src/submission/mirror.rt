@@ -4,14 +4,14 @@ ghost use Rattle.std.specs.Prelude.{◌≡◌, ◌<◌, ◌+◌, ◌-◌, true};
 ghost use Rattle.bio_records.specs.Items.{item_of, IsAlone};
 ghost use Rattle.run_machine.specs.Scene.{tree_at};
 ghost use Rattle.run_machine.specs.Requests.{TakeSlip, Punt, Link as LinkOf, Master, Leg};
-ghost use Rattle.run_machine.specs.Lines.{punted, legs_of, leg_at, copies};
+ghost use Rattle.run_machine.specs.Submissions.{punted, legs_of, leg_at, copies};
 ghost use Rattle.task_steps.specs.declared.submission.Doing.TheVariants as doing';
 ghost use Rattle.task_steps.specs.declared.submission.DriverAsk.TheVariants.{ToRecord, ToMaster};
 ghost use Rattle.task_steps.specs.declared.submission.Want.TheVariants.{Punts, Links};
 ghost use Rattle.task_steps.specs.Within.{IsWithinDevice, ListsAreWithin};
 ghost use Rattle.task_steps.specs.Routed.{routing_setup};
-ghost use Rattle.task_steps.specs.LineViews.{asking, copying, submission_of, IsDoingAlone};
-ghost use Rattle.task_steps.specs.Answers.{Ready, Does, AlwaysDoes, LineReady};
+ghost use Rattle.task_steps.specs.SubmissionViews.{asking, copying, submission_of, IsDoingAlone};
+ghost use Rattle.task_steps.specs.Answers.{Ready, Does, AlwaysDoes, SubmissionReady};
 
 use crate::calls::{had, missed, open_node, punt_all};
 use crate::objects::{Ask, Objects};
@@ -73,7 +73,7 @@ pub(crate) fn master<O: Objects>(
     at: &mut Doing,
     lists: &mut TaskLists,
 ) -> Step
-    requires ready { LineReady O.Objects objects.old routes.now (asking bio (ToMaster slip)) lists.old }
+    requires ready { SubmissionReady O.Objects objects.old routes.now (asking bio (ToMaster slip)) lists.old }
     requires alone { IsAlone bio }
     requires rests { at.old ≡ doing'.Rests }
     requires within { IsWithinDevice routes.now.stack (item_of bio).bio }
@@ -136,7 +136,7 @@ pub(crate) fn copy_on(
     requires bio { IsWithinDevice routes.now.stack run.bio }
     requires legs { legs ≡ legs_of (tree_at (routing_setup routes.now) run.bio.dev) }
     requires lists { ListsAreWithin routes.now.stack lists.old }
-    ensures line { submission_of at.new lists.new ≡ copies (routing_setup routes.now) lists.old run.bio run.master run.leg }
+    ensures submission { submission_of at.new lists.new ≡ copies (routing_setup routes.now) lists.old run.bio run.master run.leg }
     ensures alone { IsDoingAlone at.new }
 {
     let Copying { bio, master, leg } = run;

@@ -5,7 +5,7 @@ ghost use Rattle.run_machine.specs.Requests.{Push};
 ghost use Rattle.task_steps.specs.declared.submission.Doing.TheVariants as doing';
 ghost use Rattle.task_steps.specs.declared.submission.DriverAsk.TheVariants.{ToPush};
 ghost use Rattle.task_steps.specs.Within.{ListsAreWithin};
-ghost use Rattle.task_steps.specs.LineViews.{asking, IsDoingAlone};
+ghost use Rattle.task_steps.specs.SubmissionViews.{asking, IsDoingAlone};
 ghost use Rattle.task_steps.specs.Answers.{Ready, Does};
 
 use crate::objects::Objects;

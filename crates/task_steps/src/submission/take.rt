@@ -4,17 +4,17 @@ ghost use Rattle.stack_base.specs.declared.ids.SetId.TheVariants.{Of};
 ghost use Rattle.run_machine.specs.declared.event.Breach.TheVariants as breach;
 ghost use Rattle.run_machine.specs.Requests.{TakeBio};
 ghost use Rattle.run_machine.specs.Kept.{bio_kept};
-ghost use Rattle.run_machine.specs.Lines.{Breaks as Breaks', at_hand};
+ghost use Rattle.run_machine.specs.Submissions.{Breaks as Breaks', at_hand};
 ghost use Rattle.task_steps.specs.declared.objects.Unmade.TheVariants as unmade;
 ghost use Rattle.bio_books.specs.Views.{bio_of};
-ghost use Rattle.task_steps.specs.LineViews.{want_of, attempt_of, wanting, doing_of, is_asking, IsWantAlone};
-ghost use Rattle.task_steps.specs.Answers.{LineDoes, Ready};
+ghost use Rattle.task_steps.specs.SubmissionViews.{want_of, attempt_of, wanting, doing_of, is_asking, IsWantAlone};
+ghost use Rattle.task_steps.specs.Answers.{SubmissionDoes, Ready};
 ghost use Rattle.task_steps.specs.Routed.{Routing};
 
 use crate::calls::attempt;
 use crate::objects::{Objects, Unmade};
 use crate::step::Step;
-use crate::submission::{Doing, DriverAsk, Kept, Line, Want, broken, put};
+use crate::submission::{Doing, DriverAsk, Kept, Submission, Want, broken, put};
 use bio_records::BioElement;
 use run_machine::{Breach, TaskId};
 use stack_base::DevId;
@@ -39,7 +39,7 @@ fn bio_of(doing: Doing) -> Option<BioElement>
     }
 }
 
-impl Line {
+impl Submission {
     /// The device of whose set it takes a bio next, and whether it waits for one, if that is what it does next.
     pub(crate) fn attempts(&self) -> Option<(DevId, bool)>
         ensures { result ≡ attempt_of self.now.doing }
@@ -61,7 +61,7 @@ impl Line {
     }
 
     // What is wanted behind an attempt.
-    #[inline(always)] // as `Line::becomes`
+    #[inline(always)] // as `Submission::becomes`
     fn wants(&mut self, next: Want)
         requires { IsWantAlone next }
         ensures { self.new ≡ record self.old { doing = wanting self.old.doing (want_of next) } }
@@ -96,7 +96,7 @@ impl Line {
         requires ready { Ready O.Objects objects.old (TakeBio (Of dev) waits) }
         requires attempts { attempt_of self.old.doing ≡ Some (dev, waits) }
         requires asks { is_asking self.old.doing ≡ true }
-        ensures does { (routing : Routing) → LineDoes O.Objects routing task self.old objects.old self.new objects.new result }
+        ensures does { (routing : Routing) → SubmissionDoes O.Objects routing task self.old objects.old self.new objects.new result }
     {
         match attempt(objects, task, dev, waits) {
             Ok((want, step)) => {

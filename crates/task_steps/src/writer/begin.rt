@@ -8,7 +8,7 @@ ghost use Rattle.run_machine.specs.Requests.{TakeBio, TakeVec, Link as LinkOf, W
 ghost use Rattle.run_machine.specs.declared.event.TaskId.TheVariants as id;
 ghost use Rattle.run_machine.specs.declared.event.How.TheVariants as how;
 ghost use Rattle.run_machine.specs.declared.event.What.TheVariants as what;
-ghost use Rattle.run_machine.specs.Lines.{Rests, Breaks};
+ghost use Rattle.run_machine.specs.Submissions.{Rests, Breaks};
 ghost use Rattle.run_machine.specs.Tasks.{needs_vector, filled, filled_short, filled_vector};
 ghost use Rattle.task_steps.specs.declared.writer.begin.Gathered.TheVariants.{HasBio, HasBoth};
 ghost use Rattle.task_steps.specs.WriterViews.{gathered_of, is_taken, IsGatheredAlone, IsAttemptAtBioAlone, IsNextAlone, OpensWrite, LinksWrite, TriesBio, TriesVector, WriteGoesOn, WriteReady};
@@ -18,7 +18,7 @@ use crate::calls::{had, missed};
 use crate::objects::{Ask, Objects};
 use crate::routes::Routes;
 use crate::step::Step;
-use crate::submission::{HandedBack, Kept, Line};
+use crate::submission::{HandedBack, Kept, Submission};
 use crate::todo::Todo;
 use crate::writer::first_bio::{filled, filled_short, filled_vector, needs_vector};
 use bio_books::{Back, Link};
@@ -81,12 +81,12 @@ fn take_vector<O: Objects>(
     objects: &mut O,
     number: u32,
     bio: BioElement,
-    line: &mut Line,
+    submission: &mut Submission,
 ) -> (Gathered, Step)
     requires ready { Ready O.Objects objects.old TakeVec }
     requires alone { IsAlone bio }
-    requires rests { line.old.doing ≡ Rests }
-    ensures does { TriesVector O.Objects number (item_of bio) line.old objects.old result line.new objects.new }
+    requires rests { submission.old.doing ≡ Rests }
+    ensures does { TriesVector O.Objects number (item_of bio) submission.old objects.old result submission.new objects.new }
     ensures alone { IsGatheredAlone result.0 }
 {
     let task = TaskId::Writer(number);
@@ -103,16 +103,16 @@ fn take_vector<O: Objects>(
         Ok(Taken::Miss { used }) => (Gathered::HasBio(bio), missed(task, true, used, pool)),
         Err(nothing) => {
             drop(nothing);
-            line.breaks(Breach::Spent, Kept::nothing());
+            submission.breaks(Breach::Spent, Kept::nothing());
             (Gathered::HasBio(bio), Step::Broken(Breach::Spent))
         }
     }
 }
 
 // A writer was refused the node of a write, and keeps what it handed over for it.
-fn unlinked(line: &mut Line, breach: Breach, back: Back) -> Step
-    requires rests { line.old.doing ≡ Rests }
-    ensures line { line.new ≡ record line.old { doing = Breaks breach (holding_kept (holding_of back)) } }
+fn unlinked(submission: &mut Submission, breach: Breach, back: Back) -> Step
+    requires rests { submission.old.doing ≡ Rests }
+    ensures submission { submission.new ≡ record submission.old { doing = Breaks breach (holding_kept (holding_of back)) } }
     ensures step { result ≡ Step.Broken breach }
 {
     let kept = Kept {
@@ -120,7 +120,7 @@ fn unlinked(line: &mut Line, breach: Breach, back: Back) -> Step
         hand: None,
         back: HandedBack::Unlinked(back),
     };
-    line.breaks(breach, kept);
+    submission.breaks(breach, kept);
     Step::Broken(breach)
 }
 
@@ -131,21 +131,21 @@ fn open_write<O: Objects>(
     writer: u32,
     write: u32,
     vector: Option<VecElement>,
-    line: &mut Line,
+    submission: &mut Submission,
 ) -> Result<u32, Step>
     requires ready { Ready O.Objects objects.old (LinkOf writer (WriteOf write (vector_of vector))) }
-    requires rests { line.old.doing ≡ Rests }
-    ensures does { OpensWrite O.Objects routes.now writer write (vector_of vector) line.old objects.old result line.new objects.new }
+    requires rests { submission.old.doing ≡ Rests }
+    ensures does { OpensWrite O.Objects routes.now writer write (vector_of vector) submission.old objects.old result submission.new objects.new }
 {
     match objects.link(writer, Ask::Write { write, vector }) {
         Ok(Link::Made(node)) => Ok(node),
         Ok(Link::NoRoom(back)) => {
             let places = routes.places(writer);
-            Err(unlinked(line, Breach::NoRoom { writer, places }, back))
+            Err(unlinked(submission, Breach::NoRoom { writer, places }, back))
         }
-        Ok(Link::Stray(back)) => Err(unlinked(line, Breach::Stray { writer, node: 0 }, back)),
+        Ok(Link::Stray(back)) => Err(unlinked(submission, Breach::Stray { writer, node: 0 }, back)),
         Err(back) => {
-            line.breaks(Breach::Spent, Kept::unmade(None, back));
+            submission.breaks(Breach::Spent, Kept::unmade(None, back));
             Err(Step::Broken(Breach::Spent))
         }
     }
@@ -170,20 +170,20 @@ fn link_short<O: Objects>(
     number: u32,
     todo: &Todo,
     bio: BioElement,
-    line: &mut Line,
+    submission: &mut Submission,
 ) -> (Next, Step)
     requires ready { WriteReady O.Objects objects.old number todo.now (HasBio bio) }
     requires routing { (O.stage objects.old).routing ≡ routes.now }
     requires alone { IsAlone bio }
-    requires rests { line.old.doing ≡ Rests }
+    requires rests { submission.old.doing ≡ Rests }
     requires short { needs_vector todo.now.write ≡ false }
-    ensures does { LinksWrite O.Objects routes.now number todo.now (HasBio bio) line.old objects.old result line.new objects.new }
+    ensures does { LinksWrite O.Objects routes.now number todo.now (HasBio bio) submission.old objects.old result submission.new objects.new }
     ensures alone { IsNextAlone result.0 }
 {
-    match open_write(objects, routes, number, todo.number, None, line) {
+    match open_write(objects, routes, number, todo.number, None, submission) {
         Ok(node) => {
             let bio = filled_short(number, todo, node, bio);
-            line.becomes(Line::begin(routes, bio));
+            submission.becomes(Submission::begin(routes, bio));
             (Next::Begins, opened(number, node))
         }
         Err(step) => (Next::Waits(Gathered::HasBio(bio)), step),
@@ -198,20 +198,20 @@ fn link_long<O: Objects>(
     todo: &Todo,
     bio: BioElement,
     vector: VecElement,
-    line: &mut Line,
+    submission: &mut Submission,
 ) -> (Next, Step)
     requires ready { WriteReady O.Objects objects.old number todo.now (HasBoth bio vector) }
     requires routing { (O.stage objects.old).routing ≡ routes.now }
     requires alone { IsAlone bio }
-    requires rests { line.old.doing ≡ Rests }
-    ensures does { LinksWrite O.Objects routes.now number todo.now (HasBoth bio vector) line.old objects.old result line.new objects.new }
+    requires rests { submission.old.doing ≡ Rests }
+    ensures does { LinksWrite O.Objects routes.now number todo.now (HasBoth bio vector) submission.old objects.old result submission.new objects.new }
     ensures alone { IsNextAlone result.0 }
 {
     let vector = Some(filled_vector(todo, vector));
-    match open_write(objects, routes, number, todo.number, vector, line) {
+    match open_write(objects, routes, number, todo.number, vector, submission) {
         Ok(node) => {
             let bio = filled(number, todo, node, bio);
-            line.becomes(Line::begin(routes, bio));
+            submission.becomes(Submission::begin(routes, bio));
             (Next::Begins, opened(number, node))
         }
         Err(step) => (Next::Waits(Gathered::HasBio(bio)), step),
@@ -225,26 +225,26 @@ pub(crate) fn go_on<O: Objects>(
     number: u32,
     todo: &Todo,
     taken: Gathered,
-    line: &mut Line,
+    submission: &mut Submission,
 ) -> (Next, Step)
     requires ready { WriteReady O.Objects objects.old number todo.now taken }
     requires routing { (O.stage objects.old).routing ≡ routes.now }
     requires alone { IsGatheredAlone taken }
     requires some { is_taken (gathered_of taken) ≡ true }
-    requires rests { line.old.doing ≡ Rests }
-    ensures does { WriteGoesOn O.Objects routes.now number todo.now (gathered_of taken) line.old objects.old result line.new objects.new }
+    requires rests { submission.old.doing ≡ Rests }
+    ensures does { WriteGoesOn O.Objects routes.now number todo.now (gathered_of taken) submission.old objects.old result submission.new objects.new }
     ensures alone { IsNextAlone result.0 }
 {
     match taken {
         Gathered::HasBio(bio) => {
             if !needs_vector(&todo.write) {
-                return link_short(objects, routes, number, todo, bio, line);
+                return link_short(objects, routes, number, todo, bio, submission);
             }
-            let (taken, step) = take_vector(objects, number, bio, line);
+            let (taken, step) = take_vector(objects, number, bio, submission);
             (Next::Waits(taken), step)
         }
         Gathered::HasBoth(bio, vector) => link_long(
-            objects, routes, number, todo, bio, vector, line,
+            objects, routes, number, todo, bio, vector, submission,
         ),
         Gathered::NoBio => unreachable!(),
     }

@@ -13,8 +13,8 @@ use Rattle.bio_records.specs.Sorting.{is_lower, is_same}
 use Rattle.bio_lists.specs.Submission.{submitted, order}
 use Rattle.run_machine.specs.Scene.{Setup, tree_at}
 use Rattle.bioset_pools.specs.Sets.{is_empty, waits_first}
-use Rattle.run_machine.specs.Lines.{Takes, ToCut, Drives, Copies, first_length, mapped, landed, asks_at, landed_doing, settled, goes_on, legs_of, copies, is_of, punted, not_punted}
-use Rattle.trace_replay.proofs.renaming.Renaming.{Places, share_to, bio_to, item_to, lists_to, doing_to, line_to}
+use Rattle.run_machine.specs.Submissions.{Takes, ToCut, Drives, Copies, first_length, mapped, landed, asks_at, landed_doing, settled, goes_on, legs_of, copies, is_of, punted, not_punted}
+use Rattle.trace_replay.proofs.renaming.Renaming.{Places, share_to, bio_to, item_to, lists_to, doing_to, submission_to}
 
 -- a filter that does not see what a map changes
 kept_by : {X : Type 0} (p : X → Bool) (f : X → X) (x : X) (xs : List X) (test : Bool) → filter p (map f xs) ≡ map f (filter p xs)
@@ -93,23 +93,23 @@ module _ (to : Places) where
       ap (λ b. asks_at setup (lists_to to lists) (record item { bio = b; share = share_to item.share }) (tree_at setup b.dev)) (landed_to (tree_at setup item.bio.dev) item.bio)
       ∙ asks_to setup lists (record item { bio = at }) gone (tree_at setup at.dev)
 
-  pub settled_to : (setup : Setup) (gone : ℕ) (items : List (Item Pad)) → settled setup (all items) ≡ line_to to gone (settled setup items)
+  pub settled_to : (setup : Setup) (gone : ℕ) (items : List (Item Pad)) → settled setup (all items) ≡ submission_to to gone (settled setup items)
   settled_to setup gone [] = refl
   settled_to setup gone (item ∷ waiting) =
       let lists : TaskLists = record { list0 = []; list1 = waiting } in
       ap (λ doing. record { doing = doing; lists = lists_to to lists }) (landed_doing_to setup lists item gone)
 
-  pub goes_to : (setup : Setup) (gone : ℕ) (dev : DevId) (lists : TaskLists) → goes_on setup dev (lists_to to lists) ≡ line_to to gone (goes_on setup dev lists)
+  pub goes_to : (setup : Setup) (gone : ℕ) (dev : DevId) (lists : TaskLists) → goes_on setup dev (lists_to to lists) ≡ submission_to to gone (goes_on setup dev lists)
   goes_to setup gone dev lists = ap (settled setup) (order_to dev lists) ∙ settled_to setup gone (order dev lists)
 
   copies_by : (setup : Setup) (gone : ℕ) (lists : TaskLists) (bio : Bio) (master leg : ℕ) (test : Bool)
       → (if test then goes_on setup bio.dev (lists_to to lists)
       else record { doing = Copies (record bio { node = gone }) (to bio.writer master) leg (Takes (waits_first (setup.rescuer bio.dev.0) (lists_to to lists))); lists = lists_to to lists })
-      ≡ line_to to gone (if test then goes_on setup bio.dev lists else record { doing = Copies bio master leg (Takes (waits_first (setup.rescuer bio.dev.0) lists)); lists = lists })
+      ≡ submission_to to gone (if test then goes_on setup bio.dev lists else record { doing = Copies bio master leg (Takes (waits_first (setup.rescuer bio.dev.0) lists)); lists = lists })
   copies_by setup gone lists bio master leg true = goes_to setup gone bio.dev lists
   copies_by setup gone lists bio master leg false =
       ap (λ waits. record { doing = Copies (record bio { node = gone }) (to bio.writer master) leg (Takes waits); lists = lists_to to lists }) (waits_to setup bio.dev lists)
 
   pub copies_to : (setup : Setup) (gone : ℕ) (lists : TaskLists) (bio : Bio) (master leg : ℕ)
-      → copies setup (lists_to to lists) (record bio { node = gone }) (to bio.writer master) leg ≡ line_to to gone (copies setup lists bio master leg)
+      → copies setup (lists_to to lists) (record bio { node = gone }) (to bio.writer master) leg ≡ submission_to to gone (copies setup lists bio master leg)
   copies_to setup gone lists bio master leg = copies_by setup gone lists bio master leg (leg == legs_of (tree_at setup bio.dev))

@@ -11,16 +11,16 @@ use Rattle.bio_books.specs.Books.{Node, BookState, node_at, parent_of}
 use Rattle.bio_books.specs.Links.{IsVacant}
 use Rattle.model_disks.specs.Disks.{DiskState}
 use Rattle.run_machine.specs.Scene.{Scene, Setup}
-use Rattle.run_machine.specs.Lines.{Doing, Rests, Drives, Copies, Breaks, Line}
+use Rattle.run_machine.specs.Submissions.{Doing, Rests, Drives, Copies, Breaks, Submission}
 use Rattle.run_machine.specs.Tasks.{Carried, Empty, Brings, Carries, Fails, TaskState, Writer, Rescuer, Completer, Keeper}
 use Rattle.run_machine.specs.Runs.{State}
-use Rattle.block_core.specs.Weights.{Weight, Rescued, Pending, total, one, names_node as refers, under, refs, legs_left, doing_weight, line_weight, carried_weight, task_weight}
+use Rattle.block_core.specs.Weights.{Weight, Rescued, Pending, total, one, names_node as refers, under, refs, legs_left, doing_weight, submission_weight, carried_weight, task_weight}
 use Rattle.block_core.proofs.moves.Marked.{with_mark, mark_still, mark_other, no_ref, elsewhere}
 use Rattle.block_core.proofs.moves.Totals.{part_of}
 use Rattle.block_core.proofs.stuck.Idle.{node_part}
 use Rattle.block_core.proofs.sound.Facts.{Kept}
 use Rattle.trace_replay.specs.Names.{Names}
-use Rattle.trace_replay.proofs.renaming.Renaming.{Places, share_to, item_to, want_to, ask_to, taken_to, holding_to, doing_to, line_to, carried_to, task_to, role_to, node_to}
+use Rattle.trace_replay.proofs.renaming.Renaming.{Places, share_to, item_to, want_to, ask_to, taken_to, holding_to, doing_to, submission_to, carried_to, task_to, role_to, node_to}
 use Rattle.trace_replay.proofs.renaming.Replies.{HasLeg, TaskHasLeg}
 use Rattle.trace_replay.proofs.renaming.Books.{BookAlike}
 use Rattle.trace_replay.proofs.renaming.Stepping.{StatesAlike, has_leg}
@@ -57,11 +57,11 @@ module _ (setup : Setup) (to : Places) (writer key place : ℕ) where
       let part : one bio.writer writer * one master key * legs_left setup bio leg ≡ 0 = omega (arith, none) in
       ap (λ m. Copies (record bio { node = gone }) m leg (want_to want)) (still bio.writer master (none_of (one bio.writer writer * one master key) (legs_left setup bio leg) left part))
 
-  line_still : (limit gone : ℕ) (line : Line) → HasLeg setup line.doing → line_weight (refs setup writer key) limit line ≡ 0 → line_to new gone line ≡ line_to to gone line
-  line_still limit gone line has none =
-      let doing = doing_still limit gone line.doing has (omega (arith, none)) in
-      let first = items_still line.lists.list0 (omega (arith, none)) in
-      let second = items_still line.lists.list1 (omega (arith, none)) in
+  submission_still : (limit gone : ℕ) (submission : Submission) → HasLeg setup submission.doing → submission_weight (refs setup writer key) limit submission ≡ 0 → submission_to new gone submission ≡ submission_to to gone submission
+  submission_still limit gone submission has none =
+      let doing = doing_still limit gone submission.doing has (omega (arith, none)) in
+      let first = items_still submission.lists.list0 (omega (arith, none)) in
+      let second = items_still submission.lists.list1 (omega (arith, none)) in
       λ k. record { doing = doing k; lists = record { list0 = first k; list1 = second k } }
 
   parent_still : (v : ℕ) (parent : Option ℕ) → under writer key v parent ≡ 0 → option_map (new v) parent ≡ option_map (to v) parent
@@ -76,8 +76,8 @@ module _ (setup : Setup) (to : Places) (writer key place : ℕ) where
   carried_still task gone (Fails breach kept) none = refl
 
   task_still : (at gone : ℕ) (x : TaskState) → TaskHasLeg setup x → task_weight (refs setup writer key) at x ≡ 0 → task_to new gone x ≡ task_to to gone x
-  task_still at gone (Writer number todo taken line) has none = ap (Writer number todo (taken_to taken)) (line_still 32 gone line has (omega (arith, none)))
-  task_still at gone (Rescuer dev line) has none = ap (Rescuer dev) (line_still dev.0 gone line has none)
+  task_still at gone (Writer number todo taken submission) has none = ap (Writer number todo (taken_to taken)) (submission_still 32 gone submission has (omega (arith, none)))
+  task_still at gone (Rescuer dev submission) has none = ap (Rescuer dev) (submission_still dev.0 gone submission has none)
   task_still at gone (Completer disk carried) has none = ap (Completer disk) (carried_still at gone carried none)
   task_still at gone (Keeper keeping) has none = refl
 

@@ -18,7 +18,7 @@ use Rattle.model_disks.specs.Disks.{DiskState}
 use Rattle.run_machine.specs.declared.event.Event.{Event}
 use Rattle.run_machine.specs.declared.event.What.{What}
 use Rattle.run_machine.specs.declared.event.What.TheVariants as what
-use Rattle.run_machine.specs.Lines.{Want, Takes, Punts, Links, Ask, ToPush, ToCut, ToRecord, ToMaster, Doing, Rests, Drives, Copies, Breaks, Line}
+use Rattle.run_machine.specs.Submissions.{Want, Takes, Punts, Links, Ask, ToPush, ToCut, ToRecord, ToMaster, Doing, Rests, Drives, Copies, Breaks, Submission}
 use Rattle.run_machine.specs.Tasks.{Gathered, NoBio, HasBio, HasBoth, Carried, Empty, Brings, Carries, Fails, TaskState, Writer, Rescuer, Completer, Keeper}
 use Rattle.run_machine.specs.Requests.{Request, Reply, Opening, Write, Chain, Master, Leg, GiveBio, GiveVec, GiveSlip, Punt, Push, Link, Drop, HadBio, HadVec, HadSlip, Popped, Completed, LinkedTo, DroppedTo}
 use Rattle.plain_core.specs.objects.Ledgers.{ledger_of}
@@ -71,8 +71,8 @@ doing_to to gone (Drives bio ask) = Drives (item_to to bio) (ask_to ask)
 doing_to to gone (Copies bio master leg want) = Copies (record bio { node = gone }) (to bio.writer master) leg (want_to want)
 doing_to to gone (Breaks breach kept) = Breaks breach kept
 
-abbrev pub line_to : Places → ℕ → Line → Line
-line_to to gone line = record { doing = doing_to to gone line.doing; lists = lists_to to line.lists }
+abbrev pub submission_to : Places → ℕ → Submission → Submission
+submission_to to gone submission = record { doing = doing_to to gone submission.doing; lists = lists_to to submission.lists }
 
 abbrev pub taken_to : Gathered → Gathered
 taken_to NoBio = NoBio
@@ -96,8 +96,8 @@ carried_to to gone (Carries writer closed) = Carries writer (closed_to (to write
 carried_to to gone (Fails breach kept) = Fails breach kept
 
 abbrev pub task_to : Places → ℕ → TaskState → TaskState
-task_to to gone (Writer number todo taken line) = Writer number todo (taken_to taken) (line_to to gone line)
-task_to to gone (Rescuer dev line) = Rescuer dev (line_to to gone line)
+task_to to gone (Writer number todo taken submission) = Writer number todo (taken_to taken) (submission_to to gone submission)
+task_to to gone (Rescuer dev submission) = Rescuer dev (submission_to to gone submission)
 task_to to gone (Completer disk carried) = Completer disk (carried_to to gone carried)
 task_to to gone (Keeper keeping) = Keeper keeping
 

@@ -18,12 +18,12 @@ use Rattle.bio_books.specs.Drops as end
 use Rattle.bio_books.specs.Links.{Made, NoRoom, Stray}
 use Rattle.run_machine.specs.declared.event.What.{What}
 use Rattle.run_machine.specs.Scene.{Setup, tree_at}
-use Rattle.run_machine.specs.Lines.{Takes, Punts as WantsPunt, Links, ToPush, ToCut, ToRecord, ToMaster, Doing, Rests, Drives, Copies, Breaks, first_length, mapped, legs_of, leg_at, cut_at, copies, goes_on, after_miss, line_request, line_answered}
+use Rattle.run_machine.specs.Submissions.{Takes, Punts as WantsPunt, Links, ToPush, ToCut, ToRecord, ToMaster, Doing, Rests, Drives, Copies, Breaks, first_length, mapped, legs_of, leg_at, cut_at, copies, goes_on, after_miss, submission_request, submission_answered}
 use Rattle.run_machine.specs.Tasks.{Todo, Gathered, NoBio, HasBio, HasBoth, Carried, Empty, Brings, Carries, Fails, Resizes, Starts, Keeping, Keeps, Stops, TaskState, Writer, Rescuer, Completer, Keeper, needs_vector, filled, filled_short, with_bio, write_request, writer_request, rescuer_request, closed_request, carried_request, keeper_request, request, after_drop, carried_answered, answered}
 use Rattle.run_machine.specs.Requests.{Request, Reply, Drop, HadBio, HadVec, HadSlip, Missed, Did, Popped, Completed, LinkedTo, DroppedTo, OutIs, Nothing}
 use Rattle.run_machine.specs.Objects.{Objects, Serves}
 use Rattle.run_machine.specs.Events.{what_of}
-use Rattle.trace_replay.proofs.renaming.Renaming.{Places, item_to, hand_to, want_to, taken_to, lists_to, doing_to, line_to, closed_to, carried_to, task_to, writer_in, reply_to}
+use Rattle.trace_replay.proofs.renaming.Renaming.{Places, item_to, hand_to, want_to, taken_to, lists_to, doing_to, submission_to, closed_to, carried_to, task_to, writer_in, reply_to}
 use Rattle.trace_replay.proofs.renaming.Lists.{settled_to, goes_to, copies_to, submitted_to, not_punted_to}
 
 -- the bio that a mirror copies has a leg left to make
@@ -34,8 +34,8 @@ HasLeg setup (Drives bio ask) = Unit {0}
 HasLeg setup (Breaks breach kept) = Unit {0}
 
 abbrev pub TaskHasLeg : Setup → TaskState → Type 0
-TaskHasLeg setup (Writer number todo taken line) = HasLeg setup line.doing
-TaskHasLeg setup (Rescuer dev line) = HasLeg setup line.doing
+TaskHasLeg setup (Writer number todo taken submission) = HasLeg setup submission.doing
+TaskHasLeg setup (Rescuer dev submission) = HasLeg setup submission.doing
 TaskHasLeg setup (Completer disk carried) = Unit {0}
 TaskHasLeg setup (Keeper keeping) = Unit {0}
 
@@ -45,15 +45,15 @@ untold event is = absurd cc
 
 module _ (setup : Setup) (to : Places) (gone fresh : ℕ) (ledger : ℕ → LedgerId) (old new : Objects) (event : What) where
   -- so it goes on, whatever the bio names that it has no use for
-  abbrev LineGoes : Doing → TaskLists → ℕ → Reply → Type 0
-  LineGoes doing lists writer reply =
-      (rest : ℕ) × (line_answered setup (doing_to to gone doing) (lists_to to lists) (reply_to to writer fresh reply) ≡ line_to to rest (line_answered setup doing lists reply))
+  abbrev SubmissionGoes : Doing → TaskLists → ℕ → Reply → Type 0
+  SubmissionGoes doing lists writer reply =
+      (rest : ℕ) × (submission_answered setup (doing_to to gone doing) (lists_to to lists) (reply_to to writer fresh reply) ≡ submission_to to rest (submission_answered setup doing lists reply))
 
   abbrev Serving : Request → Reply → Type 0
   Serving asked reply = Serves ledger old asked reply new × (what_of asked reply ≡ Some event)
 
   cut_to : (lists : TaskLists) (bio hand : Item Pad) (node : ℕ) (t : Tree)
-      → cut_at setup (lists_to to lists) (item_to to bio) (hand_to hand) (to bio.bio.writer node) t ≡ line_to to gone (cut_at setup lists bio hand node t)
+      → cut_at setup (lists_to to lists) (item_to to bio) (hand_to hand) (to bio.bio.writer node) t ≡ submission_to to gone (cut_at setup lists bio hand node t)
   cut_to lists bio hand node (Leaf number sectors) = refl
   cut_to lists bio hand node (Mirrored number sizes members) = refl
   cut_to lists bio hand node (Split number kind sizes members) =
@@ -74,48 +74,48 @@ module _ (setup : Setup) (to : Places) (gone fresh : ℕ) (ledger : ℕ → Ledg
   missed true = refl
   missed false = refl
 
-  line_goes : (doing : Doing) (lists : TaskLists) (reply : Reply) → HasLeg setup doing → Serving (line_request setup doing lists) reply
-      → LineGoes doing lists (writer_in (line_request setup doing lists)) reply
-  line_goes Rests lists reply has is = absurd is.0
-  line_goes (Breaks breach kept) lists reply has is = absurd is.0
-  line_goes (Drives bio ToPush) lists Did has is = (gone, goes_to to setup gone bio.bio.dev lists)
-  line_goes (Drives bio ToPush) lists _ has is = absurd is.0
-  line_goes (Drives bio (ToCut (Takes waits))) lists (HadBio got hand) has is = (gone, refl)
-  line_goes (Drives bio (ToCut (Takes waits))) lists (Missed used) has is =
+  submission_goes : (doing : Doing) (lists : TaskLists) (reply : Reply) → HasLeg setup doing → Serving (submission_request setup doing lists) reply
+      → SubmissionGoes doing lists (writer_in (submission_request setup doing lists)) reply
+  submission_goes Rests lists reply has is = absurd is.0
+  submission_goes (Breaks breach kept) lists reply has is = absurd is.0
+  submission_goes (Drives bio ToPush) lists Did has is = (gone, goes_to to setup gone bio.bio.dev lists)
+  submission_goes (Drives bio ToPush) lists _ has is = absurd is.0
+  submission_goes (Drives bio (ToCut (Takes waits))) lists (HadBio got hand) has is = (gone, refl)
+  submission_goes (Drives bio (ToCut (Takes waits))) lists (Missed used) has is =
       (gone, ap (λ want. record { doing = Drives (item_to to bio) (ToCut want); lists = lists_to to lists }) (missed waits))
-  line_goes (Drives bio (ToCut (Takes waits))) lists _ has is = absurd is.0
-  line_goes (Drives bio (ToCut WantsPunt)) lists Did has is =
+  submission_goes (Drives bio (ToCut (Takes waits))) lists _ has is = absurd is.0
+  submission_goes (Drives bio (ToCut WantsPunt)) lists Did has is =
       (gone, ap (λ l. record { doing = Drives (item_to to bio) (ToCut (Takes true)); lists = l }) (not_punted_to to bio.bio.dev lists))
-  line_goes (Drives bio (ToCut WantsPunt)) lists _ has is = absurd is.0
-  line_goes (Drives bio (ToCut (Links hand))) lists (LinkedTo (Made node)) has is = (gone, cut_to lists bio hand node (tree_at setup bio.bio.dev))
-  line_goes (Drives bio (ToCut (Links hand))) lists (LinkedTo (NoRoom back)) has is = untold event is.1
-  line_goes (Drives bio (ToCut (Links hand))) lists (LinkedTo (Stray back)) has is = untold event is.1
-  line_goes (Drives bio (ToCut (Links hand))) lists _ has is = absurd is.0
-  line_goes (Drives bio ToRecord) lists (HadSlip got slip) has is = (gone, refl)
-  line_goes (Drives bio ToRecord) lists (Missed used) has is = (gone, refl)
-  line_goes (Drives bio ToRecord) lists _ has is = absurd is.0
-  line_goes (Drives bio (ToMaster slip)) lists (LinkedTo (Made node)) has is =
+  submission_goes (Drives bio (ToCut WantsPunt)) lists _ has is = absurd is.0
+  submission_goes (Drives bio (ToCut (Links hand))) lists (LinkedTo (Made node)) has is = (gone, cut_to lists bio hand node (tree_at setup bio.bio.dev))
+  submission_goes (Drives bio (ToCut (Links hand))) lists (LinkedTo (NoRoom back)) has is = untold event is.1
+  submission_goes (Drives bio (ToCut (Links hand))) lists (LinkedTo (Stray back)) has is = untold event is.1
+  submission_goes (Drives bio (ToCut (Links hand))) lists _ has is = absurd is.0
+  submission_goes (Drives bio ToRecord) lists (HadSlip got slip) has is = (gone, refl)
+  submission_goes (Drives bio ToRecord) lists (Missed used) has is = (gone, refl)
+  submission_goes (Drives bio ToRecord) lists _ has is = absurd is.0
+  submission_goes (Drives bio (ToMaster slip)) lists (LinkedTo (Made node)) has is =
       (to bio.bio.writer bio.bio.node, copies_to to setup (to bio.bio.writer bio.bio.node) lists bio.bio node 0)
-  line_goes (Drives bio (ToMaster slip)) lists (LinkedTo (NoRoom back)) has is = untold event is.1
-  line_goes (Drives bio (ToMaster slip)) lists (LinkedTo (Stray back)) has is = untold event is.1
-  line_goes (Drives bio (ToMaster slip)) lists _ has is = absurd is.0
-  line_goes (Copies bio master leg (Takes waits)) lists (HadBio got hand) has is = (gone, refl)
-  line_goes (Copies bio master leg (Takes waits)) lists (Missed used) has is =
+  submission_goes (Drives bio (ToMaster slip)) lists (LinkedTo (NoRoom back)) has is = untold event is.1
+  submission_goes (Drives bio (ToMaster slip)) lists (LinkedTo (Stray back)) has is = untold event is.1
+  submission_goes (Drives bio (ToMaster slip)) lists _ has is = absurd is.0
+  submission_goes (Copies bio master leg (Takes waits)) lists (HadBio got hand) has is = (gone, refl)
+  submission_goes (Copies bio master leg (Takes waits)) lists (Missed used) has is =
       (gone, ap (λ want. record { doing = Copies (record bio { node = gone }) (to bio.writer master) leg want; lists = lists_to to lists }) (missed waits))
-  line_goes (Copies bio master leg (Takes waits)) lists _ has is = absurd is.0
-  line_goes (Copies bio master leg WantsPunt) lists Did has is =
+  submission_goes (Copies bio master leg (Takes waits)) lists _ has is = absurd is.0
+  submission_goes (Copies bio master leg WantsPunt) lists Did has is =
       (gone, ap (λ l. record { doing = Copies (record bio { node = gone }) (to bio.writer master) leg (Takes true); lists = l }) (not_punted_to to bio.dev lists))
-  line_goes (Copies bio master leg WantsPunt) lists _ has is = absurd is.0
-  line_goes (Copies bio master leg (Links hand)) lists (LinkedTo (Made node)) has is =
+  submission_goes (Copies bio master leg WantsPunt) lists _ has is = absurd is.0
+  submission_goes (Copies bio master leg (Links hand)) lists (LinkedTo (Made node)) has is =
       let item = leg_at bio hand leg node (tree_at setup bio.dev) in (
         gone,
         ap (λ i. copies setup (submitted i (lists_to to lists)) (record bio { node = gone }) (to bio.writer master) (leg + 1)) (leg_to bio hand leg node gone (tree_at setup bio.dev) has)
             ∙ ap (λ l. copies setup l (record bio { node = gone }) (to bio.writer master) (leg + 1)) (submitted_to to item lists)
             ∙ copies_to to setup gone (submitted item lists) bio master (leg + 1),
       )
-  line_goes (Copies bio master leg (Links hand)) lists (LinkedTo (NoRoom back)) has is = untold event is.1
-  line_goes (Copies bio master leg (Links hand)) lists (LinkedTo (Stray back)) has is = untold event is.1
-  line_goes (Copies bio master leg (Links hand)) lists _ has is = absurd is.0
+  submission_goes (Copies bio master leg (Links hand)) lists (LinkedTo (NoRoom back)) has is = untold event is.1
+  submission_goes (Copies bio master leg (Links hand)) lists (LinkedTo (Stray back)) has is = untold event is.1
+  submission_goes (Copies bio master leg (Links hand)) lists _ has is = absurd is.0
 
   -- a task
   abbrev Goes : TaskState → ℕ → Reply → Type 0
@@ -150,9 +150,9 @@ module _ (setup : Setup) (to : Places) (gone fresh : ℕ) (ledger : ℕ → Ledg
       → Goes (Writer writer todo taken (record { doing = doing; lists = lists })) (writer_in (writer_request setup writer todo taken doing (record { doing = doing; lists = lists }))) reply
   writer_goes writer todo taken Rests lists reply has is = write_goes writer todo taken lists reply is
   writer_goes writer todo taken (Drives bio ask) lists reply has is =
-      let line = line_goes (Drives bio ask) lists reply has is in (line.0, ap (Writer writer todo (taken_to taken)) line.1)
+      let submission = submission_goes (Drives bio ask) lists reply has is in (submission.0, ap (Writer writer todo (taken_to taken)) submission.1)
   writer_goes writer todo taken (Copies bio master leg want) lists reply has is =
-      let line = line_goes (Copies bio master leg want) lists reply has is in (line.0, ap (Writer writer todo (taken_to taken)) line.1)
+      let submission = submission_goes (Copies bio master leg want) lists reply has is in (submission.0, ap (Writer writer todo (taken_to taken)) submission.1)
   writer_goes writer todo taken (Breaks breach kept) lists reply has is = absurd is.0
 
   rescuer_goes : (dev : DevId) (doing : Doing) (lists : TaskLists) (reply : Reply) → HasLeg setup doing
@@ -161,9 +161,9 @@ module _ (setup : Setup) (to : Places) (gone fresh : ℕ) (ledger : ℕ → Ledg
   rescuer_goes dev Rests lists (Popped bio) has is = (gone, ap (Rescuer dev) (settled_to to setup gone (bio ∷ [])))
   rescuer_goes dev Rests lists Nothing has is = untold event is.1
   rescuer_goes dev Rests lists _ has is = absurd is.0
-  rescuer_goes dev (Drives bio ask) lists reply has is = let line = line_goes (Drives bio ask) lists reply has is in (line.0, ap (Rescuer dev) line.1)
+  rescuer_goes dev (Drives bio ask) lists reply has is = let submission = submission_goes (Drives bio ask) lists reply has is in (submission.0, ap (Rescuer dev) submission.1)
   rescuer_goes dev (Copies bio master leg want) lists reply has is =
-      let line = line_goes (Copies bio master leg want) lists reply has is in (line.0, ap (Rescuer dev) line.1)
+      let submission = submission_goes (Copies bio master leg want) lists reply has is in (submission.0, ap (Rescuer dev) submission.1)
   rescuer_goes dev (Breaks breach kept) lists reply has is = absurd is.0
 
   abbrev CarriedGoes : Carried → ℕ → Reply → Type 0
@@ -217,7 +217,7 @@ module _ (setup : Setup) (to : Places) (gone fresh : ℕ) (ledger : ℕ → Ledg
   keeper_goes (Stops breach) reply is = absurd is.0
 
   pub goes : (x : TaskState) (reply : Reply) → TaskHasLeg setup x → Serving (request setup x) reply → Goes x (writer_in (request setup x)) reply
-  goes (Writer number todo taken line) reply has is = writer_goes number todo taken line.doing line.lists reply has is
-  goes (Rescuer dev line) reply has is = rescuer_goes dev line.doing line.lists reply has is
+  goes (Writer number todo taken submission) reply has is = writer_goes number todo taken submission.doing submission.lists reply has is
+  goes (Rescuer dev submission) reply has is = rescuer_goes dev submission.doing submission.lists reply has is
   goes (Completer disk carried) reply has is = let on = carried_goes disk carried reply is in (on.0, ap (Completer disk) on.1)
   goes (Keeper keeping) reply has is = keeper_goes keeping reply is

@@ -8,25 +8,25 @@ use Rattle.bio_records.specs.Items.{Item}
 use Rattle.bio_books.specs.Books.{VectorItem, SlipItem}
 use Rattle.bio_books.specs.Drops.{Closed}
 use Rattle.run_machine.specs.Scene.{Setup}
-use Rattle.run_machine.specs.Lines.{Takes, Punts as WantsPunt, Links, ToPush, ToCut, ToRecord, ToMaster, Doing, Rests, Drives, Copies, Breaks, Line, line_request}
+use Rattle.run_machine.specs.Submissions.{Takes, Punts as WantsPunt, Links, ToPush, ToCut, ToRecord, ToMaster, Doing, Rests, Drives, Copies, Breaks, Submission, submission_request}
 use Rattle.run_machine.specs.Tasks.{Todo, Gathered, NoBio, HasBio, HasBoth, Carried, Empty, Brings, Carries, Fails, TaskState, Writer, Rescuer, Completer, Keeper, Keeps, Stops, Resizes, Starts, needs_vector, with_bio, write_request, writer_request, rescuer_request, closed_request, carried_request, keeper_request, Keeping, request, look_of, writer_look}
 use Rattle.run_machine.specs.Requests.{Punt}
-use Rattle.trace_replay.proofs.renaming.Renaming.{Places, item_with, vector_to, slip_to, taken_to, lists_to, doing_to, line_to, closed_to, carried_to, task_to, request_to}
+use Rattle.trace_replay.proofs.renaming.Renaming.{Places, item_with, vector_to, slip_to, taken_to, lists_to, doing_to, submission_to, closed_to, carried_to, task_to, request_to}
 use Rattle.trace_replay.proofs.renaming.Lists.{punted_to}
 
 module _ (setup : Setup) (to : Places) (gone : ℕ) where
-  line_asks : (doing : Doing) (lists : TaskLists) → line_request setup (doing_to to gone doing) (lists_to to lists) ≡ request_to to gone (line_request setup doing lists)
-  line_asks Rests lists = refl
-  line_asks (Breaks breach kept) lists = refl
-  line_asks (Drives bio ToPush) lists = refl
-  line_asks (Drives bio (ToCut (Takes waits))) lists = refl
-  line_asks (Drives bio (ToCut WantsPunt)) lists = ap (Punt bio.bio.dev) (punted_to to bio.bio.dev lists)
-  line_asks (Drives bio (ToCut (Links hand))) lists = refl
-  line_asks (Drives bio ToRecord) lists = refl
-  line_asks (Drives bio (ToMaster slip)) lists = refl
-  line_asks (Copies bio master leg (Takes waits)) lists = refl
-  line_asks (Copies bio master leg WantsPunt) lists = ap (Punt bio.dev) (punted_to to bio.dev lists)
-  line_asks (Copies bio master leg (Links hand)) lists = refl
+  submission_asks : (doing : Doing) (lists : TaskLists) → submission_request setup (doing_to to gone doing) (lists_to to lists) ≡ request_to to gone (submission_request setup doing lists)
+  submission_asks Rests lists = refl
+  submission_asks (Breaks breach kept) lists = refl
+  submission_asks (Drives bio ToPush) lists = refl
+  submission_asks (Drives bio (ToCut (Takes waits))) lists = refl
+  submission_asks (Drives bio (ToCut WantsPunt)) lists = ap (Punt bio.bio.dev) (punted_to to bio.bio.dev lists)
+  submission_asks (Drives bio (ToCut (Links hand))) lists = refl
+  submission_asks (Drives bio ToRecord) lists = refl
+  submission_asks (Drives bio (ToMaster slip)) lists = refl
+  submission_asks (Copies bio master leg (Takes waits)) lists = refl
+  submission_asks (Copies bio master leg WantsPunt) lists = ap (Punt bio.dev) (punted_to to bio.dev lists)
+  submission_asks (Copies bio master leg (Links hand)) lists = refl
 
   bio_asks : (writer : ℕ) (todo : Todo) (long : Bool) → with_bio writer long todo ≡ request_to to gone (with_bio writer long todo)
   bio_asks writer todo true = refl
@@ -38,19 +38,19 @@ module _ (setup : Setup) (to : Places) (gone : ℕ) where
   write_asks writer (todo ∷ later) (HasBio bio) = bio_asks writer todo (needs_vector todo.write)
   write_asks writer (todo ∷ later) (HasBoth bio vector) = refl
 
-  writer_asks : (writer : ℕ) (todo : List Todo) (taken : Gathered) (doing : Doing) (line : Line)
-      → writer_request setup writer todo (taken_to taken) (doing_to to gone doing) (line_to to gone line) ≡ request_to to gone (writer_request setup writer todo taken doing line)
-  writer_asks writer todo taken Rests line = write_asks writer todo taken
-  writer_asks writer todo taken (Drives bio ask) line = line_asks (Drives bio ask) line.lists
-  writer_asks writer todo taken (Copies bio master leg want) line = line_asks (Copies bio master leg want) line.lists
-  writer_asks writer todo taken (Breaks breach kept) line = refl
+  writer_asks : (writer : ℕ) (todo : List Todo) (taken : Gathered) (doing : Doing) (submission : Submission)
+      → writer_request setup writer todo (taken_to taken) (doing_to to gone doing) (submission_to to gone submission) ≡ request_to to gone (writer_request setup writer todo taken doing submission)
+  writer_asks writer todo taken Rests submission = write_asks writer todo taken
+  writer_asks writer todo taken (Drives bio ask) submission = submission_asks (Drives bio ask) submission.lists
+  writer_asks writer todo taken (Copies bio master leg want) submission = submission_asks (Copies bio master leg want) submission.lists
+  writer_asks writer todo taken (Breaks breach kept) submission = refl
 
-  rescuer_asks : (dev : DevId) (doing : Doing) (line : Line)
-      → rescuer_request setup dev (doing_to to gone doing) (line_to to gone line) ≡ request_to to gone (rescuer_request setup dev doing line)
-  rescuer_asks dev Rests line = refl
-  rescuer_asks dev (Drives bio ask) line = line_asks (Drives bio ask) line.lists
-  rescuer_asks dev (Copies bio master leg want) line = line_asks (Copies bio master leg want) line.lists
-  rescuer_asks dev (Breaks breach kept) line = refl
+  rescuer_asks : (dev : DevId) (doing : Doing) (submission : Submission)
+      → rescuer_request setup dev (doing_to to gone doing) (submission_to to gone submission) ≡ request_to to gone (rescuer_request setup dev doing submission)
+  rescuer_asks dev Rests submission = refl
+  rescuer_asks dev (Drives bio ask) submission = submission_asks (Drives bio ask) submission.lists
+  rescuer_asks dev (Copies bio master leg want) submission = submission_asks (Copies bio master leg want) submission.lists
+  rescuer_asks dev (Breaks breach kept) submission = refl
 
   closed_asks : (writer : ℕ) (closed : Closed) (vector : Option VectorItem) (bio : Option (Item Pad)) (slip : Option SlipItem) (parent : Option ℕ)
       → closed_request writer (closed_to (to writer) gone closed) (option_map vector_to vector) (option_map (item_with gone) bio) (option_map slip_to slip) (option_map (to writer) parent)
@@ -74,8 +74,8 @@ module _ (setup : Setup) (to : Places) (gone : ℕ) where
   keeper_asks (Stops breach) = refl
 
   pub asks : (x : TaskState) → request setup (task_to to gone x) ≡ request_to to gone (request setup x)
-  asks (Writer number todo taken line) = writer_asks number todo taken line.doing line
-  asks (Rescuer dev line) = rescuer_asks dev line.doing line
+  asks (Writer number todo taken submission) = writer_asks number todo taken submission.doing submission
+  asks (Rescuer dev submission) = rescuer_asks dev submission.doing submission
   asks (Completer disk carried) = carried_asks disk carried
   asks (Keeper keeping) = keeper_asks keeping
 
@@ -89,7 +89,7 @@ module _ (setup : Setup) (to : Places) (gone : ℕ) where
   look_by (todo ∷ later) (HasBoth bio vector) doing = refl
 
   pub looks : (x : TaskState) → look_of (task_to to gone x) ≡ look_of x
-  looks (Writer number todo taken line) = look_by todo taken line.doing
-  looks (Rescuer dev line) = refl
+  looks (Writer number todo taken submission) = look_by todo taken submission.doing
+  looks (Rescuer dev submission) = refl
   looks (Completer disk carried) = refl
   looks (Keeper keeping) = refl

@@ -117,9 +117,9 @@ module _ (scene : Scene) (naming : (number : ℕ) → (scene.ledger number).no �
 
 -- where nothing has begun, all is alike
 begun_to : (scene : Scene) (to : Places) (x : TaskState) → Begins scene x → x ≡ task_to to 0 x
-begun_to scene to (Writer number todo taken line) begins =
-    ap (λ t. Writer number todo t line) begins.1 ∙ ap (Writer number todo NoBio) begins.2 ∙ sym (ap (λ t. task_to to 0 (Writer number todo t line)) begins.1 ∙ ap (λ l. task_to to 0 (Writer number todo NoBio l)) begins.2)
-begun_to scene to (Rescuer dev line) begins = ap (Rescuer dev) begins.1 ∙ sym (ap (λ l. task_to to 0 (Rescuer dev l)) begins.1)
+begun_to scene to (Writer number todo taken submission) begins =
+    ap (λ t. Writer number todo t submission) begins.1 ∙ ap (Writer number todo NoBio) begins.2 ∙ sym (ap (λ t. task_to to 0 (Writer number todo t submission)) begins.1 ∙ ap (λ l. task_to to 0 (Writer number todo NoBio l)) begins.2)
+begun_to scene to (Rescuer dev submission) begins = ap (Rescuer dev) begins.1 ∙ sym (ap (λ l. task_to to 0 (Rescuer dev l)) begins.1)
 begun_to scene to (Completer disk carried) begins = ap (Completer disk) begins.1 ∙ sym (ap (λ c. task_to to 0 (Completer disk c)) begins.1)
 begun_to scene to (Keeper keeping) begins = refl
 

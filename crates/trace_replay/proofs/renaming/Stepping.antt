@@ -12,7 +12,7 @@ use Rattle.bio_books.specs.Drops.{Closed}
 use Rattle.run_machine.specs.declared.event.Event.{Event}
 use Rattle.run_machine.specs.Maps.{upd}
 use Rattle.run_machine.specs.Scene.{Scene, Setup}
-use Rattle.run_machine.specs.Lines.{Takes, Punts as WantsPunt, Links, ToPush, ToCut, ToRecord, ToMaster, Doing, Rests, Drives, Copies, Breaks, Line, line_request}
+use Rattle.run_machine.specs.Submissions.{Takes, Punts as WantsPunt, Links, ToPush, ToCut, ToRecord, ToMaster, Doing, Rests, Drives, Copies, Breaks, Submission, submission_request}
 use Rattle.run_machine.specs.Tasks.{Todo, Gathered, NoBio, HasBio, HasBoth, Carried, Empty, Brings, Carries, Fails, Resizes, Starts, Keeping, Keeps, Stops, TaskState, Writer, Rescuer, Completer, Keeper, needs_vector, with_bio, write_request, writer_request, rescuer_request, closed_request, carried_request, keeper_request, request, look_of, answered}
 use Rattle.run_machine.specs.Requests.{Request, Present, LeftOver}
 use Rattle.run_machine.specs.Objects.{Objects, Serves}
@@ -42,8 +42,8 @@ doing_leg setup (Copies bio master leg want) lists fits = fits
 doing_leg setup (Breaks breach kept) lists fits = tt
 
 pub has_leg : (scene : Scene) (x : TaskState) → TaskFits scene x → TaskHasLeg scene.setup x
-has_leg scene (Writer number todo taken line) fits = doing_leg scene.setup line.doing line.lists fits.1
-has_leg scene (Rescuer dev line) fits = doing_leg scene.setup line.doing line.lists fits.1
+has_leg scene (Writer number todo taken submission) fits = doing_leg scene.setup submission.doing submission.lists fits.1
+has_leg scene (Rescuer dev submission) fits = doing_leg scene.setup submission.doing submission.lists fits.1
 has_leg scene (Completer disk carried) fits = tt
 has_leg scene (Keeper keeping) fits = tt
 
@@ -52,18 +52,18 @@ module _ (scene : Scene) where
   abbrev Within : Request → Type 0
   Within = IsWithin scene.setup.count
 
-  line_within : (doing : Doing) (lists : TaskLists) → Within (line_request scene.setup doing lists)
-  line_within Rests lists = tt
-  line_within (Breaks breach kept) lists = tt
-  line_within (Drives bio ToPush) lists = tt
-  line_within (Drives bio (ToCut (Takes waits))) lists = tt
-  line_within (Drives bio (ToCut WantsPunt)) lists = tt
-  line_within (Drives bio (ToCut (Links hand))) lists = tt
-  line_within (Drives bio ToRecord) lists = tt
-  line_within (Drives bio (ToMaster slip)) lists = tt
-  line_within (Copies bio master leg (Takes waits)) lists = tt
-  line_within (Copies bio master leg WantsPunt) lists = tt
-  line_within (Copies bio master leg (Links hand)) lists = tt
+  submission_within : (doing : Doing) (lists : TaskLists) → Within (submission_request scene.setup doing lists)
+  submission_within Rests lists = tt
+  submission_within (Breaks breach kept) lists = tt
+  submission_within (Drives bio ToPush) lists = tt
+  submission_within (Drives bio (ToCut (Takes waits))) lists = tt
+  submission_within (Drives bio (ToCut WantsPunt)) lists = tt
+  submission_within (Drives bio (ToCut (Links hand))) lists = tt
+  submission_within (Drives bio ToRecord) lists = tt
+  submission_within (Drives bio (ToMaster slip)) lists = tt
+  submission_within (Copies bio master leg (Takes waits)) lists = tt
+  submission_within (Copies bio master leg WantsPunt) lists = tt
+  submission_within (Copies bio master leg (Links hand)) lists = tt
 
   bio_within : (writer : ℕ) (todo : Todo) (long : Bool) → Within (with_bio writer long todo)
   bio_within writer todo true = tt
@@ -75,17 +75,17 @@ module _ (scene : Scene) where
   write_within writer (todo ∷ later) (HasBio bio) = bio_within writer todo (needs_vector todo.write)
   write_within writer (todo ∷ later) (HasBoth bio vector) = tt
 
-  writer_within : (writer : ℕ) (todo : List Todo) (taken : Gathered) (doing : Doing) (line : Line) → Within (writer_request scene.setup writer todo taken doing line)
-  writer_within writer todo taken Rests line = write_within writer todo taken
-  writer_within writer todo taken (Drives bio ask) line = line_within (Drives bio ask) line.lists
-  writer_within writer todo taken (Copies bio master leg want) line = line_within (Copies bio master leg want) line.lists
-  writer_within writer todo taken (Breaks breach kept) line = tt
+  writer_within : (writer : ℕ) (todo : List Todo) (taken : Gathered) (doing : Doing) (submission : Submission) → Within (writer_request scene.setup writer todo taken doing submission)
+  writer_within writer todo taken Rests submission = write_within writer todo taken
+  writer_within writer todo taken (Drives bio ask) submission = submission_within (Drives bio ask) submission.lists
+  writer_within writer todo taken (Copies bio master leg want) submission = submission_within (Copies bio master leg want) submission.lists
+  writer_within writer todo taken (Breaks breach kept) submission = tt
 
-  rescuer_within : (dev : DevId) (doing : Doing) (line : Line) → dev.0 < scene.setup.count → Within (rescuer_request scene.setup dev doing line)
-  rescuer_within dev Rests line lt = lt
-  rescuer_within dev (Drives bio ask) line lt = line_within (Drives bio ask) line.lists
-  rescuer_within dev (Copies bio master leg want) line lt = line_within (Copies bio master leg want) line.lists
-  rescuer_within dev (Breaks breach kept) line lt = tt
+  rescuer_within : (dev : DevId) (doing : Doing) (submission : Submission) → dev.0 < scene.setup.count → Within (rescuer_request scene.setup dev doing submission)
+  rescuer_within dev Rests submission lt = lt
+  rescuer_within dev (Drives bio ask) submission lt = submission_within (Drives bio ask) submission.lists
+  rescuer_within dev (Copies bio master leg want) submission lt = submission_within (Copies bio master leg want) submission.lists
+  rescuer_within dev (Breaks breach kept) submission lt = tt
 
   closed_within : (writer : ℕ) (closed : Closed) (vector : Option VectorItem) (bio : Option (Item Pad)) (slip : Option SlipItem) (parent : Option ℕ)
       → Within (closed_request writer closed vector bio slip parent)
@@ -108,8 +108,8 @@ module _ (scene : Scene) where
   keeper_within (Stops breach) = tt
 
   is_within : (x : TaskState) → TaskFits scene x → Within (request scene.setup x)
-  is_within (Writer number todo taken line) fits = writer_within number todo taken line.doing line
-  is_within (Rescuer dev line) fits = rescuer_within dev line.doing line fits.0
+  is_within (Writer number todo taken submission) fits = writer_within number todo taken submission.doing submission
+  is_within (Rescuer dev submission) fits = rescuer_within dev submission.doing submission fits.0
   is_within (Completer disk carried) fits = carried_within disk carried fits
   is_within (Keeper keeping) fits = keeper_within keeping
 
@@ -134,14 +134,14 @@ module _ (ledger : ℕ → LedgerId) (one other : Objects) (tally : other.tally 
   keeper_let (Stops breach) is = tt
 
   is_let : (x : TaskState) → IsLet ledger one x (look_of x) → IsLet ledger_of other (task_to to gone x) (look_of x)
-  is_let (Writer number todo taken line) is = writer_let number todo taken line.doing line.lists is
-  is_let (Rescuer dev line) is = tt
+  is_let (Writer number todo taken submission) is = writer_let number todo taken submission.doing submission.lists is
+  is_let (Rescuer dev submission) is = tt
   is_let (Completer disk carried) is = tt
   is_let (Keeper keeping) is = keeper_let keeping is
 
 id_to : (to : Places) (gone : ℕ) (x : TaskState) → id_of (task_to to gone x) ≡ id_of x
-id_to to gone (Writer number todo taken line) = refl
-id_to to gone (Rescuer dev line) = refl
+id_to to gone (Writer number todo taken submission) = refl
+id_to to gone (Rescuer dev submission) = refl
 id_to to gone (Completer disk carried) = refl
 id_to to gone (Keeper keeping) = refl
 

@@ -2,7 +2,7 @@ use Rattle.std.proofs.Common.{◌≡◌, ◌+◌, ◌++◌, List, [], ◌∷◌,
 use Rattle.std.specs.Prelude.{option_to_list}
 use Rattle.bio_records.specs.declared.bio.Pad.{Pad}
 use Rattle.bio_records.specs.Items.{Item}
-use Rattle.run_machine.specs.Lines.{is_of}
+use Rattle.run_machine.specs.Submissions.{is_of}
 use Rattle.plain_core.proofs.object_lemmas.Sifted.{next_of, sorted_more}
 use Rattle.plain_core.proofs.objects.lists.sift.Goals as goal
 

@@ -1,7 +1,7 @@
 use Rattle.std.proofs.Common.{◌≡◌, ◌+◌, ◌≤◌, ◌++◌, length, drop, take, not}
 use Rattle.std.specs.Prelude.{filter}
 use Rattle.std.specs.VecDeque.{deque_capacity}
-use Rattle.run_machine.specs.Lines.{is_of}
+use Rattle.run_machine.specs.Submissions.{is_of}
 use Rattle.plain_core.proofs.objects.lists.sift.Given as goal
 
 -- those before this place were moved, or stand behind the others

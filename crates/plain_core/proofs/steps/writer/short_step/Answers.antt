@@ -3,7 +3,7 @@ use Rattle.bio_records.specs.Segments.{segments_of}
 use Rattle.bio_books.specs.Links.{Made}
 use Rattle.run_machine.specs.Requests.{Link, Write, LinkedTo}
 use Rattle.run_machine.specs.Tasks.{Todo, first_bio, filled_short}
-use Rattle.plain_core.specs.steps.Views.{gathered_of_plain, line_of_plain, writer_of}
+use Rattle.plain_core.specs.steps.Views.{gathered_of_plain, submission_of_plain, writer_of}
 use Rattle.plain_core.specs.steps.Answers.{IsAnswer}
 use Rattle.plain_core.proofs.step_lemmas.Tasks.{short_begun}
 use Rattle.plain_core.proofs.steps.writer.short_step.Goals as goal
@@ -16,6 +16,6 @@ returns-in-Ok c =
     c.with_data.ensures
     ∙ (λ k. record part { pad = record { leg = 0 }; bio = c.first_bio-bio.ensures k; short = segments_of (c.data_of.ensures k).first (c.data_of.ensures k).count })
     ∙ (λ k. record part { pad = record { leg = 0 }; bio = first_bio w.number c.args.next.now c.in-Ok.node; short = segments_of (c.next.view_is k).write.tag (c.next.view_is k).write.count }) in
-    short_begun c.args.routes.now c.args.objects.now c.open_write.new.objects w.number w.todo (drop 1 w.todo) c.args.next.now (gathered_of_plain w.taken) (line_of_plain w.line) c.args.what.now
+    short_begun c.args.routes.now c.args.objects.now c.open_write.new.objects w.number w.todo (drop 1 w.todo) c.args.next.now (gathered_of_plain w.taken) (submission_of_plain w.submission) c.args.what.now
     c.requires.rests c.requires.next part c.with_data.result c.in-Ok.node (writer_of c.begin.new.writer) c.requires.taken c.requires.needs filled c.begin.ensures
     (subst (λ (t : Todo). IsAnswer c.args.objects.now (Link w.number (Write t.number None)) c.args.what.now (LinkedTo (Made c.in-Ok.node)) c.open_write.new.objects) c.next.view_is c.in-Ok.ensures)

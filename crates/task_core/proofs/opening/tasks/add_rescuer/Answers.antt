@@ -1,7 +1,7 @@
 use Rattle.std.proofs.Common.{◌++◌, ◌∷◌, [], ◌∙◌, Bool, ap, cond, map, sym}
 use Rattle.std.proofs.lemmas.List.{map-append}
 use Rattle.task_steps.specs.declared.task.Kind.TheVariants as kind
-use Rattle.run_machine.specs.Lines.{rests}
+use Rattle.run_machine.specs.Submissions.{rests}
 use Rattle.task_core.specs.opened.NewTasks.{shown_tasks}
 use Rattle.run_machine.specs.Opened.{at}
 use Rattle.task_steps.specs.RescuerViews.{RescuerState, rescuer_task}

@@ -1,4 +1,4 @@
-use Rattle.run_machine.specs.Lines.{rests}
+use Rattle.run_machine.specs.Submissions.{rests}
 use Rattle.task_core.specs.opened.NewTasks.{rescuers_of}
 use Rattle.run_machine.specs.Opened.{at}
 use Rattle.task_steps.specs.Routed.{routing_setup}

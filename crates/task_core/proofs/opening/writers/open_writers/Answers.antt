@@ -1,4 +1,4 @@
-use Rattle.run_machine.specs.Lines.{rests}
+use Rattle.run_machine.specs.Submissions.{rests}
 use Rattle.task_core.specs.opened.NewTasks.{is_writer, share_of, writers_of}
 use Rattle.run_machine.specs.Tasks.{NoBio, Writer}
 use Rattle.task_core.proofs.opened.Sharing.{adds_more, kept_split, placed_more}

@@ -3,7 +3,7 @@ use Rattle.task_steps.specs.Routed.{routing_setup}
 use Rattle.task_steps.specs.Stage.{Owes}
 use Rattle.task_steps.specs.Turns.{Turns}
 use Rattle.task_steps.specs.RescuerViews.{RescuerState, rescuer_task}
-use Rattle.task_steps.proofs.TurnLemmas.{line_turns_rescuer}
+use Rattle.task_steps.proofs.TurnLemmas.{submission_turns_rescuer}
 use Rattle.task_steps.proofs.rescuer.Rescuer.step.Goals as goal
 
 -- the step of its submission is its own
@@ -16,9 +16,9 @@ returns-then-asks g c =
     let next = c.step.new.self in
     record {
       does = record {
-        turns = subst (λ (r : RescuerState). Turns serves owes known (rescuer_task r) c.args.objects.now (rescuer_task (record { dev = dev; line = next })) c.step.new.objects c.step.result)
+        turns = subst (λ (r : RescuerState). Turns serves owes known (rescuer_task r) c.args.objects.now (rescuer_task (record { dev = dev; submission = next })) c.step.new.objects c.step.result)
             c.self.view_is
-            (line_turns_rescuer serves owes known dev c.self.inside.line next c.args.objects.now c.step.new.objects c.step.result
+            (submission_turns_rescuer serves owes known dev c.self.inside.submission next c.args.objects.now c.step.new.objects c.step.result
             (sym c.asks.ensures ∙ c.if-asks.true) c.step.ensures.does.answers);
         held = c.step.ensures.does.held;
         same = c.step.ensures.does.same;

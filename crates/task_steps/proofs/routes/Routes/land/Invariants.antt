@@ -1,6 +1,6 @@
 use Rattle.std.proofs.Common.{◌≡◌}
 use Rattle.stack_base.specs.Tree.{tree}
-use Rattle.run_machine.specs.Lines.{landed}
+use Rattle.run_machine.specs.Submissions.{landed}
 use Rattle.task_steps.specs.Within.{IsWithinDevice}
 use Rattle.task_steps.proofs.routes.Routes.land.Given as goal
 

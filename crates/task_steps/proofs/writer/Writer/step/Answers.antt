@@ -3,7 +3,7 @@ use Rattle.task_steps.specs.Routed.{routing_setup}
 use Rattle.task_steps.specs.Stage.{Owes}
 use Rattle.task_steps.specs.Turns.{Turns}
 use Rattle.task_steps.specs.WriterViews.{WriterState, writer_task, gathered_of}
-use Rattle.task_steps.proofs.TurnLemmas.{line_turns_writer}
+use Rattle.task_steps.proofs.TurnLemmas.{submission_turns_writer}
 use Rattle.task_steps.proofs.writer.Writer.step.Goals as goal
 
 -- the step of its submission is its own
@@ -14,11 +14,11 @@ returns-then-asks g c =
     let known = routing_setup c.args.routes.now in
     let w = c.self.inside in
     let next = c.step.new.self in
-    let after : WriterState = record { number = w.number; todo = w.todo; taken = gathered_of w.taken; line = next } in
+    let after : WriterState = record { number = w.number; todo = w.todo; taken = gathered_of w.taken; submission = next } in
     record {
       does = record {
         turns = subst (λ (s : WriterState). Turns serves owes known (writer_task s) c.args.objects.now (writer_task after) c.step.new.objects c.step.result) c.self.view_is
-            (line_turns_writer serves owes known w.number w.todo (gathered_of w.taken) w.line next c.args.objects.now c.step.new.objects c.step.result
+            (submission_turns_writer serves owes known w.number w.todo (gathered_of w.taken) w.submission next c.args.objects.now c.step.new.objects c.step.result
             (sym c.asks.ensures ∙ c.if-asks.true) c.step.ensures.does.answers);
         held = c.step.ensures.does.held;
         same = c.step.ensures.does.same;

@@ -22,9 +22,9 @@ returns g c =
       does = record {
         asks = λ setup.
             subst (λ (next : TaskState). Asks serves owes setup (writer_task w) old next new step) (sym c.take_in.ensures)
-            (bio_asks serves owes setup w.number w.todo w.taken w.line came old new step c.requires.rests c.requires.none c.requires.some
-            (λ todo later. subst (λ (s : WriterState). WriteAnswers serves owes setup s.number (TakeBio Fs true) (todo ∷ later) NoBio w.line old (tried came s.number (todo ∷ later) w.line) new step)
-            c.self.view_is (c.take_bio-attempt.ensures.does.came setup todo later w.line)));
+            (bio_asks serves owes setup w.number w.todo w.taken w.submission came old new step c.requires.rests c.requires.none c.requires.some
+            (λ todo later. subst (λ (s : WriterState). WriteAnswers serves owes setup s.number (TakeBio Fs true) (todo ∷ later) NoBio w.submission old (tried came s.number (todo ∷ later) w.submission) new step)
+            c.self.view_is (c.take_bio-attempt.ensures.does.came setup todo later w.submission)));
         held = c.take_bio-attempt.ensures.does.held;
         same = c.take_bio-attempt.ensures.does.same;
       };

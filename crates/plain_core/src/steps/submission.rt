@@ -1,0 +1,182 @@
+//! Steps of submissions.
+ghost use Rattle.std.specs.Prelude.{◌≡◌, ◌<◌, length, IfOk};
+ghost use Rattle.run_machine.specs.Submissions.{landed_doing, goes_on};
+ghost use Rattle.task_steps.specs.Routed.{routing_setup};
+ghost use Rattle.task_steps.specs.Within.{IsWithinDevice, ListsAreWithin, DoingFits, SubmissionFits};
+ghost use Rattle.plain_core.specs.objects.Lists.{lists_of, ListsHaveCapacity};
+ghost use Rattle.plain_core.specs.steps.Views.{ask_of_plain, doing_of_plain, submission_of_plain, want_of_plain};
+ghost use Rattle.plain_core.specs.declared.steps.submission.Next.TheVariants as then;
+ghost use Rattle.plain_core.specs.steps.Submissions.{SubmissionMoves, CanTurn, turned, drives_for, IsFirstAsk, DriveSteps, DoingSteps};
+
+pub(crate) mod cut;
+pub(crate) mod mirror;
+pub(crate) mod take;
+
+use crate::fault::CoreFault;
+use crate::objects::Objects;
+use crate::objects::lists::Lists;
+use crate::objects::part::Part;
+use crate::steps::submission::cut::cut_step;
+use crate::steps::submission::mirror::{begin_copy, copy_step};
+use crate::steps::submission::take::take_slip;
+use crate::steps::task::{Ask, Doing, Submission, Want};
+use bio_records::Bio;
+use stack_base::DevId;
+use task_core::{Manner, Routes, What};
+
+/// What comes behind an answer to what a submission asked for. A step changes what the submission does in its place, as long as it goes on with
+/// that, and answers this for `turn` to do.
+#[derive(Drop)]
+pub enum Next {
+    /// It goes on with what it does.
+    Stays,
+    /// The driver of this device has returned.
+    Returns(DevId),
+    /// A mirror copies this bio, for the master at this place.
+    Copies(Bio, u32),
+}
+
+// What the driver of a device does first with a bio.
+fn first_ask(routes: &Routes, dev: DevId, lists: &Lists) -> Ask
+    requires { dev.0 < length routes.now.stack.devices.items }
+    ensures { IsFirstAsk routes.now (lists_of lists.now) dev (ask_of_plain result) }
+{
+    match routes.manner(dev) {
+        Manner::Keeps => Ask::ToPush,
+        Manner::Cuts => Ask::ToCut(Want::Takes(routes.waits_first(dev, lists))),
+        Manner::Copies => Ask::ToRecord,
+    }
+}
+
+// A bio is served next.
+pub fn drive(routes: &Routes, part: Part, submission: &mut Submission)
+    requires { IsWithinDevice routes.now.stack part.bio }
+    ensures { submission_of_plain submission.new ≡ record { doing = landed_doing (routing_setup routes.now) (lists_of submission.old.lists) part; lists = lists_of submission.old.lists } }
+{
+    let at = routes.land(part.bio());
+    let ask = first_ask(routes, at.dev, &submission.lists);
+    submission.doing = Doing::Drives(part.with(at, part.pad()), ask);
+}
+
+// The driver of this device has returned.
+pub(crate) fn go_on(routes: &Routes, dev: DevId, submission: &mut Submission)
+    requires room { ListsHaveCapacity 0 submission.old.lists }
+    requires within { ListsAreWithin routes.now.stack (lists_of submission.old.lists) }
+    ensures { submission_of_plain submission.new ≡ goes_on (routing_setup routes.now) dev (lists_of submission.old.lists) }
+{
+    match submission.lists.next(dev) {
+        None => submission.doing = Doing::Rests,
+        Some(part) => drive(routes, part, submission),
+    }
+}
+
+// A driver goes on with what it does, and wants this.
+pub(crate) fn stay(want: &mut Want, next: Want) -> Next
+    ensures want { want_of_plain want.new ≡ want_of_plain next }
+    ensures stays { result ≡ then.Stays }
+{
+    *want = next;
+    Next::Stays
+}
+
+// The driver of a bio's device goes on.
+fn drive_step(
+    routes: &Routes,
+    objects: &mut Objects,
+    part: &Part,
+    ask: &mut Ask,
+    lists: &mut Lists,
+    what: &What,
+) -> Result<Next, CoreFault>
+    requires stack { objects.old.stack ≡ routes.now.stack }
+    requires fits { DoingFits routes.now.stack (drives_for part.now (ask_of_plain ask.old)) }
+    requires lists { ListsAreWithin routes.now.stack (lists_of lists.old) }
+    ensures steps { DriveSteps routes.now objects.old part.now ask.old lists.old what.now result objects.new ask.new lists.new }
+    ensures turns { IfOk result (CanTurn routes.now.stack lists.new) }
+{
+    routes.known();
+    let bio = part.bio();
+    match ask {
+        Ask::ToPush => match objects.push(part, lists, what) {
+            Err(fault) => Err(fault),
+            Ok(()) => Ok(Next::Returns(bio.dev)),
+        },
+        Ask::ToCut(want) => cut_step(routes, objects, part, want, lists, what),
+        Ask::ToRecord => match take_slip(objects, bio.dev, what) {
+            Err(fault) => Err(fault),
+            Ok(None) => Ok(Next::Stays),
+            Ok(Some(slip)) => {
+                *ask = Ask::ToMaster(slip);
+                Ok(Next::Stays)
+            }
+        },
+        Ask::ToMaster(slip) => {
+            match objects.open_master(part, slip, routes.legs(bio.dev), lists, what) {
+                Err(fault) => Err(fault),
+                Ok(node) => Ok(Next::Copies(bio, node)),
+            }
+        }
+    }
+}
+
+// What comes behind an answer is done.
+fn turn(routes: &Routes, next: Next, submission: &mut Submission)
+    requires { CanTurn routes.now.stack submission.old.lists next }
+    ensures { submission_of_plain submission.new ≡ turned (routing_setup routes.now) (doing_of_plain submission.old.doing) (lists_of submission.old.lists) next }
+{
+    match next {
+        Next::Stays => {}
+        Next::Returns(dev) => go_on(routes, dev, submission),
+        Next::Copies(bio, master) => begin_copy(routes, bio, master, submission),
+    }
+}
+
+// What a submission asks for is answered, and it is changed in its place where it goes on with what it does.
+fn answer(
+    routes: &Routes,
+    objects: &mut Objects,
+    doing: &mut Doing,
+    lists: &mut Lists,
+    what: &What,
+) -> Result<Next, CoreFault>
+    requires stack { objects.old.stack ≡ routes.now.stack }
+    requires fits { DoingFits routes.now.stack (doing_of_plain doing.old) }
+    requires lists { ListsAreWithin routes.now.stack (lists_of lists.old) }
+    ensures steps { DoingSteps routes.now objects.old doing.old lists.old what.now result objects.new doing.new lists.new }
+    ensures turns { IfOk result (CanTurn routes.now.stack lists.new) }
+{
+    match doing {
+        Doing::Rests => Err(CoreFault::NotEnabled),
+        Doing::Drives(part, ask) => drive_step(routes, objects, part, ask, lists, what),
+        Doing::Copies(copying, want) => copy_step(routes, objects, copying, want, lists, what),
+    }
+}
+
+/// A submission goes on with what the event tells, where its next request can be answered so.
+///
+/// # Errors
+/// Where it can't, or where it can, but there is no memory for it. Then nothing is changed.
+pub fn submission_step(
+    routes: &Routes,
+    objects: &mut Objects,
+    submission: &mut Submission,
+    what: &What,
+) -> Result<(), CoreFault>
+    requires stack { objects.old.stack ≡ routes.now.stack }
+    requires fits { SubmissionFits routes.now.stack (submission_of_plain submission.old) }
+    ensures { SubmissionMoves routes.now objects.old (submission_of_plain submission.old) what.now result objects.new (submission_of_plain submission.new) }
+{
+    match answer(
+        routes,
+        objects,
+        &mut submission.doing,
+        &mut submission.lists,
+        what,
+    ) {
+        Err(fault) => Err(fault),
+        Ok(next) => {
+            turn(routes, next, submission);
+            Ok(())
+        }
+    }
+}
