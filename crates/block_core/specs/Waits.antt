@@ -3,10 +3,12 @@ use Rattle.std.specs.Prelude.{◌≡◌, ◌⊎◌, ℕ, true, false, List, [], 
 use Rattle.elem_ledger.specs.Ledger.{LedgerId}
 use Rattle.stack_base.specs.declared.ids.DevId.{DevId}
 use Rattle.stack_base.specs.Stack.{HasRescuers}
+use Rattle.stack_base.specs.declared.ids.SetId.TheVariants.{Of}
 use Rattle.bio_records.specs.declared.tasks.TaskLists.{TaskLists}
+use Rattle.bio_records.specs.Sorting.{is_of}
 use Rattle.run_machine.specs.declared.event.Event.{Event}
 use Rattle.run_machine.specs.Scene.{Setup, Scene}
-use Rattle.run_machine.specs.Submissions.{Want, Takes, Punts, Links, ToPush, ToCut, ToRecord, ToMaster, Doing, Rests, Drives, Copies, Breaks, is_of}
+use Rattle.run_machine.specs.Submissions.{Want, Takes, Punts, Links, ToPush, ToCut, ToRecord, ToMaster, Doing, Rests, Drives, Copies, Breaks}
 use Rattle.run_machine.specs.Tasks.{TaskState, Writer, Rescuer, Completer, Keeper}
 use Rattle.run_machine.specs.Opened.{Scenario, scene, start}
 use Rattle.run_machine.specs.Runs.{State, IsRun}
@@ -15,7 +17,7 @@ use Rattle.block_core.specs.Scenarios.{IsScenario, IsNaming}
 -- no bio of a device's set is in the lists of a task that waits for one, and one is tried for without waiting, and others are punted, only
 -- where the set has a rescuer
 abbrev pub NoneBehind : Setup → DevId → Want → TaskLists → Type 0
-NoneBehind setup dev (Takes true) lists = All (λ item. is_of dev item ≡ false) lists.list0 × All (λ item. is_of dev item ≡ false) lists.list1
+NoneBehind setup dev (Takes true) lists = All (λ item. is_of (Of dev) item ≡ false) lists.list0 × All (λ item. is_of (Of dev) item ≡ false) lists.list1
 NoneBehind setup dev (Takes false) lists = setup.rescuer dev.0 ≡ true
 NoneBehind setup dev Punts lists = setup.rescuer dev.0 ≡ true
 NoneBehind setup dev (Links hand) lists = Unit {0}

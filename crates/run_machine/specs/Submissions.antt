@@ -1,9 +1,8 @@
 -- A submission: the bio that its driver has and what the driver asks for, and the task's two lists (`submit_bio_noacct`, block/blk-core.c).
-use Rattle.std.specs.Prelude.{◌+◌, ◌-◌, ◌==◌, ◌++◌, if◌then◌else◌, not, min, ℕ, Bool, true, false, List, [], ◌∷◌, length, filter, map, Option, None, Some}
+use Rattle.std.specs.Prelude.{◌+◌, ◌-◌, ◌==◌, ◌++◌, if◌then◌else◌, min, ℕ, Bool, true, false, List, [], ◌∷◌, length, map, Option, None, Some}
 use Rattle.stack_base.specs.declared.ids.DevId.{DevId}
 use Rattle.stack_base.specs.declared.ids.Range.{Range}
-use Rattle.stack_base.specs.declared.ids.SetId.{SetId}
-use Rattle.stack_base.specs.declared.ids.SetId.TheVariants.{Fs, Of}
+use Rattle.stack_base.specs.declared.ids.SetId.TheVariants.{Of}
 use Rattle.stack_base.specs.declared.stack.Kind.{Kind}
 use Rattle.stack_base.specs.Cutting.{next}
 use Rattle.stack_base.specs.Mapping.{Slot, slot}
@@ -15,6 +14,7 @@ use Rattle.bio_records.specs.Items.{Item}
 use Rattle.bio_split.specs.Split.{split_front, split_rest}
 use Rattle.bioset_pools.specs.Sets.{waits_first}
 use Rattle.bio_lists.specs.Submission.{no_lists, submitted, order}
+use Rattle.bio_lists.specs.Punt.{punted, unpunted}
 use Rattle.bio_books.specs.Books.{SlipItem}
 use Rattle.bio_books.specs.Links.{Linked, Made, NoRoom, Stray}
 use Rattle.run_machine.specs.declared.event.Breach.{Breach}
@@ -129,37 +129,19 @@ copies setup lists bio master leg =
     if leg == legs_of (tree_at setup bio.dev) then goes_on setup bio.dev lists
     else record { doing = Copies bio master leg (Takes (waits_first (setup.rescuer bio.dev.0) lists)); lists = lists }
 
--- whether a bio is of a device's set
-abbrev pub is_of_set : ℕ → SetId → Bool
-is_of_set dev Fs = false
-is_of_set dev (Of other) = other.0 == dev
-
-abbrev pub is_of : DevId → Item Pad → Bool
-is_of dev item = is_of_set dev.0 item.bio.set
-
--- the bios that go to the rescuer of a device's set, those of list 0 first, and the lists without them (`punt_bios_to_rescuer`, block/bio.c)
-abbrev pub punted : DevId → TaskLists → List (Item Pad)
-punted dev lists = filter (is_of dev) lists.list0 ++ filter (is_of dev) lists.list1
-
-abbrev pub not_punted : DevId → TaskLists → TaskLists
-not_punted dev lists = record {
-  list0 = filter (λ item. not (is_of dev item)) lists.list0;
-  list1 = filter (λ item. not (is_of dev item)) lists.list1;
-}
-
 -- what a submission asks for
 abbrev pub submission_request : Setup → Doing → TaskLists → Request
 submission_request setup Rests lists = Rest
 submission_request setup (Breaks breach kept) lists = Rest
 submission_request setup (Drives bio ToPush) lists = Push bio
 submission_request setup (Drives bio (ToCut (Takes waits))) lists = TakeBio (Of bio.bio.dev) waits
-submission_request setup (Drives bio (ToCut Punts)) lists = Punt bio.bio.dev (punted bio.bio.dev lists)
+submission_request setup (Drives bio (ToCut Punts)) lists = Punt bio.bio.dev (punted (Of bio.bio.dev) lists)
 submission_request setup (Drives bio (ToCut (Links hand))) lists = Link bio.bio.writer (Chain bio.bio.node)
 submission_request setup (Drives bio ToRecord) lists = TakeSlip bio.bio.dev
 submission_request setup (Drives bio (ToMaster slip)) lists =
     Link bio.bio.writer (Master bio.bio.node bio slip (legs_of (tree_at setup bio.bio.dev)))
 submission_request setup (Copies bio master leg (Takes waits)) lists = TakeBio (Of bio.dev) waits
-submission_request setup (Copies bio master leg Punts) lists = Punt bio.dev (punted bio.dev lists)
+submission_request setup (Copies bio master leg Punts) lists = Punt bio.dev (punted (Of bio.dev) lists)
 submission_request setup (Copies bio master leg (Links hand)) lists = Link bio.writer (Leg master)
 
 -- a link that was refused, where the named node is this one, and these elements were at hand besides
@@ -224,7 +206,7 @@ punts_of (Breaks breach kept) = None
 -- There was no ticket for its call: it keeps what it had at hand, and bios that were to go to a rescuer come back beside its lists.
 abbrev pub spent : List Kept → TaskLists → Option DevId → Submission
 spent kept lists None = record { doing = Breaks breach.Spent kept; lists = lists }
-spent kept lists (Some dev) = record { doing = Breaks breach.Spent (kept ++ map KeptBio (punted dev lists)); lists = not_punted dev lists }
+spent kept lists (Some dev) = record { doing = Breaks breach.Spent (kept ++ map KeptBio (punted (Of dev) lists)); lists = unpunted (Of dev) lists }
 
 -- behind a miss: an attempt that waits is made again, and one that does not is followed by a punt
 abbrev pub after_miss : Bool → Want
@@ -238,13 +220,13 @@ submission_answered setup (Drives bio ToPush) lists Did = goes_on setup bio.bio.
 submission_answered setup (Drives bio (ToCut (Takes waits))) lists (HadBio got hand) = record { doing = Drives bio (ToCut (Links hand)); lists = lists }
 submission_answered setup (Drives bio (ToCut (Takes waits))) lists (Missed used) = record { doing = Drives bio (ToCut (after_miss waits)); lists = lists }
 submission_answered setup (Drives bio (ToCut Punts)) lists Did =
-    record { doing = Drives bio (ToCut (Takes true)); lists = not_punted bio.bio.dev lists }
+    record { doing = Drives bio (ToCut (Takes true)); lists = unpunted (Of bio.bio.dev) lists }
 submission_answered setup (Drives bio (ToCut (Links hand))) lists (LinkedTo answer) = after_chain setup lists bio hand answer
 submission_answered setup (Drives bio ToRecord) lists (HadSlip got slip) = record { doing = Drives bio (ToMaster slip); lists = lists }
 submission_answered setup (Drives bio (ToMaster slip)) lists (LinkedTo answer) = after_master setup lists bio.bio answer
 submission_answered setup (Copies bio master leg (Takes waits)) lists (HadBio got hand) = record { doing = Copies bio master leg (Links hand); lists = lists }
 submission_answered setup (Copies bio master leg (Takes waits)) lists (Missed used) =
     record { doing = Copies bio master leg (after_miss waits); lists = lists }
-submission_answered setup (Copies bio master leg Punts) lists Did = record { doing = Copies bio master leg (Takes true); lists = not_punted bio.dev lists }
+submission_answered setup (Copies bio master leg Punts) lists Did = record { doing = Copies bio master leg (Takes true); lists = unpunted (Of bio.dev) lists }
 submission_answered setup (Copies bio master leg (Links hand)) lists (LinkedTo answer) = after_leg setup lists bio master leg hand answer
 submission_answered setup doing lists _ = record { doing = doing; lists = lists }

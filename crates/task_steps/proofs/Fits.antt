@@ -23,7 +23,7 @@ use Rattle.task_steps.specs.Within.{IsWithinDevice, IsItemWithin, AreWithin, Lis
 use Rattle.task_steps.specs.Routed.{sent, IsLanded, IsCutAt}
 use Rattle.task_steps.proofs.Landing.{first_at, lands_within}
 use Rattle.task_steps.proofs.Devices.{cut_is, cut_not_none, leg_there}
-use Rattle.task_steps.proofs.Waiting.{all_ordered, all_submitted, all_punted, all_not_punted}
+use Rattle.task_steps.proofs.Waiting.{all_ordered, all_submitted, all_punted, all_unpunted}
 
 -- the driver of a device is asked for what it does with a bio that it does not hand on
 pub asks_fit : (stack : Stack) (setup : Setup) (lists : TaskLists) (item : Item Pad) → IsWithinDevice stack item.bio
@@ -123,7 +123,7 @@ module _ (stack : Stack) (good : IsStack stack) (places : ℕ → ℕ) where
   -- where there was no ticket
   spent_fits : (kept : List Kept) (lists : TaskLists) (punts : Option DevId) → ListsAreWithin stack lists → SubmissionFits stack (spent kept lists punts)
   spent_fits kept lists None all = record { doing = tt; lists = all }
-  spent_fits kept lists (Some dev) all = record { doing = tt; lists = all_not_punted (IsItemWithin stack) lists all dev }
+  spent_fits kept lists (Some dev) all = record { doing = tt; lists = all_unpunted (IsItemWithin stack) lists all dev }
 
   -- so whatever is replied
   pub submission_fits : (doing : Doing) (lists : TaskLists) (reply : Reply) → DoingFits stack doing → ListsAreWithin stack lists
@@ -134,14 +134,14 @@ module _ (stack : Stack) (good : IsStack stack) (places : ℕ → ℕ) where
   submission_fits (Drives bio (ToCut (Takes true))) lists (Missed used) fits all = record { doing = fits; lists = all }
   submission_fits (Drives bio (ToCut (Takes false))) lists (Missed used) fits all = record { doing = fits; lists = all }
   submission_fits (Drives bio (ToCut Punts)) lists Did fits all =
-      record { doing = fits; lists = all_not_punted (IsItemWithin stack) lists all bio.bio.dev }
+      record { doing = fits; lists = all_unpunted (IsItemWithin stack) lists all bio.bio.dev }
   submission_fits (Drives bio (ToCut (Links hand))) lists (LinkedTo answer) fits all = chain_fits lists bio hand answer all fits.0 fits.1
   submission_fits (Drives bio ToRecord) lists (HadSlip got slip) fits all = record { doing = fits; lists = all }
   submission_fits (Drives bio (ToMaster slip)) lists (LinkedTo answer) fits all = master_fits lists bio.bio answer all fits.0
   submission_fits (Copies bio master leg (Takes waits)) lists (HadBio got hand) fits all = record { doing = fits; lists = all }
   submission_fits (Copies bio master leg (Takes waits)) lists (Missed used) fits all = record { doing = fits; lists = all }
   submission_fits (Copies bio master leg Punts) lists Did fits all =
-      record { doing = fits; lists = all_not_punted (IsItemWithin stack) lists all bio.dev }
+      record { doing = fits; lists = all_unpunted (IsItemWithin stack) lists all bio.dev }
   submission_fits (Copies bio master leg (Links hand)) lists (LinkedTo answer) fits all = leg_fits lists bio master leg hand answer all fits.0 fits.1
   submission_fits doing lists _ fits all = record { doing = fits; lists = all }
 

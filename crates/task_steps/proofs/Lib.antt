@@ -6,7 +6,6 @@ pub mod Fits
 pub mod TaskStays
 pub mod RouteOf
 pub mod Opening
-pub mod Punting
 pub mod Parts
 pub mod SubmissionHomes
 pub mod TaskHomes

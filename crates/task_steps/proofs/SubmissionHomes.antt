@@ -33,7 +33,7 @@ use Rattle.task_steps.specs.Routed.{copies_bios as copies_shape}
 use Rattle.task_steps.specs.Within.{IsWithinDevice, IsItemWithin, ListsAreWithin, is_cut, DoingFits}
 use Rattle.task_steps.specs.Stage.{Stage, has_book, is_bios, IsHome, IsServed, AreServed, RequestFits, Owes}
 use Rattle.task_steps.specs.Homes.{IsOwned, WantFits, DoingIsHome, IsSubmissionOf, SubmissionsStayHome}
-use Rattle.task_steps.proofs.Waiting.{BothHave, all_ordered, all_submitted, all_punted, all_not_punted}
+use Rattle.task_steps.proofs.Waiting.{BothHave, all_ordered, all_submitted, all_punted, all_unpunted}
 use Rattle.task_steps.proofs.Devices.{cut_is, cut_not_none, mirror_legs}
 use Rattle.task_steps.proofs.Landing.{first_at, lands_within}
 use Rattle.task_steps.proofs.Fits.{settled_fits, parts_within, leg_within}
@@ -268,7 +268,7 @@ module _ (stage : Stage) (good : IsStack stage.routing.stack) where
       → IsSubmissionOf stage (spent kept lists punts)
   spent_home kept lists None within owned = stays _ lists tt tt within owned
   spent_home kept lists (Some dev) within owned =
-      stays _ _ tt tt (all_not_punted (IsItemWithin stage.routing.stack) lists within dev) (all_not_punted (IsOwned stage) lists owned dev)
+      stays _ _ tt tt (all_unpunted (IsItemWithin stage.routing.stack) lists within dev) (all_unpunted (IsOwned stage) lists owned dev)
 
   -- whatever is replied
   pub submission_home : (doing : Doing) (lists : TaskLists) (reply : Reply) → DoingFits stage.routing.stack doing → DoingIsHome stage doing
@@ -281,8 +281,8 @@ module _ (stage : Stage) (good : IsStack stage.routing.stack) where
   submission_home (Drives bio (ToCut (Takes true))) lists (Missed used) fits home within owned owes = stays _ lists fits (home.0, tt) within owned
   submission_home (Drives bio (ToCut (Takes false))) lists (Missed used) fits home within owned owes = stays _ lists fits (home.0, home.1) within owned
   submission_home (Drives bio (ToCut Punts)) lists Did fits home within owned owes =
-      stays _ _ fits (home.0, tt) (all_not_punted (IsItemWithin stage.routing.stack) lists within bio.bio.dev)
-      (all_not_punted (IsOwned stage) lists owned bio.bio.dev)
+      stays _ _ fits (home.0, tt) (all_unpunted (IsItemWithin stage.routing.stack) lists within bio.bio.dev)
+      (all_unpunted (IsOwned stage) lists owned bio.bio.dev)
   submission_home (Drives bio (ToCut (Links hand))) lists (LinkedTo answer) fits home within owned owes =
       chain_home lists bio hand answer within owned fits.0 fits.1 home.0 home.1
   submission_home (Drives bio ToRecord) lists (HadSlip got slip) fits home within owned owes = stays _ lists fits (home.0, owes.home) within owned
@@ -293,8 +293,8 @@ module _ (stage : Stage) (good : IsStack stage.routing.stack) where
   submission_home (Copies bio master leg (Takes true)) lists (Missed used) fits home within owned owes = stays _ lists fits (home.0, tt) within owned
   submission_home (Copies bio master leg (Takes false)) lists (Missed used) fits home within owned owes = stays _ lists fits (home.0, home.1) within owned
   submission_home (Copies bio master leg Punts) lists Did fits home within owned owes =
-      stays _ _ fits (home.0, tt) (all_not_punted (IsItemWithin stage.routing.stack) lists within bio.dev)
-      (all_not_punted (IsOwned stage) lists owned bio.dev)
+      stays _ _ fits (home.0, tt) (all_unpunted (IsItemWithin stage.routing.stack) lists within bio.dev)
+      (all_unpunted (IsOwned stage) lists owned bio.dev)
   submission_home (Copies bio master leg (Links hand)) lists (LinkedTo answer) fits home within owned owes =
       copied_home lists bio master leg hand answer within owned fits.0 fits.1 home.0 home.1
   submission_home doing lists _ fits home within owned owes = stays doing lists fits home within owned

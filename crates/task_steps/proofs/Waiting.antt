@@ -1,14 +1,14 @@
 -- What holds of each bio that waits holds of those that wait next.
 use Rattle.std.proofs.Common.{◌≡◌, ◌++◌, List, [], ◌∷◌, All, filter, subst}
-use Rattle.std.specs.Prelude.{not}
 use Rattle.std.proofs.lemmas.List.Elements.{All-head, All-nil, All-cons, All-append, All-filter}
 use Rattle.stack_base.specs.declared.ids.DevId.{DevId}
+use Rattle.stack_base.specs.declared.ids.SetId.TheVariants.{Of}
 use Rattle.bio_records.specs.declared.bio.Pad.{Pad}
 use Rattle.bio_records.specs.declared.tasks.TaskLists.{TaskLists}
 use Rattle.bio_records.specs.Items.{Item}
-use Rattle.bio_records.specs.Sorting.{is_lower, is_same}
+use Rattle.bio_records.specs.Sorting.{is_lower, is_same, is_of, is_of_other}
 use Rattle.bio_lists.specs.Submission.{submitted, order}
-use Rattle.run_machine.specs.Submissions.{is_of, punted, not_punted}
+use Rattle.bio_lists.specs.Punt.{punted, unpunted}
 
 -- in the lists of a task
 abbrev pub BothHave : (Item Pad → Type 0) → TaskLists → Type 0
@@ -29,11 +29,11 @@ module _ (P : Item Pad → Type 0) (lists : TaskLists) (have : BothHave P lists)
   all_submitted item own = (All-append P lists.list0 (item ∷ []) have.0 (All-cons P item [] own (All-nil P)), have.1)
 
   -- some go to a rescuer
-  pub all_punted : (dev : DevId) → All P (punted dev lists)
+  pub all_punted : (dev : DevId) → All P (punted (Of dev) lists)
   all_punted dev =
-      All-append P (filter (is_of dev) lists.list0) (filter (is_of dev) lists.list1)
-      (All-filter (is_of dev) P lists.list0 have.0) (All-filter (is_of dev) P lists.list1 have.1)
+      All-append P (filter (is_of (Of dev)) lists.list0) (filter (is_of (Of dev)) lists.list1)
+      (All-filter (is_of (Of dev)) P lists.list0 have.0) (All-filter (is_of (Of dev)) P lists.list1 have.1)
 
-  pub all_not_punted : (dev : DevId) → BothHave P (not_punted dev lists)
-  all_not_punted dev =
-      (All-filter (λ item. not (is_of dev item)) P lists.list0 have.0, All-filter (λ item. not (is_of dev item)) P lists.list1 have.1)
+  pub all_unpunted : (dev : DevId) → BothHave P (unpunted (Of dev) lists)
+  all_unpunted dev =
+      (All-filter (is_of_other (Of dev)) P lists.list0 have.0, All-filter (is_of_other (Of dev)) P lists.list1 have.1)

@@ -5,6 +5,7 @@ use Rattle.stack_base.specs.declared.ids.SetId.TheVariants.{Of}
 use Rattle.bio_records.specs.declared.bio.Pad.{Pad}
 use Rattle.bio_records.specs.declared.tasks.TaskLists.{TaskLists}
 use Rattle.bio_records.specs.Items.{Item}
+use Rattle.bio_lists.specs.Punt.{punted, unpunted}
 use Rattle.bio_books.specs.Links.{Made, NoRoom, Stray}
 use Rattle.run_machine.specs.declared.event.Breach.{Breach}
 use Rattle.run_machine.specs.declared.event.Breach.TheVariants as breach
@@ -20,7 +21,7 @@ use Rattle.task_steps.specs.declared.step.Step.{Step}
 use Rattle.task_steps.specs.declared.step.Step.TheVariants.{Stepped}
 use Rattle.run_machine.specs.Scene.{Setup, tree_at}
 use Rattle.run_machine.specs.Requests.{Request, Reply, Opening, TakeBio, Punt, Link, HadBio, Missed, Did, LinkedTo, Nothing, Spent}
-use Rattle.run_machine.specs.Submissions.{Want, Links, Ask, Doing, Drives, Submission, asks_at, punted, not_punted, submission_request, after_miss, submission_answered}
+use Rattle.run_machine.specs.Submissions.{Want, Links, Ask, Doing, Drives, Submission, asks_at, submission_request, after_miss, submission_answered}
 use Rattle.task_steps.specs.Turns.{named_node, step_of}
 use Rattle.run_machine.specs.Kept.{Kept, KeptBio, holding_kept, opening_kept}
 use Rattle.task_steps.specs.SubmissionViews.{submission_of, want_of, unmade_kept, back_kept}
@@ -107,10 +108,10 @@ AttemptDoes words task dev waits old made new = CallDoes words old (Attempted wo
 -- the bios of a device's set went from these lists to its rescuer, or came back
 abbrev pub PuntedAll : {S : Type 0} → Ghosts S → TaskId → DevId → TaskLists → S → TaskLists → S → Result Step Unmade → Type 0
 PuntedAll words task dev lists old after new (Ok step) =
-    words.serves old (Punt dev (punted dev lists)) Did new × Owes (words.stage old) (Punt dev (punted dev lists)) Did × (after ≡ not_punted dev lists)
-    × (step ≡ Stepped (record { task = task; what = what.Punt dev (min (length (punted dev lists)) (2 ^ 64 - 1)) }))
+    words.serves old (Punt dev (punted (Of dev) lists)) Did new × Owes (words.stage old) (Punt dev (punted (Of dev) lists)) Did × (after ≡ unpunted (Of dev) lists)
+    × (step ≡ Stepped (record { task = task; what = what.Punt dev (min (length (punted (Of dev) lists)) (2 ^ 64 - 1)) }))
 PuntedAll words task dev lists old after new (Err back) =
-    IsSpent words.serves (Owes (words.stage old)) (Punt dev (punted dev lists)) old new × (after ≡ not_punted dev lists) × (unmade_kept back ≡ map KeptBio (punted dev lists))
+    IsSpent words.serves (Owes (words.stage old)) (Punt dev (punted (Of dev) lists)) old new × (after ≡ unpunted (Of dev) lists) × (unmade_kept back ≡ map KeptBio (punted (Of dev) lists))
 
 -- a punt of these bios
 abbrev pub PuntDoes : {S : Type 0} → Ghosts S → TaskId → DevId → TaskLists → S → Result Step Unmade → TaskLists → S → Type 0

@@ -1,9 +1,10 @@
 //! Calls of the objects that steps of several kinds make.
 ghost use Rattle.std.specs.Prelude.{◌≡◌};
 ghost use Rattle.stack_base.specs.declared.ids.SetId.TheVariants.{Of};
+ghost use Rattle.bio_lists.specs.Punt.{punted};
 ghost use Rattle.task_steps.specs.declared.step.Step.TheVariants.{Blocked};
 ghost use Rattle.run_machine.specs.Requests.{TakeBio, Punt, Link as LinkOf};
-ghost use Rattle.run_machine.specs.Submissions.{punted, after_miss};
+ghost use Rattle.run_machine.specs.Submissions.{after_miss};
 ghost use Rattle.run_machine.specs.Events.{take_of, miss_of};
 ghost use Rattle.task_steps.specs.Views.{opening_of, IsAskAlone};
 ghost use Rattle.task_steps.specs.Turns.{named_node, step_by, idle_step};
@@ -100,14 +101,13 @@ pub(crate) fn attempt<O: Objects>(
 
 /// Hands the bios of a device's set to its rescuer (`punt_bios_to_rescuer`, `block/bio.c`). Where it can't, they are out of the lists all the
 /// same, and come back.
-#[tactic(auto, using(crate::proofs::Punting::punted_is, crate::proofs::Punting::not_punted_is))]
 pub(crate) fn punt_all<O: Objects>(
     objects: &mut O,
     task: TaskId,
     dev: DevId,
     lists: &mut TaskLists,
 ) -> Result<Step, Unmade>
-    requires ready { Ready O.Objects objects.old (Punt dev (punted dev lists.old)) }
+    requires ready { Ready O.Objects objects.old (Punt dev (punted (Of dev) lists.old)) }
     ensures does { PuntDoes O.Objects task dev lists.old objects.old result lists.new objects.new }
 {
     let punted = lists.punt(SetId::Of(dev));

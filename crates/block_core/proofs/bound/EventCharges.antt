@@ -3,16 +3,19 @@ use Rattle.std.proofs.Common.{◌≡◌, ◌+◌, ◌*◌, ◌<◌, ◌≤◌, i
 use Rattle.std.proofs.lemmas.List.Sums.{sum_by-cons, sum_by-append, sum_by_push}
 use Rattle.stack_base.specs.PoolId.{pool_number}
 use Rattle.stack_base.specs.Tree.{Tree, Leaf, Split, Mirrored}
+use Rattle.stack_base.specs.declared.ids.SetId.TheVariants.{Of}
 use Rattle.mempool_core.specs.Move.{Move as PoolMove, after_move, misses, gives, resizes}
 use Rattle.bio_records.specs.declared.bio.Pad.{Pad}
 use Rattle.bio_records.specs.declared.tasks.TaskLists.{TaskLists}
 use Rattle.bio_records.specs.Items.{Item}
+use Rattle.bio_records.specs.Sorting.{is_of}
 use Rattle.bio_lists.specs.Submission.{submitted}
+use Rattle.bio_lists.specs.Punt.{unpunted}
 use Rattle.bio_books.specs.Books.{VectorItem, parent_of, told}
 use Rattle.bio_books.specs.Drops.{closed_of}
 use Rattle.run_machine.specs.Maps.{upd}
 use Rattle.run_machine.specs.Scene.{Scene, tree_at}
-use Rattle.run_machine.specs.Submissions.{Takes, Punts as WantsPunt, Links, ToPush, ToCut, ToRecord, ToMaster, Doing, Drives, Copies, Submission, rests, settled, goes_on, copies, first_length, leg_at, is_of, not_punted}
+use Rattle.run_machine.specs.Submissions.{Takes, Punts as WantsPunt, Links, ToPush, ToCut, ToRecord, ToMaster, Doing, Drives, Copies, Submission, rests, settled, goes_on, copies, first_length, leg_at}
 use Rattle.run_machine.specs.Tasks.{TaskState, Writer, Rescuer, Completer, Keeper, Keeps, Resizes, Starts, Todo, NoBio, HasBio, HasBoth, Empty, Brings, Carries}
 use Rattle.run_machine.specs.Objects.{clear_bio, clear_vector, clear_slip}
 use Rattle.run_machine.specs.Runs.{State}
@@ -151,7 +154,7 @@ module _ (price : Paid → ℕ) (was_master : ℕ → Bool) (scene : Scene) (s :
       )
   -- punts
   lowers (moves.Punts place x doing lists dev) c =
-      let new : Submission = record { doing = with_want doing (Takes true); lists = not_punted dev lists } in
+      let new : Submission = record { doing = with_want doing (Takes true); lists = unpunted (Of dev) lists } in
       let t = on_submission scene s place x doing lists new c.0 c.1 c.2 in
       let d = has place x doing lists c.1 c.2 in
       let at = waiting_placed scene.setup g (limit_of x) doing dev WantsPunt lists c.3 d in
@@ -163,8 +166,8 @@ module _ (price : Paid → ℕ) (was_master : ℕ → Bool) (scene : Scene) (s :
         (t.0 price).1,
         want_spends price doing dev WantsPunt c.3,
         new_spends price doing dev WantsPunt (Takes true) c.3,
-        sum_by-append (bio_charge price scene.setup Rescued) (filter (is_of dev) lists.list0) (filter (is_of dev) lists.list1),
-        sum_by-append (bio_charge price scene.setup (Lined (limit_of x))) (filter (is_of dev) lists.list0) (filter (is_of dev) lists.list1),
+        sum_by-append (bio_charge price scene.setup Rescued) (filter (is_of (Of dev)) lists.list0) (filter (is_of (Of dev)) lists.list1),
+        sum_by-append (bio_charge price scene.setup (Lined (limit_of x))) (filter (is_of (Of dev)) lists.list0) (filter (is_of (Of dev)) lists.list1),
         punts_charge price scene.setup (limit_of x) dev lists.list0 low at.0,
         punts_charge price scene.setup (limit_of x) dev lists.list1 low at.1,
       )

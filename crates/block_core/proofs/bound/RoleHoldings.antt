@@ -1,14 +1,16 @@
 -- What open nodes hold by their roles: a master its record and no bio, and any other node no record.
 use Rattle.std.proofs.Common.{◌≡◌, ◌+◌, ◌==◌, ℕ, [], ◌∷◌, Option, None, Some, refl, ap, arith}
 use Rattle.stack_base.specs.declared.ids.Status.{Status}
+use Rattle.stack_base.specs.declared.ids.SetId.TheVariants.{Of}
 use Rattle.bio_records.specs.declared.bio.Pad.{Pad}
 use Rattle.bio_records.specs.Items.{Item}
 use Rattle.bio_lists.specs.Submission.{submitted}
+use Rattle.bio_lists.specs.Punt.{punted}
 use Rattle.bio_books.specs.declared.node.Role.{Role}
 use Rattle.bio_books.specs.declared.node.Role.TheVariants as role
 use Rattle.bio_books.specs.Books.{Node, SlipItem, told, later_part}
 use Rattle.run_machine.specs.Scene.{Scene, tree_at}
-use Rattle.run_machine.specs.Submissions.{ToMaster, Drives, first_length, legs_of, leg_at, punted}
+use Rattle.run_machine.specs.Submissions.{ToMaster, Drives, first_length, legs_of, leg_at}
 use Rattle.run_machine.specs.Tasks.{Carried, Empty, Brings, Carries, Fails}
 use Rattle.run_machine.specs.Runs.{State}
 use Rattle.block_core.specs.Charges.{there}
@@ -60,7 +62,7 @@ module _ (scene : Scene) (s : State) (i : Kept scene s) (none : total scene odd 
   none_odd (moves.TakesSlip place x bio lists move) c = omega (arith, none, delta scene odd s (moves.TakesSlip place x bio lists move) c)
   none_odd (moves.MissesOne place x number used) c = omega (arith, none, delta scene odd s (moves.MissesOne place x number used) c)
   none_odd (moves.MissesTry place x doing lists dev used) c = omega (arith, none, delta scene odd s (moves.MissesTry place x doing lists dev used) c)
-  none_odd (moves.Punts place x doing lists dev) c = omega (arith, none, delta scene odd s (moves.Punts place x doing lists dev) c, zeros (punted dev lists))
+  none_odd (moves.Punts place x doing lists dev) c = omega (arith, none, delta scene odd s (moves.Punts place x doing lists dev) c, zeros (punted (Of dev) lists))
   none_odd (moves.Pops place dev bio bios) c = omega (arith, none, delta scene odd s (moves.Pops place dev bio bios) c, first_weight odd blind dev.0 scene.setup (bio ∷ []), zeros (bio ∷ []))
   none_odd (moves.Pushes place x bio lists) c =
       omega (arith, none, delta scene odd s (moves.Pushes place x bio lists) c, goes_weight odd blind (limit_of x) scene.setup bio.bio.dev lists, zeros lists.list0, zeros lists.list1)

@@ -5,14 +5,16 @@ use Rattle.std.proofs.lemmas.Bool.Decides.{nat_tests}
 use Rattle.std.proofs.lemmas.List.Sums.{sum_by-cons}
 use Rattle.stack_base.specs.declared.ids.DevId.{DevId}
 use Rattle.stack_base.specs.declared.ids.Status.{Status}
+use Rattle.stack_base.specs.declared.ids.SetId.TheVariants.{Of}
 use Rattle.bio_records.specs.declared.bio.Bio.{Bio}
 use Rattle.bio_records.specs.declared.bio.Pad.{Pad}
 use Rattle.bio_records.specs.declared.tasks.TaskLists.{TaskLists}
 use Rattle.bio_records.specs.Items.{Item}
+use Rattle.bio_records.specs.Sorting.{is_of}
 use Rattle.bio_books.specs.Books.{Holding, keeping, later_part}
 use Rattle.run_machine.specs.Maps.{upd}
 use Rattle.run_machine.specs.Scene.{Setup, Scene, tree_at}
-use Rattle.run_machine.specs.Submissions.{Want, Takes, ToPush, ToCut, ToRecord, ToMaster, Doing, Rests, Drives, Copies, Breaks, Submission, copies, legs_of, is_of}
+use Rattle.run_machine.specs.Submissions.{Want, Takes, ToPush, ToCut, ToRecord, ToMaster, Doing, Rests, Drives, Copies, Breaks, Submission, copies, legs_of}
 use Rattle.run_machine.specs.Tasks.{TaskState, Writer, Rescuer, Completer, Keeper, Todo, NoBio, Carried, Empty, Brings, Carries, Fails}
 use Rattle.run_machine.specs.Runs.{State}
 use Rattle.block_core.specs.Weights.{Rescued, Lined, sum_at, submission_weight, carried_weight}
@@ -65,16 +67,16 @@ module _ (price : Paid → ℕ) where
 
   -- a bio of a set that a task punts to was charged that it may come to the rescuer
   pub punts_charge : (setup : Setup) (limit : ℕ) (dev : DevId) (items : List (Item Pad)) → dev.0 < limit → Each (IsPlaced setup limit) items
-      → sum_by (bio_charge price setup Rescued) (filter (is_of dev) items) ≤ sum_by (bio_charge price setup (Lined limit)) (filter (is_of dev) items)
+      → sum_by (bio_charge price setup Rescued) (filter (is_of (Of dev)) items) ≤ sum_by (bio_charge price setup (Lined limit)) (filter (is_of (Of dev)) items)
   punts_charge setup limit dev items lt placed =
-      each_le (bio_charge price setup Rescued) (bio_charge price setup (Lined limit)) (filter (is_of dev) items)
-      (each_map (λ item. IsPlaced setup limit item × (is_of dev item ≡ true)) (λ (item : Item Pad). bio_charge price setup Rescued item ≤ bio_charge price setup (Lined limit) item)
+      each_le (bio_charge price setup Rescued) (bio_charge price setup (Lined limit)) (filter (is_of (Of dev)) items)
+      (each_map (λ item. IsPlaced setup limit item × (is_of (Of dev) item ≡ true)) (λ (item : Item Pad). bio_charge price setup Rescued item ≤ bio_charge price setup (Lined limit) item)
       (λ item h.
       let same = of_set dev item.bio.set item h.1 in
       let here : item.share.no ≡ 2 * dev.0 = h.0.3 ∙ same in
       let pops = pops_yet limit item.share.no (omega (arith, here, lt)) in
       omega (arith, pops))
-      (filter (is_of dev) items) (each_filter (IsPlaced setup limit) (is_of dev) items placed))
+      (filter (is_of (Of dev)) items) (each_filter (IsPlaced setup limit) (is_of (Of dev)) items placed))
 
   -- what begins is charged as what is still to begin
   pub later_charge : (setup : Setup) (later : List Todo) → todo_charge price setup later NoBio ≡ sum_by (write_charge price setup) later

@@ -2,14 +2,16 @@
 use Rattle.std.proofs.Common.{◌≡◌, ◌+◌, ℕ, List, [], ◌∷◌, Option, None, Some, refl, arith}
 use Rattle.std.specs.Prelude.{sum_by}
 use Rattle.std.proofs.lemmas.List.Sums.{sum_by-cons}
+use Rattle.stack_base.specs.declared.ids.SetId.TheVariants.{Of}
 use Rattle.bio_records.specs.declared.bio.Pad.{Pad}
 use Rattle.bio_records.specs.Items.{Item}
 use Rattle.bio_lists.specs.Submission.{submitted}
+use Rattle.bio_lists.specs.Punt.{punted}
 use Rattle.bio_books.specs.declared.node.Role.{Role}
 use Rattle.bio_books.specs.declared.node.Role.TheVariants as role
 use Rattle.bio_books.specs.Books.{SlipItem}
 use Rattle.run_machine.specs.Scene.{Scene, tree_at}
-use Rattle.run_machine.specs.Submissions.{Takes, Punts as WantsPunt, Links, ToPush, ToCut, ToRecord, ToMaster, Doing, Rests, Drives, Copies, Breaks, Submission, settled, goes_on, copies, first_length, leg_at, punted}
+use Rattle.run_machine.specs.Submissions.{Takes, Punts as WantsPunt, Links, ToPush, ToCut, ToRecord, ToMaster, Doing, Rests, Drives, Copies, Breaks, Submission, settled, goes_on, copies, first_length, leg_at}
 use Rattle.run_machine.specs.Runs.{State}
 use Rattle.block_core.specs.Weights.{Weight, total, doing_weight, submission_weight, no_weight}
 use Rattle.block_core.proofs.moves.Moves.{Move, Can, after, limit_of, filled_of, cut_lists}
@@ -57,7 +59,7 @@ no_bare scene s none (moves.TakesSub place x doing lists dev waits move) c = ome
 no_bare scene s none (moves.TakesSlip place x bio lists move) c = omega (arith, none, delta scene bare s (moves.TakesSlip place x bio lists move) c)
 no_bare scene s none (moves.MissesOne place x number used) c = omega (arith, none, delta scene bare s (moves.MissesOne place x number used) c)
 no_bare scene s none (moves.MissesTry place x doing lists dev used) c = omega (arith, none, delta scene bare s (moves.MissesTry place x doing lists dev used) c)
-no_bare scene s none (moves.Punts place x doing lists dev) c = omega (arith, none, delta scene bare s (moves.Punts place x doing lists dev) c, zeros (punted dev lists))
+no_bare scene s none (moves.Punts place x doing lists dev) c = omega (arith, none, delta scene bare s (moves.Punts place x doing lists dev) c, zeros (punted (Of dev) lists))
 no_bare scene s none (moves.Pops place dev bio bios) c = omega (arith, none, delta scene bare s (moves.Pops place dev bio bios) c, submission_zero dev.0 (settled scene.setup (bio ∷ [])))
 no_bare scene s none (moves.Pushes place x bio lists) c = omega (arith, none, delta scene bare s (moves.Pushes place x bio lists) c, submission_zero (limit_of x) (goes_on scene.setup bio.bio.dev lists))
 no_bare scene s none (moves.Completed place disk index bio status new) c = omega (arith, none, delta scene bare s (moves.Completed place disk index bio status new) c)

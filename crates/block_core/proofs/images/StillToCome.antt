@@ -2,6 +2,7 @@
 use Rattle.std.proofs.Common.{◌≡◌, ◌+◌, ◌-◌, ◌^◌, ◌==◌, ℕ, Bool, true, false, List, [], ◌∷◌, None, Some, refl, ◌∙◌, ap, subst, arith}
 use Rattle.std.specs.Prelude.{sum_by}
 use Rattle.std.proofs.lemmas.List.Sums.{sum_by-cons, sum_by_push}
+use Rattle.stack_base.specs.declared.ids.SetId.TheVariants.{Of}
 use Rattle.layout_model.specs.declared.fragment.Fragment.{Fragment}
 use Rattle.layout_model.proofs.RangeSums.{sum_same}
 use Rattle.bio_records.specs.declared.bio.Bio.{Bio}
@@ -9,8 +10,9 @@ use Rattle.bio_records.specs.declared.bio.Pad.{Pad}
 use Rattle.bio_records.specs.declared.tasks.TaskLists.{TaskLists}
 use Rattle.bio_records.specs.Items.{Item}
 use Rattle.bio_lists.specs.Submission.{submitted}
+use Rattle.bio_lists.specs.Punt.{punted}
 use Rattle.run_machine.specs.Scene.{Setup, Scene, tree_at}
-use Rattle.run_machine.specs.Submissions.{Links, ToPush, ToCut, ToMaster, Doing, Drives, Copies, rests, copies, first_length, legs_of, leg_at, punted}
+use Rattle.run_machine.specs.Submissions.{Links, ToPush, ToCut, ToMaster, Doing, Drives, Copies, rests, copies, first_length, legs_of, leg_at}
 use Rattle.run_machine.specs.Tasks.{TaskState, Writer, HasBio, HasBoth, Carried, Empty, Brings, Carries, Fails}
 use Rattle.run_machine.specs.Runs.{State}
 use Rattle.block_core.specs.Weights.{Weight, Rescued, Lined, total, submission_weight, carried_weight}
@@ -91,7 +93,7 @@ module _ (scene : Scene) (s : State) (value : Fragment → ℕ) (g : Ground scen
       omega (
         arith,
         delta scene w s (moves.Punts place x doing lists dev) c,
-        sum_same (bio_comes scene.setup value Rescued) (bio_comes scene.setup value (Lined (limit_of x))) (punted dev lists) (λ item. refl),
+        sum_same (bio_comes scene.setup value Rescued) (bio_comes scene.setup value (Lined (limit_of x))) (punted (Of dev) lists) (λ item. refl),
       )
   -- pops
   comes (moves.Pops place dev bio bios) c =

@@ -4,7 +4,9 @@ use Rattle.std.specs.Prelude.{sum_by}
 use Rattle.std.proofs.lemmas.List.{get_or-set_other}
 use Rattle.std.proofs.lemmas.List.Sums.{sum_by-cons, sum_by-append, sum_by_push, sum_by-remove}
 use Rattle.std.proofs.lemmas.Option.{get_or_from_slice_get, slice_get_within}
+use Rattle.stack_base.specs.declared.ids.SetId.TheVariants.{Of}
 use Rattle.bio_lists.specs.Submission.{submitted}
+use Rattle.bio_lists.specs.Punt.{punted, unpunted}
 use Rattle.bio_books.specs.Books.{Node, BookState, node_at, with_node, top_node, child_node, master_node, leg_node, keeping, raised, lowered, told}
 use Rattle.bio_books.specs.Links.{IsVacant}
 use Rattle.bio_books.specs.Drops.{closed_of}
@@ -12,7 +14,7 @@ use Rattle.model_disks.specs.Disks.{DiskState}
 use Rattle.model_disks.specs.Moves.{pushed}
 use Rattle.run_machine.specs.Maps.{upd}
 use Rattle.run_machine.specs.Scene.{Scene, tree_at}
-use Rattle.run_machine.specs.Submissions.{Want, Takes, Punts as WantsPunt, Links, ToPush, ToCut, ToRecord, ToMaster, Drives, Copies, Submission, rests, settled, goes_on, copies, first_length, legs_of, leg_at, punted, not_punted}
+use Rattle.run_machine.specs.Submissions.{Want, Takes, Punts as WantsPunt, Links, ToPush, ToCut, ToRecord, ToMaster, Drives, Copies, Submission, rests, settled, goes_on, copies, first_length, legs_of, leg_at}
 use Rattle.run_machine.specs.Tasks.{TaskState, Writer, Rescuer, Completer, Keeper, Keeps, Resizes, Starts, NoBio, HasBio, HasBoth, Empty, Brings, Carries}
 use Rattle.run_machine.specs.Objects.{clear_bio, clear_vector, clear_slip}
 use Rattle.run_machine.specs.Runs.{State}
@@ -66,15 +68,15 @@ delta scene w s (moves.MissesTry place x doing lists dev used) c =
     omega (arith, task_delta scene w s place x (with_submission x new) c.0 c.1, submission_changes w place x doing lists new c.2, want_changes w (limit_of x) doing dev (Takes false) WantsPunt c.3)
 -- punts
 delta scene w s (moves.Punts place x doing lists dev) c =
-    let new : Submission = record { doing = with_want doing (Takes true); lists = not_punted dev lists } in
+    let new : Submission = record { doing = with_want doing (Takes true); lists = unpunted (Of dev) lists } in
     let old = s.objects.rescue dev.0 in
     omega (
       arith,
       task_delta scene w s place x (with_submission x new) c.0 c.1,
       submission_changes w place x doing lists new c.2,
       want_changes w (limit_of x) doing dev WantsPunt (Takes true) c.3,
-      sum_at-upd (λ dev bios. sum_by (w.bio Rescued) bios) scene.setup.count s.objects.rescue dev.0 (old ++ punted dev lists) c.4,
-      sum_by-append (w.bio Rescued) old (punted dev lists),
+      sum_at-upd (λ dev bios. sum_by (w.bio Rescued) bios) scene.setup.count s.objects.rescue dev.0 (old ++ punted (Of dev) lists) c.4,
+      sum_by-append (w.bio Rescued) old (punted (Of dev) lists),
       punted_weight (w.bio (Lined (limit_of x))) dev lists,
     )
 -- pops

@@ -1,20 +1,22 @@
 -- What the steps of a submission do to weights of its bios.
-use Rattle.std.proofs.Common.{◌≡◌, ◌+◌, ◌==◌, ◌++◌, not, ℕ, Bool, true, false, List, [], ◌∷◌, filter, refl, ◌∙◌, ap, arith, cond}
+use Rattle.std.proofs.Common.{◌≡◌, ◌+◌, ◌==◌, ◌++◌, ℕ, Bool, true, false, List, [], ◌∷◌, filter, refl, ◌∙◌, ap, arith, cond}
 use Rattle.std.specs.Prelude.{sum_by}
 use Rattle.std.proofs.lemmas.List.Sums.{sum_by-cons, sum_by-append}
 use Rattle.std.proofs.lemmas.List.Filters.{sum_by-filter_both}
 use Rattle.stack_base.specs.declared.ids.DevId.{DevId}
 use Rattle.stack_base.specs.Mapping.{Slot, slot}
 use Rattle.stack_base.specs.Tree.{Tree, Leaf, Split, Mirrored}
+use Rattle.stack_base.specs.declared.ids.SetId.TheVariants.{Of}
 use Rattle.bio_records.specs.declared.bio.Bio.{Bio}
 use Rattle.bio_records.specs.declared.bio.Pad.{Pad}
 use Rattle.bio_records.specs.declared.tasks.TaskLists.{TaskLists}
 use Rattle.bio_records.specs.Items.{Item}
-use Rattle.bio_records.specs.Sorting.{is_lower, is_same}
+use Rattle.bio_records.specs.Sorting.{is_lower, is_same, is_of, is_of_other}
 use Rattle.bio_lists.specs.Submission.{order}
+use Rattle.bio_lists.specs.Punt.{punted, unpunted}
 use Rattle.bio_books.specs.Books.{keeping}
 use Rattle.run_machine.specs.Scene.{Setup, tree_at}
-use Rattle.run_machine.specs.Submissions.{Want, ToPush, ToCut, ToRecord, ToMaster, Doing, Rests, Drives, Copies, Breaks, Submission, settled, goes_on, asks_at, first_length, mapped, landed, is_of, punted, not_punted}
+use Rattle.run_machine.specs.Submissions.{Want, ToPush, ToCut, ToRecord, ToMaster, Doing, Rests, Drives, Copies, Breaks, Submission, settled, goes_on, asks_at, first_length, mapped, landed}
 use Rattle.run_machine.specs.Tasks.{TaskState, Writer, Rescuer, Completer, Keeper}
 use Rattle.block_core.specs.Weights.{Weight, Lined, want_weight, doing_weight, task_weight, submission_weight}
 use Rattle.block_core.proofs.moves.Moves.{limit_of, with_submission, HasSubmission, Wants, with_want}
@@ -85,8 +87,8 @@ want_changes w limit (Breaks breach kept) dev old new h = absurd h
 
 -- lists are what is punted and what is not
 pub punted_weight : (g : Item Pad → ℕ) (dev : DevId) (lists : TaskLists)
-    → sum_by g (punted dev lists) + sum_by g (not_punted dev lists).list0 + sum_by g (not_punted dev lists).list1 ≡ sum_by g lists.list0 + sum_by g lists.list1
+    → sum_by g (punted (Of dev) lists) + sum_by g (unpunted (Of dev) lists).list0 + sum_by g (unpunted (Of dev) lists).list1 ≡ sum_by g lists.list0 + sum_by g lists.list1
 punted_weight g dev lists =
-    let p : Item Pad → Bool = is_of dev in
-    let q : Item Pad → Bool = λ item. not (is_of dev item) in
+    let p : Item Pad → Bool = is_of (Of dev) in
+    let q : Item Pad → Bool = is_of_other (Of dev) in
     omega (arith, sum_by-append g (filter p lists.list0) (filter p lists.list1), sum_by-filter_both p q (λ x. refl) g lists.list0, sum_by-filter_both p q (λ x. refl) g lists.list1)

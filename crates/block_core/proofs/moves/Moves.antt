@@ -15,6 +15,7 @@ use Rattle.bio_records.specs.declared.bio.Pad.{Pad}
 use Rattle.bio_records.specs.declared.tasks.TaskLists.{TaskLists}
 use Rattle.bio_records.specs.Items.{Item}
 use Rattle.bio_lists.specs.Submission.{submitted}
+use Rattle.bio_lists.specs.Punt.{punted, unpunted}
 use Rattle.bio_split.specs.Split.{split_front, split_rest}
 use Rattle.bio_books.specs.Books.{Node, BookState, VectorItem, SlipItem, Holding, node_at, with_node, nothing_held, top_node, child_node, master_node, leg_node, keeping, raised, lowered, told}
 use Rattle.bio_books.specs.Links.{IsVacant}
@@ -23,7 +24,7 @@ use Rattle.model_disks.specs.Disks.{DiskState}
 use Rattle.model_disks.specs.Moves.{pushed, Completes}
 use Rattle.run_machine.specs.Maps.{upd}
 use Rattle.run_machine.specs.Scene.{Scene, tree_at}
-use Rattle.run_machine.specs.Submissions.{Want, Takes, Punts as WantsPunt, Links, ToPush, ToCut, ToRecord, ToMaster, Doing, Drives, Copies, Submission, rests, settled, goes_on, copies, first_length, mapped, legs_of, leg_at, punted, not_punted}
+use Rattle.run_machine.specs.Submissions.{Want, Takes, Punts as WantsPunt, Links, ToPush, ToCut, ToRecord, ToMaster, Doing, Drives, Copies, Submission, rests, settled, goes_on, copies, first_length, mapped, legs_of, leg_at}
 use Rattle.run_machine.specs.Tasks.{Todo, Gathered, NoBio, HasBio, HasBoth, Carried, Empty, Brings, Carries, Fails, Duty, Resizes, Starts, Keeps, TaskState, Writer, Rescuer, Completer, Keeper, filled, filled_short, filled_vector}
 use Rattle.run_machine.specs.Objects.{Objects, clear_bio, clear_vector, clear_slip, done_one}
 use Rattle.run_machine.specs.Requests.{Request, TakeBio, TakeVec, TakeSlip}
@@ -239,8 +240,8 @@ after scene s (MissesTry place x doing lists dev used) = record {
   task = upd s.task place (with_submission x (record { doing = with_want doing WantsPunt; lists = lists }));
 }
 after scene s (Punts place x doing lists dev) = record {
-  objects = record s.objects { rescue = upd s.objects.rescue dev.0 (s.objects.rescue dev.0 ++ punted dev lists) };
-  task = upd s.task place (with_submission x (record { doing = with_want doing (Takes true); lists = not_punted dev lists }));
+  objects = record s.objects { rescue = upd s.objects.rescue dev.0 (s.objects.rescue dev.0 ++ punted (Of dev) lists) };
+  task = upd s.task place (with_submission x (record { doing = with_want doing (Takes true); lists = unpunted (Of dev) lists }));
 }
 after scene s (Pops place dev bio bios) = record {
   objects = record s.objects { rescue = upd s.objects.rescue dev.0 bios };
@@ -306,7 +307,7 @@ after scene s (Started place round later duties) = record {
 abbrev pub lost : Scene → Weight → State → Move → ℕ
 lost scene w s (TakesFirst place writer todo later move) = w.todo writer (todo ∷ later) NoBio
 lost scene w s (TakesVector place writer todo later item move) = w.todo writer (todo ∷ later) (HasBio item)
-lost scene w s (Punts place x doing lists dev) = sum_by (w.bio (Lined (limit_of x))) (punted dev lists)
+lost scene w s (Punts place x doing lists dev) = sum_by (w.bio (Lined (limit_of x))) (punted (Of dev) lists)
 lost scene w s (Pops place dev bio bios) = w.bio Rescued bio
 lost scene w s (Pushes place x bio lists) = submission_weight w (limit_of x) (record { doing = Drives bio ToPush; lists = lists })
 lost scene w s (Completed place disk index bio status new) = w.bio Pending bio
@@ -330,7 +331,7 @@ gained scene w s (TakesVector place writer todo later item move) =
     w.todo writer (todo ∷ later) (HasBoth item (clear_vector (scene.ledger 64))) + w.vector (clear_vector (scene.ledger 64))
 gained scene w s (TakesSub place x doing lists dev waits move) = w.hand (clear_bio (scene.ledger (2 * dev.0)))
 gained scene w s (TakesSlip place x bio lists move) = w.slip (clear_slip (scene.ledger (2 * bio.bio.dev.0 + 1)))
-gained scene w s (Punts place x doing lists dev) = sum_by (w.bio Rescued) (punted dev lists)
+gained scene w s (Punts place x doing lists dev) = sum_by (w.bio Rescued) (punted (Of dev) lists)
 gained scene w s (Pops place dev bio bios) = submission_weight w dev.0 (settled scene.setup (bio ∷ []))
 gained scene w s (Pushes place x bio lists) = submission_weight w (limit_of x) (goes_on scene.setup bio.bio.dev lists) + w.bio Pending bio
 gained scene w s (Completed place disk index bio status new) = w.bio Brought bio

@@ -10,10 +10,11 @@ use Rattle.bio_records.specs.declared.bio.Bio.{Bio}
 use Rattle.bio_records.specs.declared.bio.Pad.{Pad}
 use Rattle.bio_records.specs.declared.tasks.TaskLists.{TaskLists}
 use Rattle.bio_records.specs.Items.{Item}
+use Rattle.bio_lists.specs.Punt.{punted, unpunted}
 use Rattle.bio_books.specs.Books.{Node, SlipItem, node_at, keeping, told}
 use Rattle.run_machine.specs.Maps.{upd}
 use Rattle.run_machine.specs.Scene.{Setup, Scene, tree_at}
-use Rattle.run_machine.specs.Submissions.{Want, Takes, Punts as WantsPunt, Links, ToPush, ToCut, ToRecord, ToMaster, Doing, Rests, Drives, Copies, Breaks, Submission, legs_of, punted, not_punted}
+use Rattle.run_machine.specs.Submissions.{Want, Takes, Punts as WantsPunt, Links, ToPush, ToCut, ToRecord, ToMaster, Doing, Rests, Drives, Copies, Breaks, Submission, legs_of}
 use Rattle.run_machine.specs.Tasks.{TaskState, Writer, Rescuer, Completer, Keeper}
 use Rattle.run_machine.specs.Runs.{State}
 use Rattle.block_core.specs.Paying.{end_told}
@@ -152,8 +153,8 @@ module _ (scene : Scene) (s : State) (f : Fair scene) (i : Kept scene s) (place 
   takes_sub x doing lists dev waits is h wants own _ told serves had missed = absurd serves
 
   punts : (x : TaskState) (doing : Doing) (lists : TaskLists) (dev : DevId) → s.task place ≡ x → HasSubmission x doing lists → Wants doing dev WantsPunt → dev.0 < scene.setup.count → (reply : Reply)
-      → what_of (requests.Punt dev (punted dev lists)) reply ≡ Some what → Serves scene.ledger s.objects (requests.Punt dev (punted dev lists)) reply new.objects
-      → (reply ≡ requests.Did → Goes (with_submission x (record { doing = with_want doing (Takes true); lists = not_punted dev lists }))) → IsMove scene s place what new
+      → what_of (requests.Punt dev (punted (Of dev) lists)) reply ≡ Some what → Serves scene.ledger s.objects (requests.Punt dev (punted (Of dev) lists)) reply new.objects
+      → (reply ≡ requests.Did → Goes (with_submission x (record { doing = with_want doing (Takes true); lists = unpunted (Of dev) lists }))) → IsMove scene s place what new
   punts x doing lists dev is h wants there requests.Did told serves goes =
       record { move = moves.Punts place x doing lists dev; can = (here, is, h, wants, there); is = state_is new _ _ serves (goes refl); at = refl; touches = sym (ap touch_in told); pays = λ was_master. sym (ap (paid_in (its_end was_master)) told) }
   punts x doing lists dev is h wants there _ told serves goes = absurd serves

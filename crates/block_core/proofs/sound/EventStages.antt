@@ -3,14 +3,16 @@ use Rattle.std.proofs.Common.{◌≡◌, ◌+◌, ◌*◌, ℕ, List, [], ◌∷
 use Rattle.std.specs.Prelude.{sum_by}
 use Rattle.std.proofs.lemmas.List.Sums.{sum_by-cons}
 use Rattle.stack_base.specs.declared.ids.Status.{Status}
+use Rattle.stack_base.specs.declared.ids.SetId.TheVariants.{Of}
 use Rattle.bio_records.specs.declared.bio.Pad.{Pad}
 use Rattle.bio_records.specs.Items.{Item}
 use Rattle.bio_lists.specs.Submission.{submitted}
+use Rattle.bio_lists.specs.Punt.{punted}
 use Rattle.bio_books.specs.declared.node.Role.{Role}
 use Rattle.bio_books.specs.declared.node.Role.TheVariants as role
 use Rattle.bio_books.specs.Books.{parent_of}
 use Rattle.run_machine.specs.Scene.{Scene, tree_at}
-use Rattle.run_machine.specs.Submissions.{Takes, Punts as WantsPunt, Links, ToPush, ToCut, ToRecord, ToMaster, Doing, Rests, Drives, Copies, Breaks, Submission, settled, goes_on, copies, first_length, leg_at, punted}
+use Rattle.run_machine.specs.Submissions.{Takes, Punts as WantsPunt, Links, ToPush, ToCut, ToRecord, ToMaster, Doing, Rests, Drives, Copies, Breaks, Submission, settled, goes_on, copies, first_length, leg_at}
 use Rattle.run_machine.specs.Tasks.{Todo, Gathered, NoBio, HasBio, HasBoth, Carried, Empty, Brings, Carries, Fails}
 use Rattle.run_machine.specs.Objects.{clear_bio, clear_vector}
 use Rattle.run_machine.specs.Runs.{State}
@@ -90,7 +92,7 @@ module _ (f : List Todo → Gathered → ℕ) (worth : ℕ → ℕ) where
   staged scene s (moves.MissesOne place x number used) c = omega (arith, delta scene w s (moves.MissesOne place x number used) c)
   staged scene s (moves.MissesTry place x doing lists dev used) c = omega (arith, delta scene w s (moves.MissesTry place x doing lists dev used) c)
   staged scene s (moves.Punts place x doing lists dev) c =
-      omega (arith, delta scene w s (moves.Punts place x doing lists dev) c, zeros (punted dev lists))
+      omega (arith, delta scene w s (moves.Punts place x doing lists dev) c, zeros (punted (Of dev) lists))
   staged scene s (moves.Pops place dev bio bios) c = omega (arith, delta scene w s (moves.Pops place dev bio bios) c, submission_zero dev.0 (settled scene.setup (bio ∷ [])))
   staged scene s (moves.Pushes place x bio lists) c =
       omega (

@@ -1,21 +1,24 @@
 -- Events keep list 0 of a task that copies a bio full of legs of its master alone, and the set of that bio above its device.
-use Rattle.std.proofs.Common.{◌≡◌, ◌≢◌, ◌+◌, ◌*◌, ◌<◌, ◌≤◌, ◌==◌, ◌⊎◌, if◌then◌else◌, not, ℕ, Bool, true, false, List, [], ◌∷◌, length, Option, None, Some, inl, inr, refl, sym, ◌∙◌, ap, subst, arith}
+use Rattle.std.proofs.Common.{◌≡◌, ◌≢◌, ◌+◌, ◌*◌, ◌<◌, ◌≤◌, ◌==◌, ◌⊎◌, if◌then◌else◌, ℕ, Bool, true, false, List, [], ◌∷◌, length, Option, None, Some, inl, inr, refl, sym, ◌∙◌, ap, subst, arith}
 use Rattle.std.specs.Prelude.{sum_by}
 use Rattle.std.proofs.lemmas.List.{get_or-set_same, get_or-set_other}
 use Rattle.std.proofs.lemmas.List.Sums.{sum_by-cons}
 use Rattle.stack_base.specs.PoolId.{pool_number}
 use Rattle.stack_base.specs.Tree.{Tree, Leaf, Split, Mirrored}
+use Rattle.stack_base.specs.declared.ids.SetId.TheVariants.{Of}
 use Rattle.bio_records.specs.declared.bio.Bio.{Bio}
 use Rattle.bio_records.specs.declared.bio.Pad.{Pad}
 use Rattle.bio_records.specs.declared.tasks.TaskLists.{TaskLists}
 use Rattle.bio_records.specs.Items.{Item}
+use Rattle.bio_records.specs.Sorting.{is_of_other}
 use Rattle.bio_lists.specs.Submission.{submitted, order}
+use Rattle.bio_lists.specs.Punt.{unpunted}
 use Rattle.bioset_pools.specs.Sets.{bios_of, waits_first}
 use Rattle.bio_books.specs.Books.{Node, BookState, node_at, with_node, top_node, child_node, master_node, leg_node, keeping, raised, lowered, told}
 use Rattle.bio_books.specs.Links.{IsVacant}
 use Rattle.run_machine.specs.Maps.{upd}
 use Rattle.run_machine.specs.Scene.{Setup, Scene, tree_at}
-use Rattle.run_machine.specs.Submissions.{Want, Takes, Punts as WantsPunt, Links, ToPush, ToCut, ToRecord, ToMaster, Doing, Rests, Drives, Copies, Breaks, Submission, settled, goes_on, copies, asks_at, first_length, landed, legs_of, leg_at, is_of, not_punted}
+use Rattle.run_machine.specs.Submissions.{Want, Takes, Punts as WantsPunt, Links, ToPush, ToCut, ToRecord, ToMaster, Doing, Rests, Drives, Copies, Breaks, Submission, settled, goes_on, copies, asks_at, first_length, landed, legs_of, leg_at}
 use Rattle.run_machine.specs.Tasks.{TaskState, Writer, Rescuer, Completer, Keeper}
 use Rattle.run_machine.specs.Runs.{State}
 use Rattle.block_core.specs.Weights.{Lined, total, refs, names_node, count_of}
@@ -278,8 +281,8 @@ module _ (scene : Scene) (s : State) (i : Kept scene s) (p : Placed scene.setup 
       let m : Move = moves.Punts place x doing lists dev in
       goes m c j _ refl
       (relined (after scene s m) x _
-      (wants_has (after scene s m) doing dev WantsPunt (Takes true) lists (not_punted dev lists) c.3
-      (λ writer master legs. each_less (IsLegOf (after scene s m) writer master) (λ item. not (is_of dev item)) lists.list0 legs) (has place x doing lists c.0 c.1 c.2)))
+      (wants_has (after scene s m) doing dev WantsPunt (Takes true) lists (unpunted (Of dev) lists) c.3
+      (λ writer master legs. each_less (IsLegOf (after scene s m) writer master) (is_of_other (Of dev)) lists.list0 legs) (has place x doing lists c.0 c.1 c.2)))
   -- pops, pushes, completions, links of writes and links of pieces
   stays_legged (moves.Pops place dev bio bios) c j = goes (moves.Pops place dev bio bios) c j _ refl (settled_none (after scene s (moves.Pops place dev bio bios)) scene.setup (bio ∷ []))
   stays_legged (moves.Pushes place x bio lists) c j = goes (moves.Pushes place x bio lists) c j _ refl (relined (after scene s (moves.Pushes place x bio lists)) x _ (settled_none (after scene s (moves.Pushes place x bio lists)) scene.setup (order bio.bio.dev lists)))

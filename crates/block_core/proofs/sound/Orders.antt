@@ -1,5 +1,5 @@
 -- What stands in the submissions of tasks and in rescue lists: bios that their devices can serve, and in an order of sets.
-use Rattle.std.proofs.Common.{◌≡◌, ◌+◌, ◌*◌, ◌<◌, ◌≤◌, ◌==◌, ◌++◌, not, if◌then◌else◌, ℕ, Bool, true, false, IsTrue, List, [], ◌∷◌, filter, Option, None, Some, refl, sym, ◌∙◌, ap, subst, arith, cond, set}
+use Rattle.std.proofs.Common.{◌≡◌, ◌+◌, ◌*◌, ◌<◌, ◌≤◌, ◌==◌, ◌++◌, if◌then◌else◌, ℕ, Bool, true, false, IsTrue, List, [], ◌∷◌, filter, Option, None, Some, refl, sym, ◌∙◌, ap, subst, arith, cond, set}
 use Rattle.std.proofs.lemmas.Bool.{eq-eqb, ne_eqb}
 use Rattle.stack_base.specs.declared.ids.DevId.{DevId}
 use Rattle.stack_base.specs.declared.ids.Range.{Range}
@@ -12,12 +12,13 @@ use Rattle.bio_records.specs.declared.bio.Bio.{Bio}
 use Rattle.bio_records.specs.declared.bio.Pad.{Pad}
 use Rattle.bio_records.specs.declared.tasks.TaskLists.{TaskLists}
 use Rattle.bio_records.specs.Items.{Item}
-use Rattle.bio_records.specs.Sorting.{is_lower, is_same}
+use Rattle.bio_records.specs.Sorting.{is_lower, is_same, is_of, is_of_other}
 use Rattle.bio_split.specs.Split.{split_rest}
 use Rattle.bioset_pools.specs.Sets.{bios_of, waits_first}
+use Rattle.bio_lists.specs.Punt.{unpunted}
 use Rattle.bio_books.specs.Books.{VectorItem, keeping}
 use Rattle.run_machine.specs.Scene.{Setup, tree_at}
-use Rattle.run_machine.specs.Submissions.{Want, Takes, Punts as WantsPunt, Links, Ask, ToPush, ToCut, ToRecord, ToMaster, Doing, Rests, Drives, Copies, Breaks, Submission, settled, goes_on, copies, asks_at, first_length, landed, legs_of, leg_at, is_of, not_punted}
+use Rattle.run_machine.specs.Submissions.{Want, Takes, Punts as WantsPunt, Links, Ask, ToPush, ToCut, ToRecord, ToMaster, Doing, Rests, Drives, Copies, Breaks, Submission, settled, goes_on, copies, asks_at, first_length, landed, legs_of, leg_at}
 use Rattle.run_machine.specs.Tasks.{TaskState, Writer, Rescuer, Completer, Keeper, Todo, Gathered, NoBio, HasBio, HasBoth, first_bio}
 use Rattle.run_machine.specs.Runs.{State}
 use Rattle.block_core.proofs.moves.Moves.{Wants, with_want, filled_of, cut_lists, piece}
@@ -134,7 +135,7 @@ each_append P [] ys a b = b
 each_append P (x ∷ xs) ys a b = (a.0, each_append P xs ys a.1 b)
 
 -- a bio of a device's set
-pub of_set : (dev : DevId) (set : SetId) (item : Item Pad) → is_of dev (record item { bio = record item.bio { set = set } }) ≡ true → pool_number (bios_of set) ≡ 2 * dev.0
+pub of_set : (dev : DevId) (set : SetId) (item : Item Pad) → is_of (Of dev) (record item { bio = record item.bio { set = set } }) ≡ true → pool_number (bios_of set) ≡ 2 * dev.0
 of_set dev Fs item h = absurd cc
 of_set dev (Of other) item h = let e : other.0 ≡ dev.0 = search (h, arith) in omega arith
 
@@ -264,16 +265,16 @@ module _ (setup : Setup) (g : Ground setup) where
   wants_placed limit Rests dev old new lists h fits d = absurd h
   wants_placed limit (Breaks breach kept) dev old new lists h fits d = absurd h
 
-  pub punts_placed : (limit : ℕ) (doing : Doing) (dev set : DevId) (want : Want) (lists : TaskLists) → Wants doing dev want → DoingPlaced setup limit doing lists → DoingPlaced setup limit doing (not_punted set lists)
+  pub punts_placed : (limit : ℕ) (doing : Doing) (dev set : DevId) (want : Want) (lists : TaskLists) → Wants doing dev want → DoingPlaced setup limit doing lists → DoingPlaced setup limit doing (unpunted (Of set) lists)
   punts_placed limit (Drives bio (ToCut has)) dev set want lists h d =
-      let stays : Item Pad → Bool = λ item. not (is_of set item) in (
+      let stays : Item Pad → Bool = is_of_other (Of set) in (
         ap (filter stays) d.0,
         (d.1.0, each_less (IsPlaced setup limit) stays lists.list1 d.1.1),
         (each_less (λ (item : Item Pad). 2 * bio.bio.dev.0 + 1 < item.share.no) stays lists.list1 d.2.0, ordered_less stays lists.list1 d.2.1),
         d.3,
       )
   punts_placed limit (Copies bio master leg has) dev set want lists h d =
-      let stays : Item Pad → Bool = λ item. not (is_of set item) in (
+      let stays : Item Pad → Bool = is_of_other (Of set) in (
         d.0,
         d.1,
         each_less (IsOwn setup bio.dev.0 limit) stays lists.list0 d.2,

@@ -3,16 +3,19 @@ use Rattle.std.proofs.Common.{◌≡◌, ◌+◌, ◌*◌, ◌++◌, ℕ, true, 
 use Rattle.stack_base.specs.declared.ids.DevId.{DevId}
 use Rattle.stack_base.specs.PoolId.{pool_number}
 use Rattle.stack_base.specs.Tree.{Tree, Leaf, Split, Mirrored}
+use Rattle.stack_base.specs.declared.ids.SetId.TheVariants.{Of}
 use Rattle.elem_ledger.specs.Ledger.{LedgerId}
 use Rattle.bio_records.specs.declared.bio.Pad.{Pad}
 use Rattle.bio_records.specs.declared.tasks.TaskLists.{TaskLists}
 use Rattle.bio_records.specs.Items.{Item}
+use Rattle.bio_records.specs.Sorting.{is_of}
 use Rattle.bio_lists.specs.Submission.{submitted}
+use Rattle.bio_lists.specs.Punt.{punted, unpunted}
 use Rattle.bioset_pools.specs.Sets.{bios_of}
 use Rattle.bio_books.specs.Books.{VectorItem, keeping}
 use Rattle.run_machine.specs.Maps.{upd}
 use Rattle.run_machine.specs.Scene.{Setup, Scene, tree_at}
-use Rattle.run_machine.specs.Submissions.{Takes, Punts as WantsPunt, Links, ToPush, ToCut, ToRecord, ToMaster, Doing, Rests, Drives, Copies, Breaks, Submission, rests, leg_at, is_of, punted, not_punted}
+use Rattle.run_machine.specs.Submissions.{Takes, Punts as WantsPunt, Links, ToPush, ToCut, ToRecord, ToMaster, Doing, Rests, Drives, Copies, Breaks, Submission, rests, leg_at}
 use Rattle.run_machine.specs.Tasks.{TaskState, Writer, Rescuer, Completer, Keeper}
 use Rattle.run_machine.specs.Objects.{clear_bio, clear_slip}
 use Rattle.run_machine.specs.Runs.{State}
@@ -75,7 +78,7 @@ module _ (scene : Scene) (s : State) (f : Fair scene) (g : Ground scene.setup) (
       on_submission place x _ c.1 (wants_placed scene.setup g (limit_of x) doing dev (Takes false) WantsPunt lists c.3 tt (has place x doing lists c.1 c.2))
   tasks (moves.Punts place x doing lists dev) c =
       on_submission place x _ c.1
-      (wants_placed scene.setup g (limit_of x) doing dev WantsPunt (Takes true) (not_punted dev lists) c.3 tt
+      (wants_placed scene.setup g (limit_of x) doing dev WantsPunt (Takes true) (unpunted (Of dev) lists) c.3 tt
       (punts_placed scene.setup g (limit_of x) doing dev dev WantsPunt lists c.3 (has place x doing lists c.1 c.2)))
   tasks (moves.Pops place dev bio bios) c =
       let r : Each (IsOwn scene.setup dev.0 dev.0) (bio ∷ bios) = subst (Each (IsOwn scene.setup dev.0 dev.0)) c.3 (p.rescued dev.0) in
@@ -117,24 +120,24 @@ module _ (scene : Scene) (s : State) (f : Fair scene) (g : Ground scene.setup) (
   tasks (moves.Started place round later duties) c = goes place _ tt
 
   -- what is punted is of the device's set, and below it
-  own_of_set : (limit : ℕ) (dev : DevId) (items : List (Item Pad)) → Each (IsPlaced scene.setup limit) items → Each (IsOwn scene.setup dev.0 dev.0) (filter (is_of dev) items)
+  own_of_set : (limit : ℕ) (dev : DevId) (items : List (Item Pad)) → Each (IsPlaced scene.setup limit) items → Each (IsOwn scene.setup dev.0 dev.0) (filter (is_of (Of dev)) items)
   own_of_set limit dev items placed =
-      each_map (λ item. IsPlaced scene.setup limit item × (is_of dev item ≡ true)) (IsOwn scene.setup dev.0 dev.0)
+      each_map (λ item. IsPlaced scene.setup limit item × (is_of (Of dev) item ≡ true)) (IsOwn scene.setup dev.0 dev.0)
       (λ item h.
       let same = of_set dev item.bio.set item h.1 in
       let set = h.0.3 in
       let up = h.0.1 in
       let here : item.share.no ≡ 2 * dev.0 = set ∙ same in
       ((h.0.0, up, omega arith, set), here))
-      (filter (is_of dev) items) (each_filter (IsPlaced scene.setup limit) (is_of dev) items placed)
+      (filter (is_of (Of dev)) items) (each_filter (IsPlaced scene.setup limit) (is_of (Of dev)) items placed)
 
   rescued : (m : Move) → Can scene s m → (dev : ℕ) → Each (IsOwn scene.setup dev dev) ((after scene s m).objects.rescue dev)
   rescued (moves.Punts place x doing lists dev) c =
       let w = waiting_placed scene.setup g (limit_of x) doing dev WantsPunt lists c.3 (has place x doing lists c.1 c.2) in
       let own : Item Pad → Type 0 = IsOwn scene.setup dev.0 dev.0 in
-      all_at (λ d bios. Each (IsOwn scene.setup d d) bios) s.objects.rescue dev.0 (s.objects.rescue dev.0 ++ punted dev lists) p.rescued
-      (each_append own (s.objects.rescue dev.0) (punted dev lists) (p.rescued dev.0)
-      (each_append own (filter (is_of dev) lists.list0) (filter (is_of dev) lists.list1) (own_of_set (limit_of x) dev lists.list0 w.0) (own_of_set (limit_of x) dev lists.list1 w.1)))
+      all_at (λ d bios. Each (IsOwn scene.setup d d) bios) s.objects.rescue dev.0 (s.objects.rescue dev.0 ++ punted (Of dev) lists) p.rescued
+      (each_append own (s.objects.rescue dev.0) (punted (Of dev) lists) (p.rescued dev.0)
+      (each_append own (filter (is_of (Of dev)) lists.list0) (filter (is_of (Of dev)) lists.list1) (own_of_set (limit_of x) dev lists.list0 w.0) (own_of_set (limit_of x) dev lists.list1 w.1)))
   rescued (moves.Pops place dev bio bios) c =
       let r : Each (IsOwn scene.setup dev.0 dev.0) (bio ∷ bios) = subst (Each (IsOwn scene.setup dev.0 dev.0)) c.3 (p.rescued dev.0) in
       all_at (λ d bios. Each (IsOwn scene.setup d d) bios) s.objects.rescue dev.0 bios p.rescued r.1

@@ -1,15 +1,17 @@
 -- Events keep it that one master at most stands for the own part of each open node.
 use Rattle.std.proofs.Common.{◌≡◌, ◌+◌, ◌*◌, ◌≤◌, ◌==◌, if◌then◌else◌, ℕ, Bool, true, false, List, [], ◌∷◌, Option, None, Some, inl, inr, refl, sym, ◌∙◌, ap, subst, arith}
 use Rattle.stack_base.specs.declared.ids.Status.{Status}
+use Rattle.stack_base.specs.declared.ids.SetId.TheVariants.{Of}
 use Rattle.bio_records.specs.declared.bio.Pad.{Pad}
 use Rattle.bio_records.specs.Items.{Item}
 use Rattle.bio_lists.specs.Submission.{submitted}
+use Rattle.bio_lists.specs.Punt.{punted}
 use Rattle.bio_books.specs.Books.{Node, BookState, node_at, parent_of, top_node, child_node, master_node, leg_node, keeping, raised, lowered, told}
 use Rattle.bio_books.specs.Links.{IsVacant}
 use Rattle.run_machine.specs.declared.event.Event.{Event}
 use Rattle.run_machine.specs.Maps.{upd}
 use Rattle.run_machine.specs.Scene.{Setup, Scene, tree_at}
-use Rattle.run_machine.specs.Submissions.{ToMaster, Drives, punted, first_length, legs_of, leg_at}
+use Rattle.run_machine.specs.Submissions.{ToMaster, Drives, first_length, legs_of, leg_at}
 use Rattle.run_machine.specs.Tasks.{Carried, Brings}
 use Rattle.run_machine.specs.Runs.{State, IsRun}
 use Rattle.block_core.specs.Weights.{Weight, total, one, task_weight, carried_weight, refs, under}
@@ -105,7 +107,7 @@ module _ (scene : Scene) (s : State) (i : Kept scene s) (was_master : ℕ → Bo
   stays_stood_for (moves.TakesSlip place x bio lists move) c w k = same (moves.TakesSlip place x bio lists move) c w k refl (omega arith)
   stays_stood_for (moves.MissesOne place x number used) c w k = same (moves.MissesOne place x number used) c w k refl (omega arith)
   stays_stood_for (moves.MissesTry place x doing lists dev used) c w k = same (moves.MissesTry place x doing lists dev used) c w k refl (omega arith)
-  stays_stood_for (moves.Punts place x doing lists dev) c w k = same (moves.Punts place x doing lists dev) c w k refl (omega (arith, zeros (punted dev lists)))
+  stays_stood_for (moves.Punts place x doing lists dev) c w k = same (moves.Punts place x doing lists dev) c w k refl (omega (arith, zeros (punted (Of dev) lists)))
   stays_stood_for (moves.Pops place dev bio bios) c w k =
       same (moves.Pops place dev bio bios) c w k refl (omega (arith, first_weight (w_of w k) (blind was_master w k) dev.0 scene.setup (bio ∷ []), zeros (bio ∷ [])))
   stays_stood_for (moves.Pushes place x bio lists) c w k =

@@ -2,16 +2,18 @@
 use Rattle.std.proofs.Common.{◌≡◌, ◌+◌, ◌*◌, ◌≤◌, ◌==◌, if◌then◌else◌, ℕ, Bool, true, false, List, [], ◌∷◌, inl, inr, refl, sym, ◌∙◌, ap, subst, arith}
 use Rattle.stack_base.specs.declared.ids.DevId.{DevId}
 use Rattle.stack_base.specs.Tree.{Tree, Leaf, Split, Mirrored}
+use Rattle.stack_base.specs.declared.ids.SetId.TheVariants.{Of}
 use Rattle.bio_records.specs.declared.bio.Bio.{Bio}
 use Rattle.bio_records.specs.declared.bio.Pad.{Pad}
 use Rattle.bio_records.specs.declared.tasks.TaskLists.{TaskLists}
 use Rattle.bio_records.specs.Items.{Item}
 use Rattle.bio_lists.specs.Submission.{order, submitted}
+use Rattle.bio_lists.specs.Punt.{unpunted}
 use Rattle.bio_books.specs.Books.{keeping}
 use Rattle.run_machine.specs.Maps.{upd}
 use Rattle.run_machine.specs.Scene.{Setup, Scene, tree_at}
 use Rattle.bioset_pools.specs.Sets.{waits_first}
-use Rattle.run_machine.specs.Submissions.{Want, Takes, Punts as WantsPunt, Links, ToPush, ToCut, ToRecord, ToMaster, Doing, Rests, Drives, Copies, Breaks, Submission, rests, settled, goes_on, copies, asks_at, first_length, landed, legs_of, leg_at, not_punted}
+use Rattle.run_machine.specs.Submissions.{Want, Takes, Punts as WantsPunt, Links, ToPush, ToCut, ToRecord, ToMaster, Doing, Rests, Drives, Copies, Breaks, Submission, rests, settled, goes_on, copies, asks_at, first_length, landed, legs_of, leg_at}
 use Rattle.run_machine.specs.Tasks.{TaskState, Writer, Rescuer, Completer, Keeper, Gathered, NoBio, HasBio, HasBoth}
 use Rattle.run_machine.specs.Objects.{clear_slip}
 use Rattle.run_machine.specs.Runs.{State}
@@ -130,7 +132,7 @@ module _ (scene : Scene) (s : State) (f : Fair scene) (i : Kept scene s) where
       by_tree (Mirrored number sizes members) fits = tt
   tasks (moves.MissesOne place x number used) c = goes place x (at_place place x c.1)
   tasks (moves.MissesTry place x doing lists dev used) c = wants_on place x doing lists lists dev (Takes false) WantsPunt c.1 c.2 c.3
-  tasks (moves.Punts place x doing lists dev) c = wants_on place x doing lists (not_punted dev lists) dev WantsPunt (Takes true) c.1 c.2 c.3
+  tasks (moves.Punts place x doing lists dev) c = wants_on place x doing lists (unpunted (Of dev) lists) dev WantsPunt (Takes true) c.1 c.2 c.3
   tasks (moves.Pops place dev bio bios) c = goes place _ (c.2, settled_fits scene.setup (bio ∷ []))
   tasks (moves.Pushes place x bio lists) c = on_submission place x (Drives bio ToPush) lists _ c.1 c.2 tt (settled_fits scene.setup (order bio.bio.dev lists))
   tasks (moves.Completed place disk index bio status new) c = goes place _ c.2

@@ -6,19 +6,21 @@ use Rattle.std.proofs.lemmas.List.Sums.{sum_by-cons, sum_by_push}
 use Rattle.layout_model.proofs.RangeSums.{sum_same}
 use Rattle.stack_base.specs.declared.ids.Status.{Status}
 use Rattle.stack_base.specs.declared.ids.Status.TheVariants.{Ok, Io}
+use Rattle.stack_base.specs.declared.ids.SetId.TheVariants.{Of}
 use Rattle.layout_model.specs.declared.fragment.Fragment.{Fragment}
 use Rattle.bio_records.specs.declared.bio.Bio.{Bio}
 use Rattle.bio_records.specs.declared.bio.Pad.{Pad}
 use Rattle.bio_records.specs.declared.tasks.TaskLists.{TaskLists}
 use Rattle.bio_records.specs.Items.{Item}
 use Rattle.bio_lists.specs.Submission.{submitted}
+use Rattle.bio_lists.specs.Punt.{punted}
 use Rattle.bio_split.specs.Split.{split_rest}
 use Rattle.bio_books.specs.declared.node.Role.{Role}
 use Rattle.bio_books.specs.declared.node.Role.TheVariants as role
 use Rattle.bio_books.specs.Books.{Node, node_at, parent_of, kept_with, closing}
 use Rattle.bio_books.specs.Links.{IsVacant}
 use Rattle.run_machine.specs.Scene.{Setup, Scene, tree_at}
-use Rattle.run_machine.specs.Submissions.{Links, ToPush, ToCut, ToMaster, Doing, Drives, Copies, rests, first_length, legs_of, leg_at, punted}
+use Rattle.run_machine.specs.Submissions.{Links, ToPush, ToCut, ToMaster, Doing, Drives, Copies, rests, first_length, legs_of, leg_at}
 use Rattle.run_machine.specs.Tasks.{TaskState, Writer, HasBio, HasBoth}
 use Rattle.run_machine.specs.Runs.{State}
 use Rattle.block_core.specs.Weights.{Weight, Lined, Rescued, total, names_node}
@@ -120,7 +122,7 @@ module _ (scene : Scene) (ends : Fragment → Status) (written : ℕ → Status 
     off_after end (moves.MissesTry place x doing lists dev used) c = same_off end (moves.MissesTry place x doing lists dev used) c (omega arith)
     off_after end (moves.Punts place x doing lists dev) c =
         same_off end (moves.Punts place x doing lists dev) c
-        (omega (arith, sum_same ((off_by mark end).bio Rescued) ((off_by mark end).bio (Lined (limit_of x))) (punted dev lists) (λ item. refl)))
+        (omega (arith, sum_same ((off_by mark end).bio Rescued) ((off_by mark end).bio (Lined (limit_of x))) (punted (Of dev) lists) (λ item. refl)))
     -- pops
     off_after end (moves.Pops place dev bio bios) c =
         let r : Each (IsOwn setup dev.0 dev.0) (bio ∷ bios) = subst (Each (IsOwn setup dev.0 dev.0)) c.3 (a.rescued dev.0) in

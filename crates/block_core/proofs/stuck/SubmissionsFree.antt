@@ -5,11 +5,12 @@ use Rattle.stack_base.specs.declared.ids.SetId.TheVariants.{Of}
 use Rattle.mempool_core.specs.Move.{takes_spare, misses}
 use Rattle.bio_records.specs.declared.tasks.TaskLists.{TaskLists}
 use Rattle.bioset_pools.specs.Sets.{bios_of}
+use Rattle.bio_lists.specs.Punt.{punted}
 use Rattle.bio_books.specs.Books.{Node, node_at, with_node, child_node, master_node, leg_node, keeping, raised}
 use Rattle.model_disks.specs.Moves.{pushed}
 use Rattle.run_machine.specs.Maps.{upd}
 use Rattle.run_machine.specs.Scene.{Setup, Scene, tree_at}
-use Rattle.run_machine.specs.Submissions.{Takes, Punts as WantsPunt, Links, ToPush, ToCut, ToRecord, ToMaster, Doing, Rests, Drives, Copies, Breaks, legs_of, punted}
+use Rattle.run_machine.specs.Submissions.{Takes, Punts as WantsPunt, Links, ToPush, ToCut, ToRecord, ToMaster, Doing, Rests, Drives, Copies, Breaks, legs_of}
 use Rattle.run_machine.specs.Tasks.{TaskState}
 use Rattle.run_machine.specs.Objects.{clear_bio, clear_slip}
 use Rattle.run_machine.specs.Runs.{State}
@@ -86,7 +87,7 @@ module _ (scene : Scene) (s : State) (n : Needs scene.setup) (k : Kept scene s) 
       want_free place here x at (Drives bio (ToCut (Takes waits))) lists h busy bio.bio.dev waits refl
   submission_free place here x at (Drives bio (ToCut WantsPunt)) lists h busy fits d =
       inl (free_submission scene s place here x at (Drives bio (ToCut WantsPunt)) lists h busy requests.Did _ refl refl
-      (record s.objects { rescue = upd s.objects.rescue bio.bio.dev.0 (s.objects.rescue bio.bio.dev.0 ++ punted bio.bio.dev lists) }) refl)
+      (record s.objects { rescue = upd s.objects.rescue bio.bio.dev.0 (s.objects.rescue bio.bio.dev.0 ++ punted (Of bio.bio.dev) lists) }) refl)
   submission_free place here x at (Drives bio (ToCut (Links hand))) lists h busy fits d =
       let doing : Doing = Drives bio (ToCut (Links hand)) in
       let w = bio.bio.writer in
@@ -123,7 +124,7 @@ module _ (scene : Scene) (s : State) (n : Needs scene.setup) (k : Kept scene s) 
       want_free place here x at (Copies bio master leg (Takes waits)) lists h busy bio.dev waits refl
   submission_free place here x at (Copies bio master leg WantsPunt) lists h busy fits d =
       inl (free_submission scene s place here x at (Copies bio master leg WantsPunt) lists h busy requests.Did _ refl refl
-      (record s.objects { rescue = upd s.objects.rescue bio.dev.0 (s.objects.rescue bio.dev.0 ++ punted bio.dev lists) }) refl)
+      (record s.objects { rescue = upd s.objects.rescue bio.dev.0 (s.objects.rescue bio.dev.0 ++ punted (Of bio.dev) lists) }) refl)
   submission_free place here x at (Copies bio master leg (Links hand)) lists h busy fits d =
       let doing : Doing = Copies bio master leg (Links hand) in
       let w = bio.writer in

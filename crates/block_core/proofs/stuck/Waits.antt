@@ -10,12 +10,14 @@ use Rattle.bio_records.specs.declared.bio.Bio.{Bio}
 use Rattle.bio_records.specs.declared.bio.Pad.{Pad}
 use Rattle.bio_records.specs.declared.tasks.TaskLists.{TaskLists}
 use Rattle.bio_records.specs.Items.{Item}
+use Rattle.bio_records.specs.Sorting.{is_of, is_of_other}
 use Rattle.bio_lists.specs.Submission.{order, submitted}
+use Rattle.bio_lists.specs.Punt.{punted, unpunted}
 use Rattle.bioset_pools.specs.Sets.{bios_of, waits_first}
 use Rattle.bio_books.specs.Books.{keeping}
 use Rattle.run_machine.specs.Maps.{upd}
 use Rattle.run_machine.specs.Scene.{Setup, Scene, tree_at}
-use Rattle.run_machine.specs.Submissions.{Want, Takes, Punts as WantsPunt, Links, ToPush, ToCut, ToRecord, ToMaster, Doing, Rests, Drives, Copies, Breaks, Submission, settled, goes_on, copies, asks_at, first_length, landed, legs_of, leg_at, is_of, punted, not_punted}
+use Rattle.run_machine.specs.Submissions.{Want, Takes, Punts as WantsPunt, Links, ToPush, ToCut, ToRecord, ToMaster, Doing, Rests, Drives, Copies, Breaks, Submission, settled, goes_on, copies, asks_at, first_length, landed, legs_of, leg_at}
 use Rattle.run_machine.specs.Tasks.{TaskState, Writer, Rescuer, Completer, Keeper}
 use Rattle.run_machine.specs.Objects.{clear_bio}
 use Rattle.run_machine.specs.Runs.{State}
@@ -137,26 +139,26 @@ module _ (setup : Setup) (r : AreRescued setup) where
   punts_rescued (Breaks breach kept) dev lists h d = absurd h
 
 -- all bios of a device's own set go to its rescuer
-own_is : (setup : Setup) (dev : DevId) (limit : ℕ) (item : Item Pad) → IsOwn setup dev.0 limit item → is_of dev item ≡ true
+own_is : (setup : Setup) (dev : DevId) (limit : ℕ) (item : Item Pad) → IsOwn setup dev.0 limit item → is_of (Of dev) item ≡ true
 own_is setup dev limit item own = by_set item.bio.set (sym (own.0.3) ∙ own.1)
   where
-    by_set : (set : SetId) → pool_number (bios_of set) ≡ 2 * dev.0 → is_of dev (record item { bio = record item.bio { set = set } }) ≡ true
+    by_set : (set : SetId) → pool_number (bios_of set) ≡ 2 * dev.0 → is_of (Of dev) (record item { bio = record item.bio { set = set } }) ≡ true
     by_set Fs is = absurd (omega (arith, is))
     by_set (Of other) is = eq-eqb other.0 dev.0 (omega (arith, is))
 
-none_left : (setup : Setup) (dev : DevId) (limit : ℕ) (items : List (Item Pad)) → Each (IsOwn setup dev.0 limit) items → filter (λ item. not (is_of dev item)) items ≡ []
+none_left : (setup : Setup) (dev : DevId) (limit : ℕ) (items : List (Item Pad)) → Each (IsOwn setup dev.0 limit) items → filter (is_of_other (Of dev)) items ≡ []
 none_left setup dev limit [] own = refl
-none_left setup dev limit (item ∷ items) own = by_test (is_of dev item) (own_is setup dev limit item own.0) (none_left setup dev limit items own.1)
+none_left setup dev limit (item ∷ items) own = by_test (is_of (Of dev) item) (own_is setup dev limit item own.0) (none_left setup dev limit items own.1)
   where
-    by_test : (v : Bool) → v ≡ true → filter (λ item. not (is_of dev item)) items ≡ []
-        → (if not v then item ∷ filter (λ item. not (is_of dev item)) items else filter (λ item. not (is_of dev item)) items) ≡ []
+    by_test : (v : Bool) → v ≡ true → filter (is_of_other (Of dev)) items ≡ []
+        → (if not v then item ∷ filter (is_of_other (Of dev)) items else filter (is_of_other (Of dev)) items) ≡ []
     by_test true is rest = rest
     by_test false is rest = absurd (true≢false (sym is))
 
 -- behind a punt it waits
 punted_wait : (setup : Setup) (limit : ℕ) (doing : Doing) (dev : DevId) (lists : TaskLists) → Wants doing dev WantsPunt → DoingPlaced setup limit doing lists
-    → DoingWaits setup (with_want doing (Takes true)) (not_punted dev lists)
-punted_wait setup limit (Drives bio (ToCut has)) dev lists h d = ap (filter (λ item. not (is_of dev item))) d.0
+    → DoingWaits setup (with_want doing (Takes true)) (unpunted (Of dev) lists)
+punted_wait setup limit (Drives bio (ToCut has)) dev lists h d = ap (filter (is_of_other (Of dev))) d.0
 punted_wait setup limit (Copies bio master leg has) dev lists h d =
     none_left setup dev limit lists.list0 (subst (λ (e : DevId). Each (IsOwn setup e.0 limit) lists.list0) (sym (h.0)) d.2)
 punted_wait setup limit (Drives bio ToPush) dev lists h d = absurd h
@@ -224,7 +226,7 @@ module _ (scene : Scene) (s : State) (g : Ground scene.setup) (r : AreRescued sc
 
   rescued : (m : Move) → Can scene s m → (dev : ℕ) → ((after scene s m).objects.rescue dev ≡ []) ⊎ (scene.setup.rescuer dev ≡ true)
   rescued (moves.Punts place x doing lists dev) c =
-      all_at (λ d (bios : List (Item Pad)). (bios ≡ []) ⊎ (scene.setup.rescuer d ≡ true)) s.objects.rescue dev.0 (s.objects.rescue dev.0 ++ punted dev lists) i.rescued
+      all_at (λ d (bios : List (Item Pad)). (bios ≡ []) ⊎ (scene.setup.rescuer d ≡ true)) s.objects.rescue dev.0 (s.objects.rescue dev.0 ++ punted (Of dev) lists) i.rescued
       (inr (punts_rescued scene.setup r doing dev lists c.3 (has place x doing lists c.1 c.2)))
   rescued (moves.Pops place dev bio bios) c =
       all_at (λ d (bios : List (Item Pad)). (bios ≡ []) ⊎ (scene.setup.rescuer d ≡ true)) s.objects.rescue dev.0 bios i.rescued (by_old (i.rescued dev.0))
@@ -255,12 +257,12 @@ module _ (scene : Scene) (s : State) (g : Ground scene.setup) (r : AreRescued sc
   stays_waiting m c = record { tasks = tasks m c; rescued = rescued m c }
 
 -- what stands behind one that waits is of other sets
-above_other : (dev : DevId) (limit : ℕ) (setup : Setup) (items : List (Item Pad)) → Above dev.0 items → Each (IsPlaced setup limit) items → All (λ item. is_of dev item ≡ false) items
-above_other dev limit setup [] above placed = All-nil (λ item. is_of dev item ≡ false)
+above_other : (dev : DevId) (limit : ℕ) (setup : Setup) (items : List (Item Pad)) → Above dev.0 items → Each (IsPlaced setup limit) items → All (λ item. is_of (Of dev) item ≡ false) items
+above_other dev limit setup [] above placed = All-nil (λ item. is_of (Of dev) item ≡ false)
 above_other dev limit setup (item ∷ items) above placed =
-    All-cons (λ item. is_of dev item ≡ false) item items (by_test (is_of dev item) refl) (above_other dev limit setup items above.1 placed.1)
+    All-cons (λ item. is_of (Of dev) item ≡ false) item items (by_test (is_of (Of dev) item) refl) (above_other dev limit setup items above.1 placed.1)
   where
-    by_test : (v : Bool) → is_of dev item ≡ v → v ≡ false
+    by_test : (v : Bool) → is_of (Of dev) item ≡ v → v ≡ false
     by_test true is =
         let set : pool_number (bios_of item.bio.set) ≡ 2 * dev.0 = of_set dev item.bio.set item is in
         let own : item.share.no ≡ pool_number (bios_of item.bio.set) = placed.0.3 in
@@ -272,7 +274,7 @@ module _ (setup : Setup) (limit : ℕ) where
   waits_behind : (dev : DevId) (want : Want) (lists : TaskLists) → WantWaits (setup.rescuer dev.0) want lists → Above dev.0 lists.list1 → Each (IsPlaced setup limit) lists.list1
       → NoneBehind setup dev want lists
   waits_behind dev (Takes true) lists none above placed =
-      (subst (All (λ item. is_of dev item ≡ false)) (sym none) (All-nil (λ item. is_of dev item ≡ false)), above_other dev limit setup lists.list1 above placed)
+      (subst (All (λ item. is_of (Of dev) item ≡ false)) (sym none) (All-nil (λ item. is_of (Of dev) item ≡ false)), above_other dev limit setup lists.list1 above placed)
   waits_behind dev (Takes false) lists is above placed = is
   waits_behind dev WantsPunt lists is above placed = is
   waits_behind dev (Links hand) lists is above placed = tt

@@ -12,11 +12,12 @@ use Rattle.bio_records.specs.Items.{Item}
 use Rattle.std.specs.Prelude.{filter}
 use Rattle.std.proofs.lemmas.List.Elements.{All-append, All-filter}
 use Rattle.stack_base.specs.declared.ids.DevId.{DevId}
+use Rattle.stack_base.specs.declared.ids.SetId.TheVariants.{Of}
 use Rattle.bio_records.specs.declared.tasks.TaskLists.{TaskLists}
-use Rattle.run_machine.specs.Submissions.{is_of, punted}
 use Rattle.task_steps.specs.Within.{IsWithinDevice, AreWithin, IsItemWithin, ListsAreWithin}
-use Rattle.bio_records.specs.Sorting.{is_lower, is_same}
+use Rattle.bio_records.specs.Sorting.{is_lower, is_same, is_of}
 use Rattle.bio_lists.specs.Submission.{submitted, order}
+use Rattle.bio_lists.specs.Punt.{punted}
 use Rattle.plain_core.specs.objects.Plain.{HasSize, HasPlacesForStack}
 
 -- a list with one place changed: what stands at a place is that, or what stood there
@@ -57,11 +58,11 @@ disked {stack = stack} {disks = disks} dev disk kept sized = record {
 }
 
 -- what is punted is within
-pub punted_within : (stack : Stack) (dev : DevId) (lists : TaskLists) → ListsAreWithin stack lists → AreWithin stack (punted dev lists)
+pub punted_within : (stack : Stack) (dev : DevId) (lists : TaskLists) → ListsAreWithin stack lists → AreWithin stack (punted (Of dev) lists)
 punted_within stack dev lists within =
-    All-append (IsItemWithin stack) (filter (is_of dev) lists.list0) (filter (is_of dev) lists.list1)
-    (All-filter (is_of dev) (IsItemWithin stack) lists.list0 within.0)
-    (All-filter (is_of dev) (IsItemWithin stack) lists.list1 within.1)
+    All-append (IsItemWithin stack) (filter (is_of (Of dev)) lists.list0) (filter (is_of (Of dev)) lists.list1)
+    (All-filter (is_of (Of dev)) (IsItemWithin stack) lists.list0 within.0)
+    (All-filter (is_of (Of dev)) (IsItemWithin stack) lists.list1 within.1)
 
 -- so is what is served next
 pub ordered_within : (stack : Stack) (dev : DevId) (lists : TaskLists) → ListsAreWithin stack lists → AreWithin stack (order dev lists)

@@ -6,10 +6,12 @@ use Rattle.stack_base.specs.declared.ids.DevId.{DevId}
 use Rattle.stack_base.specs.declared.ids.PoolId.{PoolId}
 use Rattle.stack_base.specs.declared.ids.Status.{Status}
 use Rattle.stack_base.specs.PoolId.{pool_number}
+use Rattle.stack_base.specs.declared.ids.SetId.TheVariants.{Of}
 use Rattle.bio_records.specs.declared.bio.Pad.{Pad}
 use Rattle.bio_records.specs.declared.tasks.TaskLists.{TaskLists}
 use Rattle.bio_records.specs.Items.{Item}
 use Rattle.mempool_core.specs.Move.{gives, resizes, CanMove}
+use Rattle.bio_lists.specs.Punt.{punted}
 use Rattle.model_disks.specs.Disks.{DiskState}
 use Rattle.model_disks.specs.Moves.{pushed, Completes}
 use Rattle.bio_books.specs.Books.{BookState, VectorItem, SlipItem}
@@ -22,7 +24,6 @@ use Rattle.run_machine.specs.declared.event.What.{What}
 use Rattle.run_machine.specs.declared.event.What.TheVariants as told
 use Rattle.run_machine.specs.Requests.{Opening, GiveBio, GiveVec, GiveSlip, Punt, Pop, Push, Complete, Link, Drop, Done, Resize, NextRound, Did, Popped, Completed, LinkedTo, DroppedTo, OutIs, Nothing}
 use Rattle.run_machine.specs.Events.{pool_of, how_of, drop_of, resize_of}
-use Rattle.run_machine.specs.Submissions.{punted}
 use Rattle.run_machine.specs.Maps.{upd}
 use Rattle.run_machine.specs.Objects.{Opened}
 use Rattle.plain_core.specs.objects.Books.{ended_of_plain, end_of, IsToldBy}
@@ -94,31 +95,31 @@ resize old new pool min what (Err fault.Memory) t = absurd t
 
 -- rescuers
 pub punt_answer : (old new : CoreObjects) (dev : DevId) (lists : TaskLists) (what : What) → IsPunt lists dev what
-    → core_rescue_at new dev.0 ≡ core_rescue_at old dev.0 ++ punted dev lists → new ≡ record old { rescues = slice_set old.rescues dev.0 (core_rescue_at new dev.0) }
-    → IsAnswer old (Punt dev (punted dev lists)) what Did new
+    → core_rescue_at new dev.0 ≡ core_rescue_at old dev.0 ++ punted (Of dev) lists → new ≡ record old { rescues = slice_set old.rescues dev.0 (core_rescue_at new dev.0) }
+    → IsAnswer old (Punt dev (punted (Of dev) lists)) what Did new
 punt_answer old new dev lists what is added set = record {
   stack = ap (λ (o : CoreObjects). o.stack) set;
   told = ap Some (sym is);
   serves = rescue_set old new dev.0 set ∙ ap (λ bios. record (objects_of_core old) { rescue = upd (core_rescue_at old) dev.0 bios }) added;
 }
 
-pub not_punted : (old : CoreObjects) (dev : DevId) (lists : TaskLists) (what : What) → (IsPunt lists dev what → ⊥) → Refuses old (Punt dev (punted dev lists)) what
+pub not_punted : (old : CoreObjects) (dev : DevId) (lists : TaskLists) (what : What) → (IsPunt lists dev what → ⊥) → Refuses old (Punt dev (punted (Of dev) lists)) what
 not_punted old dev lists what never Did new is serves = never (one is)
 not_punted old dev lists what never _ new is serves = absurd serves
 
-can_punt : (old : CoreObjects) (dev : DevId) (lists : TaskLists) (what : What) → IsPunt lists dev what → HasAnswer old (Punt dev (punted dev lists)) what
+can_punt : (old : CoreObjects) (dev : DevId) (lists : TaskLists) (what : What) → IsPunt lists dev what → HasAnswer old (Punt dev (punted (Of dev) lists)) what
 can_punt old dev lists what is = record {
   reply = Did;
-  new = record (objects_of_core old) { rescue = upd (core_rescue_at old) dev.0 (core_rescue_at old dev.0 ++ punted dev lists) };
+  new = record (objects_of_core old) { rescue = upd (core_rescue_at old) dev.0 (core_rescue_at old dev.0 ++ punted (Of dev) lists) };
   told = ap Some (sym is);
   serves = refl;
 }
 
 pub punt_failed : (old new : CoreObjects) (dev other : DevId) (lists rest : TaskLists) (what : What) (e : CoreFault) → dev ≡ other → Punts old lists dev what (Err e) new rest
-    → Lacks old (Punt other (punted other lists)) what e new × (rest ≡ lists)
+    → Lacks old (Punt other (punted (Of other) lists)) what e new × (rest ≡ lists)
 punt_failed old new dev other lists rest what e is p = by e (subst (λ d. Punts old lists d what (Err e) new rest) is p)
   where
-    by : (e : CoreFault) → Punts old lists other what (Err e) new rest → Lacks old (Punt other (punted other lists)) what e new × (rest ≡ lists)
+    by : (e : CoreFault) → Punts old lists other what (Err e) new rest → Lacks old (Punt other (punted (Of other) lists)) what e new × (rest ≡ lists)
     by fault.NotEnabled p = ((p.0, not_punted old other lists what p.2), p.1)
     by fault.Memory p = ((p.0, can_punt old other lists what p.2), p.1)
 

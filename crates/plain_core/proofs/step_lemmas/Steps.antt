@@ -1,12 +1,14 @@
 -- Steps of submissions, of what their calls answered.
 use Rattle.std.proofs.Common.{◌≡◌, ◌+◌, ℕ, true, refl, sym, ap, ◌∙◌, subst, None, Some, Ok, Err}
 use Rattle.stack_base.specs.declared.ids.DevId.{DevId}
+use Rattle.stack_base.specs.declared.ids.SetId.TheVariants.{Of}
 use Rattle.stack_base.specs.Tree.{tree}
 use Rattle.bio_records.specs.declared.bio.Bio.{Bio}
 use Rattle.bio_records.specs.declared.bio.Pad.{Pad}
 use Rattle.bio_records.specs.declared.tasks.TaskLists.{TaskLists}
 use Rattle.bio_records.specs.Items.{Item}
 use Rattle.bio_lists.specs.Submission.{submitted}
+use Rattle.bio_lists.specs.Punt.{punted, unpunted}
 use Rattle.bio_books.specs.Books.{SlipItem}
 use Rattle.bio_books.specs.Links.{Made}
 use Rattle.run_machine.specs.declared.event.What.{What}
@@ -38,7 +40,7 @@ failed r old new doing lists rest what fault.Memory same f = (f.0, refl, same, f
 
 -- a punt, as an answer
 punted_to : (old new : CoreObjects) (lists rest : TaskLists) (dev other : DevId) (what : What) → dev ≡ other → Punts old lists dev what (Ok (tt {0})) new rest
-    → IsAnswer old (Punt other (submission.punted other lists)) what Did new × (rest ≡ submission.not_punted other lists)
+    → IsAnswer old (Punt other (punted (Of other) lists)) what Did new × (rest ≡ unpunted (Of other) lists)
 punted_to old new lists rest dev other what is p =
     let q = subst (λ d. Punts old lists d what (Ok (tt {0})) new rest) is p in
     (punt_answer old new other lists what q.0 q.1 q.2, q.3)

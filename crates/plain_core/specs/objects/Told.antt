@@ -3,10 +3,12 @@ use Rattle.std.specs.Prelude.{◌≡◌, ◌+◌, ◌-◌, ◌^◌, ◌<◌, ◌
 use Rattle.stack_base.specs.declared.ids.DevId.{DevId}
 use Rattle.stack_base.specs.declared.ids.PoolId.{PoolId}
 use Rattle.stack_base.specs.declared.ids.Status.{Status}
+use Rattle.stack_base.specs.declared.ids.SetId.TheVariants.{Of}
 use Rattle.bio_records.specs.declared.bio.Pad.{Pad}
 use Rattle.bio_records.specs.declared.tasks.TaskLists.{TaskLists}
 use Rattle.bio_records.specs.Items.{Item}
 use Rattle.mempool_core.specs.Move.{Move, CanMove, after_move}
+use Rattle.bio_lists.specs.Punt.{punted, unpunted}
 use Rattle.model_disks.specs.Disks.{DiskState}
 use Rattle.model_disks.specs.Moves.{pushed, Completes}
 use Rattle.bio_books.specs.Books.{BookState}
@@ -18,7 +20,6 @@ use Rattle.run_machine.specs.declared.event.Got.{Got}
 use Rattle.run_machine.specs.declared.event.What.{What}
 use Rattle.run_machine.specs.declared.event.What.TheVariants as told
 use Rattle.run_machine.specs.Events.{take_of, how_of}
-use Rattle.run_machine.specs.Submissions.{punted, not_punted}
 use Rattle.run_machine.specs.Requests.{Opening}
 use Rattle.run_machine.specs.Objects.{Opened, done_one}
 use Rattle.plain_core.specs.objects.Pools.{move_of, CanTake}
@@ -51,14 +52,14 @@ MovesAs old number move tells what result new =
 
 -- all bios of a device's set that wait in these lists go to its rescuer
 abbrev pub IsPunt : TaskLists → DevId → What → Type 0
-IsPunt lists dev what = what ≡ told.Punt dev (min (length (punted dev lists)) (2 ^ 64 - 1))
+IsPunt lists dev what = what ≡ told.Punt dev (min (length (punted (Of dev) lists)) (2 ^ 64 - 1))
 
 abbrev pub Punts : CoreObjects → TaskLists → DevId → What → Result (Unit {0}) CoreFault → CoreObjects → TaskLists → Type 0
 Punts old lists dev what (Ok done) new rest =
     IsPunt lists dev what
-    × (core_rescue_at new dev.0 ≡ core_rescue_at old dev.0 ++ punted dev lists)
+    × (core_rescue_at new dev.0 ≡ core_rescue_at old dev.0 ++ punted (Of dev) lists)
     × (new ≡ with_rescue old dev.0 (core_rescue_at new dev.0))
-    × (rest ≡ not_punted dev lists)
+    × (rest ≡ unpunted (Of dev) lists)
 Punts old lists dev what (Err fault.NotEnabled) new rest = (new ≡ old) × (rest ≡ lists) × (IsPunt lists dev what → ⊥)
 Punts old lists dev what (Err fault.Memory) new rest = (new ≡ old) × (rest ≡ lists) × IsPunt lists dev what
 

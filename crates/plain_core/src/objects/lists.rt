@@ -1,9 +1,11 @@
 //! The lists of tasks and rescuers, of plain elements.
-ghost use Rattle.std.specs.Prelude.{◌≡◌, ℕ, ◌+◌, ◌*◌, ◌-◌, ◌^◌, ◌<◌, ◌≤◌, ◌++◌, [], ◌∷◌, not, min, length, filter, drop, MatchOption, OnOk, OnErr};
+ghost use Rattle.std.specs.Prelude.{◌≡◌, ℕ, ◌+◌, ◌*◌, ◌-◌, ◌^◌, ◌<◌, ◌≤◌, ◌++◌, [], ◌∷◌, min, length, filter, drop, MatchOption, OnOk, OnErr};
 ghost use Rattle.std.specs.VecDeque.{deque_capacity};
+ghost use Rattle.stack_base.specs.declared.ids.SetId.TheVariants.{Of};
+ghost use Rattle.bio_records.specs.Sorting.{is_of, is_of_other};
 ghost use Rattle.bio_lists.specs.Submission.{no_lists, submitted, order};
+ghost use Rattle.bio_lists.specs.Punt.{punted, unpunted};
 ghost use Rattle.bioset_pools.specs.Sets.{is_empty};
-ghost use Rattle.run_machine.specs.Submissions.{is_of, punted, not_punted};
 ghost use Rattle.plain_core.specs.objects.Lists.{lists_of, is_picked, ListsHaveCapacity, IsFirstOfBios};
 
 use crate::objects::part::Part;
@@ -23,7 +25,7 @@ pub struct Lists {
 
 // Whether a bio is of a device's set.
 fn is_of(part: &Part, dev: DevId) -> bool
-    ensures { result ≡ is_of dev part.now }
+    ensures { result ≡ is_of (Of dev) part.now }
 {
     match part.bio().set {
         SetId::Fs => false,
@@ -33,7 +35,7 @@ fn is_of(part: &Part, dev: DevId) -> bool
 
 // How many bios of a list are of a device's set.
 fn count_of(list: &VecDeque<Part>, dev: DevId) -> u64
-    ensures { result ≡ length (filter (is_of dev) list.now.items) }
+    ensures { result ≡ length (filter (is_of (Of dev)) list.now.items) }
 {
     list.iter().filter(|part| is_of(part, dev)).count() as u64
 }
@@ -59,8 +61,8 @@ fn put_before(list0: &VecDeque<Part>, dev: DevId, lower: bool, list1: &mut VecDe
 fn place(part: Part, dev: DevId, from: &mut VecDeque<Part>, into: &mut VecDeque<Part>)
     requires from { length from.old.items < deque_capacity from.old }
     requires into { length into.old.items < deque_capacity into.old }
-    ensures others { from.new.items ≡ from.old.items ++ filter (λ item. not (is_of dev item)) (part ∷ []) }
-    ensures moved { into.new.items ≡ into.old.items ++ filter (is_of dev) (part ∷ []) }
+    ensures others { from.new.items ≡ from.old.items ++ filter (is_of_other (Of dev)) (part ∷ []) }
+    ensures moved { into.new.items ≡ into.old.items ++ filter (is_of (Of dev)) (part ∷ []) }
     ensures few { length into.new.items ≤ length into.old.items + 1 }
     ensures capacity { deque_capacity into.new ≡ deque_capacity into.old }
 {
@@ -74,8 +76,8 @@ fn place(part: Part, dev: DevId, from: &mut VecDeque<Part>, into: &mut VecDeque<
 // Moves the bios of a device's set to another list. The others keep their order.
 fn sift(from: &mut VecDeque<Part>, dev: DevId, into: &mut VecDeque<Part>)
     requires { length into.old.items + length from.old.items ≤ deque_capacity into.old }
-    ensures others { from.new.items ≡ filter (λ item. not (is_of dev item)) from.old.items }
-    ensures moved { into.new.items ≡ into.old.items ++ filter (is_of dev) from.old.items }
+    ensures others { from.new.items ≡ filter (is_of_other (Of dev)) from.old.items }
+    ensures moved { into.new.items ≡ into.old.items ++ filter (is_of (Of dev)) from.old.items }
     ensures few { length into.new.items ≤ length into.old.items + length from.old.items }
     ensures capacity { deque_capacity into.new ≡ deque_capacity into.old }
 {
@@ -127,7 +129,7 @@ impl Lists {
 
     /// How many bios that wait are of a device's set, or `u64::MAX` where there are more.
     pub fn count_of(&self, dev: DevId) -> u64
-        ensures { result ≡ min (length (punted dev (lists_of self.now))) (2 ^ 64 - 1) }
+        ensures { result ≡ min (length (punted (Of dev) (lists_of self.now))) (2 ^ 64 - 1) }
     {
         count_of(&self.list0, dev).saturating_add(count_of(&self.list1, dev))
     }
@@ -185,8 +187,8 @@ impl Rescue {
     /// # Errors
     /// Where there is no memory. Nothing is changed then.
     pub fn punt(&mut self, dev: DevId, lists: &mut Lists) -> Result<(), AllocError>
-        ensures moved { OnOk result (self.new ≡ self.old ++ punted dev (lists_of lists.old)) }
-        ensures others { OnOk result (lists_of lists.new ≡ not_punted dev (lists_of lists.old)) }
+        ensures moved { OnOk result (self.new ≡ self.old ++ punted (Of dev) (lists_of lists.old)) }
+        ensures others { OnOk result (lists_of lists.new ≡ unpunted (Of dev) (lists_of lists.old)) }
         ensures err { OnErr result ((self.new ≡ self.old) × (lists_of lists.new ≡ lists_of lists.old)) }
     {
         self.bios.reserve(lists.list0.len() + lists.list1.len())?;

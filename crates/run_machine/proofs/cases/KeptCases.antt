@@ -1,10 +1,12 @@
 -- What tasks keep that cannot go on, case by case.
 use Rattle.std.proofs.Common.{◌≡◌, ℕ, List, [], ◌∷◌, map, Option, Some, refl}
 use Rattle.stack_base.specs.declared.ids.Status.{Status}
+use Rattle.stack_base.specs.declared.ids.SetId.TheVariants.{Of}
 use Rattle.bio_records.specs.declared.bio.Bio.{Bio}
 use Rattle.bio_records.specs.declared.bio.Pad.{Pad}
 use Rattle.bio_records.specs.declared.tasks.TaskLists.{TaskLists}
 use Rattle.bio_records.specs.Items.{Item}
+use Rattle.bio_lists.specs.Punt.{punted, unpunted}
 use Rattle.bio_books.specs.Books.{VectorItem, SlipItem, nothing_held, holding_vector, unmastered}
 use Rattle.bio_books.specs.Drops as end
 use Rattle.bio_books.specs.Links.{NoRoom, Stray}
@@ -12,7 +14,7 @@ use Rattle.run_machine.specs.declared.event.Breach.TheVariants as breach
 use Rattle.run_machine.specs.Scene.{Setup}
 use Rattle.run_machine.specs.Requests.{LinkedTo, DroppedTo, Spent}
 use Rattle.run_machine.specs.Kept.{KeptBio, KeptVec, KeptSlip}
-use Rattle.run_machine.specs.Submissions.{Punts, Links, ToPush, ToCut, ToMaster, Drives, Copies, Breaks, Submission, punted, not_punted, submission_answered}
+use Rattle.run_machine.specs.Submissions.{Punts, Links, ToPush, ToCut, ToMaster, Drives, Copies, Breaks, Submission, submission_answered}
 use Rattle.run_machine.specs.Tasks.{Todo, HasBio, HasBoth, Writer, Brings, Carries, Fails, filled_vector, write_answered, carried_answered}
 
 module _ (setup : Setup) (lists : TaskLists) where
@@ -22,12 +24,12 @@ module _ (setup : Setup) (lists : TaskLists) where
 
   -- a rescuer's list had none: the bio at the driver, and those that were handed over, which are in no list any more
   a_punt : (bio : Item Pad) → submission_answered setup (Drives bio (ToCut Punts)) lists Spent
-      ≡ record { doing = Breaks breach.Spent (KeptBio bio ∷ map KeptBio (punted bio.bio.dev lists)); lists = not_punted bio.bio.dev lists }
+      ≡ record { doing = Breaks breach.Spent (KeptBio bio ∷ map KeptBio (punted (Of bio.bio.dev) lists)); lists = unpunted (Of bio.bio.dev) lists }
   a_punt bio = refl
 
   -- a mirror's: the parent has the bio that is copied
   a_punt_for_a_leg : (bio : Bio) (master leg : ℕ) → submission_answered setup (Copies bio master leg Punts) lists Spent
-      ≡ record { doing = Breaks breach.Spent (map KeptBio (punted bio.dev lists)); lists = not_punted bio.dev lists }
+      ≡ record { doing = Breaks breach.Spent (map KeptBio (punted (Of bio.dev) lists)); lists = unpunted (Of bio.dev) lists }
   a_punt_for_a_leg bio master leg = refl
 
   -- a book had no vacant place for the front of a bio: both bios

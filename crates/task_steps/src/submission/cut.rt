@@ -3,9 +3,9 @@ ghost use Rattle.std.specs.Prelude.{◌≡◌, ◌<◌, ◌≤◌, ◌+◌, ◌-
 ghost use Rattle.stack_base.specs.declared.ids.SetId.TheVariants.{Of};
 ghost use Rattle.bio_records.specs.Items.{item_of, IsAlone};
 ghost use Rattle.bio_split.specs.Split.{split_front, split_rest};
+ghost use Rattle.bio_lists.specs.Punt.{punted};
 ghost use Rattle.run_machine.specs.Scene.{tree_at};
 ghost use Rattle.run_machine.specs.Requests.{Punt, Link as LinkOf, Chain};
-ghost use Rattle.run_machine.specs.Submissions.{punted};
 ghost use Rattle.task_steps.specs.declared.submission.Doing.TheVariants as doing';
 ghost use Rattle.task_steps.specs.declared.submission.Want.TheVariants.{Punts, Links};
 ghost use Rattle.task_steps.specs.Within.{IsWithinDevice, ListsAreWithin, is_cut};
@@ -33,7 +33,7 @@ pub(crate) fn punt_to_cut<O: Objects>(
     at: &mut Doing,
     lists: &mut TaskLists,
 ) -> Step
-    requires ready { Ready O.Objects objects.old (Punt (item_of bio).bio.dev (punted (item_of bio).bio.dev lists.old)) }
+    requires ready { Ready O.Objects objects.old (Punt (item_of bio).bio.dev (punted (Of (item_of bio).bio.dev) lists.old)) }
     requires alone { IsAlone bio }
     requires rests { at.old ≡ doing'.Rests }
     ensures does { AlwaysDoes O.Objects task (cutting bio Punts) lists.old objects.old (at.new, result) lists.new objects.new }

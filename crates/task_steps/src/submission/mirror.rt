@@ -1,10 +1,12 @@
 //! A mirror's driver: it takes a record and opens a master, and then takes a bio of its set for each leg and submits it as a copy
 //! (`raid1_write_request`, `drivers/md/raid1.c`).
 ghost use Rattle.std.specs.Prelude.{◌≡◌, ◌<◌, ◌+◌, ◌-◌, true};
+ghost use Rattle.stack_base.specs.declared.ids.SetId.TheVariants.{Of};
 ghost use Rattle.bio_records.specs.Items.{item_of, IsAlone};
+ghost use Rattle.bio_lists.specs.Punt.{punted};
 ghost use Rattle.run_machine.specs.Scene.{tree_at};
 ghost use Rattle.run_machine.specs.Requests.{TakeSlip, Punt, Link as LinkOf, Master, Leg};
-ghost use Rattle.run_machine.specs.Submissions.{punted, legs_of, leg_at, copies};
+ghost use Rattle.run_machine.specs.Submissions.{legs_of, leg_at, copies};
 ghost use Rattle.task_steps.specs.declared.submission.Doing.TheVariants as doing';
 ghost use Rattle.task_steps.specs.declared.submission.DriverAsk.TheVariants.{ToRecord, ToMaster};
 ghost use Rattle.task_steps.specs.declared.submission.Want.TheVariants.{Punts, Links};
@@ -165,7 +167,7 @@ pub(crate) fn punt_to_copy<O: Objects>(
     at: &mut Doing,
     lists: &mut TaskLists,
 ) -> Step
-    requires ready { Ready O.Objects objects.old (Punt run.bio.dev (punted run.bio.dev lists.old)) }
+    requires ready { Ready O.Objects objects.old (Punt run.bio.dev (punted (Of run.bio.dev) lists.old)) }
     requires rests { at.old ≡ doing'.Rests }
     ensures does { AlwaysDoes O.Objects task (copying run Punts) lists.old objects.old (at.new, result) lists.new objects.new }
     ensures alone { IsDoingAlone at.new }

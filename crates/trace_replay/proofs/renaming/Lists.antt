@@ -5,15 +5,17 @@ use Rattle.std.proofs.lemmas.List.{map-append}
 use Rattle.stack_base.specs.declared.ids.DevId.{DevId}
 use Rattle.stack_base.specs.Mapping.{slot}
 use Rattle.stack_base.specs.Tree.{Tree, Leaf, Split, Mirrored}
+use Rattle.stack_base.specs.declared.ids.SetId.TheVariants.{Of}
 use Rattle.bio_records.specs.declared.bio.Bio.{Bio}
 use Rattle.bio_records.specs.declared.bio.Pad.{Pad}
 use Rattle.bio_records.specs.declared.tasks.TaskLists.{TaskLists}
 use Rattle.bio_records.specs.Items.{Item}
-use Rattle.bio_records.specs.Sorting.{is_lower, is_same}
+use Rattle.bio_records.specs.Sorting.{is_lower, is_same, is_of, is_of_other}
 use Rattle.bio_lists.specs.Submission.{submitted, order}
+use Rattle.bio_lists.specs.Punt.{punted, unpunted}
 use Rattle.run_machine.specs.Scene.{Setup, tree_at}
 use Rattle.bioset_pools.specs.Sets.{is_empty, waits_first}
-use Rattle.run_machine.specs.Submissions.{Takes, ToCut, Drives, Copies, first_length, mapped, landed, asks_at, landed_doing, settled, goes_on, legs_of, copies, is_of, punted, not_punted}
+use Rattle.run_machine.specs.Submissions.{Takes, ToCut, Drives, Copies, first_length, mapped, landed, asks_at, landed_doing, settled, goes_on, legs_of, copies}
 use Rattle.trace_replay.proofs.renaming.Renaming.{Places, share_to, bio_to, item_to, lists_to, doing_to, submission_to}
 
 -- a filter that does not see what a map changes
@@ -40,17 +42,17 @@ module _ (to : Places) where
       ∙ ap (λ l. all (filter (is_lower dev) lists.list0) ++ l) (sym (map-append (item_to to) (filter (is_same dev) lists.list0) lists.list1))
       ∙ sym (map-append (item_to to) (filter (is_lower dev) lists.list0) (filter (is_same dev) lists.list0 ++ lists.list1))
 
-  pub punted_to : (dev : DevId) (lists : TaskLists) → punted dev (lists_to to lists) ≡ all (punted dev lists)
+  pub punted_to : (dev : DevId) (lists : TaskLists) → punted (Of dev) (lists_to to lists) ≡ all (punted (Of dev) lists)
   punted_to dev lists =
-      let first = filter_map (is_of dev) (item_to to) (λ x. refl) lists.list0 in
-      let second = filter_map (is_of dev) (item_to to) (λ x. refl) lists.list1 in
-      ap (λ l. l ++ filter (is_of dev) (all lists.list1)) first
-      ∙ ap (λ l. all (filter (is_of dev) lists.list0) ++ l) second
-      ∙ sym (map-append (item_to to) (filter (is_of dev) lists.list0) (filter (is_of dev) lists.list1))
+      let first = filter_map (is_of (Of dev)) (item_to to) (λ x. refl) lists.list0 in
+      let second = filter_map (is_of (Of dev)) (item_to to) (λ x. refl) lists.list1 in
+      ap (λ l. l ++ filter (is_of (Of dev)) (all lists.list1)) first
+      ∙ ap (λ l. all (filter (is_of (Of dev)) lists.list0) ++ l) second
+      ∙ sym (map-append (item_to to) (filter (is_of (Of dev)) lists.list0) (filter (is_of (Of dev)) lists.list1))
 
-  pub not_punted_to : (dev : DevId) (lists : TaskLists) → not_punted dev (lists_to to lists) ≡ lists_to to (not_punted dev lists)
-  not_punted_to dev lists =
-      let p : Item Pad → Bool = λ item. not (is_of dev item) in
+  pub unpunted_to : (dev : DevId) (lists : TaskLists) → unpunted (Of dev) (lists_to to lists) ≡ lists_to to (unpunted (Of dev) lists)
+  unpunted_to dev lists =
+      let p : Item Pad → Bool = is_of_other (Of dev) in
       let first = filter_map p (item_to to) (λ x. refl) lists.list0 in
       let second = filter_map p (item_to to) (λ x. refl) lists.list1 in
       λ k. record { list0 = first k; list1 = second k }

@@ -24,7 +24,7 @@ use Rattle.run_machine.specs.Requests.{Request, Reply, Drop, HadBio, HadVec, Had
 use Rattle.run_machine.specs.Objects.{Objects, Serves}
 use Rattle.run_machine.specs.Events.{what_of}
 use Rattle.trace_replay.proofs.renaming.Renaming.{Places, item_to, hand_to, want_to, taken_to, lists_to, doing_to, submission_to, closed_to, carried_to, task_to, writer_in, reply_to}
-use Rattle.trace_replay.proofs.renaming.Lists.{settled_to, goes_to, copies_to, submitted_to, not_punted_to}
+use Rattle.trace_replay.proofs.renaming.Lists.{settled_to, goes_to, copies_to, submitted_to, unpunted_to}
 
 -- the bio that a mirror copies has a leg left to make
 abbrev pub HasLeg : Setup → Doing → Type 0
@@ -85,7 +85,7 @@ module _ (setup : Setup) (to : Places) (gone fresh : ℕ) (ledger : ℕ → Ledg
       (gone, ap (λ want. record { doing = Drives (item_to to bio) (ToCut want); lists = lists_to to lists }) (missed waits))
   submission_goes (Drives bio (ToCut (Takes waits))) lists _ has is = absurd is.0
   submission_goes (Drives bio (ToCut WantsPunt)) lists Did has is =
-      (gone, ap (λ l. record { doing = Drives (item_to to bio) (ToCut (Takes true)); lists = l }) (not_punted_to to bio.bio.dev lists))
+      (gone, ap (λ l. record { doing = Drives (item_to to bio) (ToCut (Takes true)); lists = l }) (unpunted_to to bio.bio.dev lists))
   submission_goes (Drives bio (ToCut WantsPunt)) lists _ has is = absurd is.0
   submission_goes (Drives bio (ToCut (Links hand))) lists (LinkedTo (Made node)) has is = (gone, cut_to lists bio hand node (tree_at setup bio.bio.dev))
   submission_goes (Drives bio (ToCut (Links hand))) lists (LinkedTo (NoRoom back)) has is = untold event is.1
@@ -104,7 +104,7 @@ module _ (setup : Setup) (to : Places) (gone fresh : ℕ) (ledger : ℕ → Ledg
       (gone, ap (λ want. record { doing = Copies (record bio { node = gone }) (to bio.writer master) leg want; lists = lists_to to lists }) (missed waits))
   submission_goes (Copies bio master leg (Takes waits)) lists _ has is = absurd is.0
   submission_goes (Copies bio master leg WantsPunt) lists Did has is =
-      (gone, ap (λ l. record { doing = Copies (record bio { node = gone }) (to bio.writer master) leg (Takes true); lists = l }) (not_punted_to to bio.dev lists))
+      (gone, ap (λ l. record { doing = Copies (record bio { node = gone }) (to bio.writer master) leg (Takes true); lists = l }) (unpunted_to to bio.dev lists))
   submission_goes (Copies bio master leg WantsPunt) lists _ has is = absurd is.0
   submission_goes (Copies bio master leg (Links hand)) lists (LinkedTo (Made node)) has is =
       let item = leg_at bio hand leg node (tree_at setup bio.dev) in (
