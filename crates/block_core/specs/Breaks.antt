@@ -8,9 +8,8 @@ use Rattle.bio_books.specs.Drops.{Ended}
 use Rattle.bio_books.specs.Drops as end
 use Rattle.run_machine.specs.declared.event.Event.{Event}
 use Rattle.run_machine.specs.Scene.{Scene}
-use Rattle.run_machine.specs.Submissions.{Doing, Rests, Drives, Copies, Breaks}
 use Rattle.run_machine.specs.Requests.{Reply, LinkedTo, DroppedTo, Spent}
-use Rattle.run_machine.specs.Tasks.{TaskState, Writer, Rescuer, Completer, Keeper, Carried, Empty, Brings, Carries, Fails, Keeping, Keeps, Stops, Duty, Resizes, request, look_of}
+use Rattle.run_machine.specs.Tasks.{Keeper, Keeps, Duty, Resizes, request, look_of, is_broken}
 use Rattle.run_machine.specs.Objects.{Objects, Serves}
 use Rattle.run_machine.specs.Opened.{Scenario, scene, start}
 use Rattle.run_machine.specs.Runs.{State, IsLet, IsRun}
@@ -38,29 +37,6 @@ is_refusal (LinkedTo answer) = is_no_link answer
 is_refusal (DroppedTo ended) = is_no_end ended
 is_refusal Spent = true
 is_refusal reply = false
-
--- whether a task broke off: it asks for nothing more, though it has not done all
-abbrev pub broke_in : Doing → Bool
-broke_in Rests = false
-broke_in (Drives bio ask) = false
-broke_in (Copies bio master leg want) = false
-broke_in (Breaks breach kept) = true
-
-abbrev pub failed : Carried → Bool
-failed Empty = false
-failed (Brings bio status) = false
-failed (Carries writer closed) = false
-failed (Fails breach kept) = true
-
-abbrev pub stopped : Keeping → Bool
-stopped (Keeps duties) = false
-stopped (Stops breach) = true
-
-abbrev pub is_broken : TaskState → Bool
-is_broken (Writer number todo taken submission) = broke_in submission.doing
-is_broken (Rescuer dev submission) = broke_in submission.doing
-is_broken (Completer disk carried) = failed carried
-is_broken (Keeper keeping) = stopped keeping
 
 pub record GoesUnrefused (scene : Scene) (state : State) : Type 0 where
   -- whatever the object of a task's next request answers is no refusal

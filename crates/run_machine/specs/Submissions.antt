@@ -54,6 +54,13 @@ pub record Submission : Type 0 where
 abbrev pub rests : Submission
 rests = record { doing = Rests; lists = no_lists }
 
+-- why a submission cannot go on, if it has broken off
+abbrev pub doing_breach : Doing → Option Breach
+doing_breach Rests = None
+doing_breach (Drives bio ask) = None
+doing_breach (Copies bio master leg want) = None
+doing_breach (Breaks breach kept) = Some breach
+
 -- how long the first piece of a run is
 abbrev pub first_length : Kind → List ℕ → Range → ℕ
 first_length kind sizes range = min (next kind sizes range.start - range.start) range.len

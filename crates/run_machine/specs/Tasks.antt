@@ -1,5 +1,6 @@
 -- Tasks: what each asks for next, and how it goes on with a reply. Both are functions of the task's own state.
 use Rattle.std.specs.Prelude.{◌==◌, ℕ, Bool, true, false, nat_lt, nat_le, List, [], ◌∷◌, Option, None, Some}
+use Rattle.std.specs.Option.{is_some}
 use Rattle.stack_base.specs.declared.ids.DevId.{DevId}
 use Rattle.stack_base.specs.declared.ids.PoolId.{PoolId}
 use Rattle.stack_base.specs.declared.ids.SetId.TheVariants.{Fs}
@@ -17,7 +18,7 @@ use Rattle.run_machine.specs.declared.event.Breach.{Breach}
 use Rattle.run_machine.specs.declared.event.Breach.TheVariants as breach
 use Rattle.run_machine.specs.Scene.{Setup}
 use Rattle.run_machine.specs.Kept.{Kept, KeptBio, KeptVec, bio_kept, holding_kept}
-use Rattle.run_machine.specs.Submissions.{Doing, Rests, Breaks, Submission, settled, refused, submission_request, submission_answered}
+use Rattle.run_machine.specs.Submissions.{Doing, Rests, Breaks, Submission, settled, refused, submission_request, submission_answered, doing_breach}
 use Rattle.run_machine.specs.Requests.{Request, Reply, TakeBio, TakeVec, GiveBio, GiveVec, GiveSlip, Pop, Complete, Link, Drop, Done, Resize, NextRound, LookRound, LookLeft, Rest, Write, HadBio, HadVec, Did, Popped, Completed, LinkedTo, DroppedTo, OutIs, Present, LeftOver, Spent}
 
 -- a write that a writer has still to begin, by its number, with its round
@@ -58,6 +59,28 @@ pub data TaskState : Type 0 where
   Rescuer : DevId → Submission → TaskState
   Completer : DevId → Carried → TaskState
   Keeper : Keeping → TaskState
+
+-- why a completer, or the keeper, cannot go on, if it can't
+abbrev pub carried_breach : Carried → Option Breach
+carried_breach Empty = None
+carried_breach (Brings bio status) = None
+carried_breach (Carries writer closed) = None
+carried_breach (Fails breach kept) = Some breach
+
+abbrev pub keeping_breach : Keeping → Option Breach
+keeping_breach (Keeps duties) = None
+keeping_breach (Stops breach) = Some breach
+
+-- why a task asks for nothing more, though it has not done all, if it has broken off
+abbrev pub breach_of : TaskState → Option Breach
+breach_of (Writer number todo taken submission) = doing_breach submission.doing
+breach_of (Rescuer dev submission) = doing_breach submission.doing
+breach_of (Completer disk carried) = carried_breach carried
+breach_of (Keeper keeping) = keeping_breach keeping
+
+-- whether it has
+abbrev pub is_broken : TaskState → Bool
+is_broken task = is_some (breach_of task)
 
 -- a bio keeps up to four segments itself (`BIO_INLINE_VECS`, block/bio.c)
 abbrev pub needs_vector : write.Write → Bool

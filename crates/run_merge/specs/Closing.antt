@@ -7,8 +7,7 @@ use Rattle.run_machine.specs.Laws.{Object, OfTally, object_of}
 use Rattle.run_machine.specs.Opened.{Scenario, start, setup, tasks}
 use Rattle.run_machine.specs.Requests.{Request, Reply, Rest}
 use Rattle.run_machine.specs.Runs.{State, HasEnded}
-use Rattle.run_machine.specs.Tasks.{TaskState, request, answered, look_of}
-use Rattle.block_core.specs.Breaks.{is_broken}
+use Rattle.run_machine.specs.Tasks.{TaskState, request, answered, look_of, is_broken}
 use Rattle.block_core.specs.Runnable.{IsRunnable}
 use Rattle.block_core.specs.Scenarios.{IsNaming}
 use Rattle.shared_objects.specs.Calls.{struck}

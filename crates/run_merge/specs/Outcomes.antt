@@ -7,7 +7,7 @@ use Rattle.run_machine.specs.Laws.{Object}
 use Rattle.run_machine.specs.Named.{IsEventOf}
 use Rattle.run_machine.specs.Opened.{Scenario, at, no_task, scene, start}
 use Rattle.run_machine.specs.Runs.{State, IsRun, HasEnded}
-use Rattle.block_core.specs.Breaks.{is_broken}
+use Rattle.run_machine.specs.Tasks.{is_broken}
 use Rattle.block_core.specs.Scenarios.{IsNaming}
 use Rattle.task_core.specs.Leaving.{IsLeft}
 use Rattle.task_core.specs.Plains.{stage_of}

@@ -1,5 +1,6 @@
 -- No task breaks off whose object refuses nothing.
-use Rattle.std.proofs.Common.{◌≡◌, ◌≢◌, ◌<◌, ◌==◌, if◌then◌else◌, ℕ, Bool, true, false, true≢false, None, inl, inr, refl, sym, ap, subst, ◌∙◌}
+use Rattle.std.proofs.Common.{◌≡◌, ◌≢◌, ◌<◌, ◌==◌, if◌then◌else◌, ℕ, Bool, true, false, true≢false, None, inl, inr, refl, sym, ap, subst, ◌∙◌, Option, Some}
+use Rattle.std.specs.Option.{is_some}
 use Rattle.std.proofs.lemmas.Bool.{eq-eqb}
 use Rattle.elem_ledger.specs.Ledger.{LedgerId}
 use Rattle.stack_base.specs.declared.ids.PoolId.{PoolId}
@@ -12,7 +13,6 @@ use Rattle.task_core.specs.declared.plain.Plain.{Plain}
 use Rattle.task_steps.specs.declared.step.Step.{Step}
 use Rattle.task_steps.specs.declared.step.Step.TheVariants.{Ended, Waiting, Broken}
 use Rattle.run_machine.specs.Events.{id_of, resize_of}
-use Rattle.run_machine.specs.Submissions.{Doing, Rests, Drives, Copies, Breaks}
 use Rattle.run_machine.specs.Objects.{Objects, Serves}
 use Rattle.task_core.specs.Plains.{objects_of, stage_of, PlainServes}
 use Rattle.task_core.specs.PlainSteps.{HasRound, TakesStep, scene_of_objects, state_of_objects}
@@ -22,11 +22,11 @@ use Rattle.run_machine.specs.Runs.{IsLet}
 use Rattle.run_machine.specs.Scene.{Setup}
 use Rattle.task_steps.specs.Routed.{routing_setup}
 use Rattle.task_steps.specs.Stage.{Stage, Owes}
-use Rattle.run_machine.specs.Tasks.{TaskState, Writer, Rescuer, Completer, Keeper, Empty, Brings, Carries, Fails, Keeps, Stops, request, look_of, lets}
-use Rattle.task_steps.specs.Turns.{step_by, step_of, resting_step, idle_step, breach_of, doing_breach, Asks, Rested, Waited, Asked, Saw}
+use Rattle.run_machine.specs.Tasks.{TaskState, request, look_of, lets, breach_of, is_broken}
+use Rattle.task_steps.specs.Turns.{step_by, step_of, resting_step, idle_step, Asks, Rested, Waited, Asked, Saw}
 use Rattle.run_machine.proofs.Idle.{IsFair, fair_task}
 use Rattle.task_core.proofs.opened.Seen.{has_seen, lets_ask, served, told_serves}
-use Rattle.block_core.specs.Breaks.{GoesUnrefused, is_refusal, is_broken, broke_in}
+use Rattle.block_core.specs.Breaks.{GoesUnrefused, is_refusal}
 
 no_end : {breach : Breach} → Broken breach ≢ Ended
 no_end e = cc
@@ -100,26 +100,11 @@ module _ (setup : Setup) (task : TaskId) (old new : Objects) (ledger : ℕ → L
 
 -- a task that did not break off rests as one that has ended
 whole : (task : TaskState) → is_broken task ≡ false → breach_of task ≡ None
-whole (Writer number todo taken submission) fine = by_doing submission.doing fine
+whole task fine = by_breach (breach_of task) fine
   where
-    by_doing : (doing : Doing) → broke_in doing ≡ false → doing_breach doing ≡ None
-    by_doing Rests fine = refl
-    by_doing (Drives bio ask) fine = refl
-    by_doing (Copies bio master leg want) fine = refl
-    by_doing (Breaks breach kept) fine = absurd (true≢false fine)
-whole (Rescuer dev submission) fine = by_doing submission.doing fine
-  where
-    by_doing : (doing : Doing) → broke_in doing ≡ false → doing_breach doing ≡ None
-    by_doing Rests fine = refl
-    by_doing (Drives bio ask) fine = refl
-    by_doing (Copies bio master leg want) fine = refl
-    by_doing (Breaks breach kept) fine = absurd (true≢false fine)
-whole (Completer disk Empty) fine = refl
-whole (Completer disk (Brings bio status)) fine = refl
-whole (Completer disk (Carries writer closed)) fine = refl
-whole (Completer disk (Fails breach kept)) fine = absurd (true≢false fine)
-whole (Keeper (Keeps duties)) fine = refl
-whole (Keeper (Stops breach)) fine = absurd (true≢false fine)
+    by_breach : (breach : Option Breach) → is_some breach ≡ false → breach ≡ None
+    by_breach None fine = refl
+    by_breach (Some breach) fine = absurd (true≢false fine)
 
 -- a step that is told as a breach
 module _ (old new : Plain) (tasks : ℕ → TaskState) (count place : ℕ) (next : TaskState) (here : place < count)

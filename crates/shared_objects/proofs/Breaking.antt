@@ -11,15 +11,14 @@ use Rattle.bio_books.specs.Drops.{Closed}
 use Rattle.bio_books.specs.Drops as end
 use Rattle.bio_books.specs.Links.{Made, NoRoom, Stray}
 use Rattle.run_machine.specs.Kept.{Kept}
-use Rattle.run_machine.specs.Submissions.{Doing, Rests, Drives, Copies, Breaks, Ask, ToPush, ToCut, ToRecord, ToMaster, Want, Takes, Punts, Links, Submission, spent, at_hand, punts_of, submission_request, submission_answered}
+use Rattle.run_machine.specs.Submissions.{Doing, Rests, Drives, Copies, Breaks, Ask, ToPush, ToCut, ToRecord, ToMaster, Want, Takes, Punts, Links, Submission, spent, at_hand, punts_of, submission_request, submission_answered, doing_breach}
 use Rattle.run_machine.specs.Requests.{Request, Reply, Rest, LinkedTo, DroppedTo, OutIs, Spent}
 use Rattle.run_machine.specs.Scene.{Setup}
-use Rattle.run_machine.specs.Tasks.{Todo, Gathered, NoBio, HasBio, HasBoth, Carried, Empty, Brings, Carries, Fails, Duty, Resizes, Starts, Keeping, Keeps, Stops, TaskState, Writer, Rescuer, Completer, Keeper, needs_vector, with_bio, write_request, writer_request, rescuer_request, closed_request, carried_request, keeper_request, request, write_answered, writer_answered, rescuer_answered, carried_answered, after_resize, keeper_answered, answered}
-use Rattle.task_steps.specs.Turns.{doing_breach, carried_breach, keeping_breach, breach_of}
+use Rattle.run_machine.specs.Tasks.{Todo, Gathered, NoBio, HasBio, HasBoth, Carried, Empty, Brings, Carries, Fails, Duty, Resizes, Starts, Keeping, Keeps, Stops, TaskState, Writer, Rescuer, Completer, Keeper, needs_vector, with_bio, write_request, writer_request, rescuer_request, closed_request, carried_request, keeper_request, request, write_answered, writer_answered, rescuer_answered, carried_answered, after_resize, keeper_answered, answered, is_broken, carried_breach, keeping_breach}
 use Rattle.shared_objects.specs.Logs.{is_stop}
 
 -- a task that broke off asks for nothing more
-pub broken_rests : (setup : Setup) (task : TaskState) → is_some (breach_of task) ≡ true → request setup task ≡ Rest
+pub broken_rests : (setup : Setup) (task : TaskState) → is_broken task ≡ true → request setup task ≡ Rest
 broken_rests setup (Writer number todo taken submission) is = by_doing submission.doing is
   where
     by_doing : (doing : Doing) → is_some (doing_breach doing) ≡ true → request setup (Writer number todo taken (record submission { doing = doing })) ≡ Rest
@@ -68,7 +67,7 @@ submission_breaks setup (Copies bio master leg (Links hand)) lists reply is = ab
 submission_breaks setup (Breaks breach kept) lists reply is = absurd (cc is)
 
 with_breaks : (setup : Setup) (writer : ℕ) (needs : Bool) (todo : Todo) (later : List Todo) (bio : Item Pad) (submission : Submission) (reply : Reply)
-    → is_stop (with_bio writer needs todo) reply ≡ true → is_some (breach_of (write_answered setup writer (todo ∷ later) (HasBio bio) submission reply)) ≡ true
+    → is_stop (with_bio writer needs todo) reply ≡ true → is_broken (write_answered setup writer (todo ∷ later) (HasBio bio) submission reply) ≡ true
 with_breaks setup writer needs todo later bio submission Spent is = refl
 with_breaks setup writer false todo later bio submission (LinkedTo (Made node)) is = absurd (cc is)
 with_breaks setup writer false todo later bio submission (LinkedTo (NoRoom back)) is = refl
@@ -77,7 +76,7 @@ with_breaks setup writer true todo later bio submission reply is = absurd (cc is
 with_breaks setup writer false todo later bio submission reply is = absurd (cc is)
 
 write_breaks : (setup : Setup) (writer : ℕ) (todo : List Todo) (taken : Gathered) (submission : Submission) (reply : Reply) → is_stop (write_request writer todo taken) reply ≡ true
-    → is_some (breach_of (write_answered setup writer todo taken submission reply)) ≡ true
+    → is_broken (write_answered setup writer todo taken submission reply) ≡ true
 write_breaks setup writer todo taken submission Spent is = refl
 write_breaks setup writer (todo ∷ later) (HasBio bio) submission reply is = with_breaks setup writer (needs_vector todo.write) todo later bio submission reply is
 write_breaks setup writer (todo ∷ later) (HasBoth bio vector) submission (LinkedTo (Made node)) is = absurd (cc is)
@@ -88,12 +87,12 @@ write_breaks setup writer (todo ∷ later) NoBio submission reply is = absurd (c
 write_breaks setup writer (todo ∷ later) (HasBoth bio vector) submission reply is = absurd (cc is)
 
 writer_breaks : (setup : Setup) (writer : ℕ) (todo : List Todo) (taken : Gathered) (doing : Doing) (submission : Submission) (reply : Reply)
-    → is_stop (writer_request setup writer todo taken doing submission) reply ≡ true → is_some (breach_of (writer_answered setup writer todo taken doing submission reply)) ≡ true
+    → is_stop (writer_request setup writer todo taken doing submission) reply ≡ true → is_broken (writer_answered setup writer todo taken doing submission reply) ≡ true
 writer_breaks setup writer todo taken Rests submission reply is = write_breaks setup writer todo taken submission reply is
 writer_breaks setup writer todo taken doing submission reply is = submission_breaks setup doing submission.lists reply is
 
 rescuer_breaks : (setup : Setup) (dev : DevId) (doing : Doing) (submission : Submission) (reply : Reply)
-    → is_stop (rescuer_request setup dev doing submission) reply ≡ true → is_some (breach_of (rescuer_answered setup dev doing submission reply)) ≡ true
+    → is_stop (rescuer_request setup dev doing submission) reply ≡ true → is_broken (rescuer_answered setup dev doing submission reply) ≡ true
 rescuer_breaks setup dev Rests submission Spent is = refl
 rescuer_breaks setup dev Rests submission reply is = absurd (cc is)
 rescuer_breaks setup dev doing submission reply is = submission_breaks setup doing submission.lists reply is
@@ -133,22 +132,22 @@ keeper_breaks (Stops breach) reply asks is = refl
 
 -- a task breaks off with a reply that stops it
 pub stop_breaks : (setup : Setup) (task : TaskState) (reply : Reply) → (request setup task ≡ Rest → ⊥) → is_stop (request setup task) reply ≡ true
-    → is_some (breach_of (answered setup task reply)) ≡ true
+    → is_broken (answered setup task reply) ≡ true
 stop_breaks setup (Writer number todo taken submission) reply asks is = writer_breaks setup number todo taken submission.doing submission reply is
 stop_breaks setup (Rescuer dev submission) reply asks is = rescuer_breaks setup dev submission.doing submission reply is
 stop_breaks setup (Completer disk carried) reply asks is = carried_breaks disk carried reply is
 stop_breaks setup (Keeper keeping) reply asks is = keeper_breaks keeping reply asks is
 
 -- and with none at all it does where there was no ticket
-pub spent_breaks_off : (setup : Setup) (task : TaskState) → (request setup task ≡ Rest → ⊥) → is_some (breach_of (answered setup task Spent)) ≡ true
+pub spent_breaks_off : (setup : Setup) (task : TaskState) → (request setup task ≡ Rest → ⊥) → is_broken (answered setup task Spent) ≡ true
 spent_breaks_off setup (Writer number todo taken submission) asks = by_doing submission.doing
   where
-    by_doing : (doing : Doing) → is_some (breach_of (writer_answered setup number todo taken doing submission Spent)) ≡ true
+    by_doing : (doing : Doing) → is_broken (writer_answered setup number todo taken doing submission Spent) ≡ true
     by_doing Rests = refl
     by_doing doing = spent_breaks (at_hand doing) submission.lists (punts_of doing)
 spent_breaks_off setup (Rescuer dev submission) asks = by_doing submission.doing
   where
-    by_doing : (doing : Doing) → is_some (breach_of (rescuer_answered setup dev doing submission Spent)) ≡ true
+    by_doing : (doing : Doing) → is_broken (rescuer_answered setup dev doing submission Spent) ≡ true
     by_doing Rests = refl
     by_doing doing = spent_breaks (at_hand doing) submission.lists (punts_of doing)
 spent_breaks_off setup (Completer disk carried) asks = refl

@@ -12,8 +12,7 @@ use Rattle.run_machine.specs.Events.{what_of, resize_of}
 use Rattle.run_machine.specs.Laws.{Object, OfNone, object_of}
 use Rattle.run_machine.specs.Requests.{Request, Reply, TakeBio, TakeVec, TakeSlip, GiveBio, GiveVec, GiveSlip, Punt, Pop, Push, Complete, Link, Drop, Done, Resize, NextRound, LookRound, LookLeft, Rest, LinkedTo, DroppedTo, OutIs, Spent}
 use Rattle.run_machine.specs.Scene.{Setup}
-use Rattle.run_machine.specs.Tasks.{TaskState, request, look_of, lets, answered}
-use Rattle.task_steps.specs.Turns.{breach_of}
+use Rattle.run_machine.specs.Tasks.{TaskState, request, look_of, lets, answered, is_broken}
 use Rattle.object_things.specs.Histories.{Call}
 use Rattle.object_things.specs.Stamps.{is_spent}
 use Rattle.shared_objects.specs.Calls.{is_same_object, calls_to, struck}
@@ -142,7 +141,7 @@ record BrokeBehind (setup : Setup) (done log : List Call) (through now : TaskSta
   asks : call.asked ≡ struck (request setup through)
   looked : Looked (done ++ before) through call (look_of through)
   goes_on : now ≡ answered setup through call.told.reply
-  broken : is_some (breach_of now) ≡ true
+  broken : is_broken now ≡ true
 
 abbrev Looks : Setup → List Call → TaskState → List Call → Type 0
 Looks setup whole task events = (mine rest : List Call) (call : Call) → events ≡ mine ++ call ∷ rest
@@ -226,7 +225,7 @@ led_call setup done call calls task now some again false is glance asks l more =
         asks = asks;
         looked = subst (λ w. Looked w task call (look_of task)) (sym (append-nil done)) l;
         goes_on = behind.1;
-        broken = subst (λ t. is_some (breach_of t) ≡ true) (sym behind.1) broke;
+        broken = subst (λ t. is_broken t ≡ true) (sym behind.1) broke;
       });
     }
 

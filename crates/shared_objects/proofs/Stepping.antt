@@ -4,7 +4,6 @@ use Rattle.std.specs.Prelude.{All, Contains, IfSome, IsTrue, max}
 use Rattle.std.proofs.lemmas.List.{append-nil, append_assoc}
 use Rattle.std.proofs.lemmas.List.Elements.{Contains-push, Contains-append_left, Contains-append_right, All-contains}
 use Rattle.std.proofs.lemmas.Bool.Decides.{nat_tests}
-use Rattle.std.specs.Option.{is_some}
 use Rattle.stack_base.specs.declared.ids.PoolId.{PoolId}
 use Rattle.bio_books.specs.Drops as end
 use Rattle.bio_books.specs.Links.{NoRoom, Stray}
@@ -21,8 +20,8 @@ use Rattle.run_machine.specs.Events.{id_of, what_of, resize_of}
 use Rattle.run_machine.specs.Laws.{Object, OfNone, object_of}
 use Rattle.run_machine.specs.Scene.{Setup}
 use Rattle.task_steps.specs.Stage.{Stage, Owes}
-use Rattle.run_machine.specs.Tasks.{Todo, Gathered, NoBio, HasBio, HasBoth, Carried, Empty, Brings, Carries, Fails, Duty, Keeping, Keeps, carried_answered, carried_request, Stops, TaskState, Writer, Rescuer, Completer, Keeper, writer_look, request, look_of, lets, answered}
-use Rattle.task_steps.specs.Turns.{Turns, Rested, Waited, Asked, Saw, Asks, silent_step, step_by, step_of, resting_step, breach_of, idle_step}
+use Rattle.run_machine.specs.Tasks.{Todo, Gathered, NoBio, HasBio, HasBoth, Carried, Empty, Brings, Carries, Fails, Duty, Keeping, Keeps, carried_answered, carried_request, Stops, TaskState, Writer, Rescuer, Completer, Keeper, writer_look, request, look_of, lets, answered, is_broken, breach_of}
+use Rattle.task_steps.specs.Turns.{Turns, Rested, Waited, Asked, Saw, Asks, silent_step, step_by, step_of, resting_step, idle_step}
 use Rattle.object_things.specs.Stamps.{is_spent, PassBy}
 use Rattle.object_things.specs.Histories.{Call}
 use Rattle.shared_objects.specs.Calls.{struck}
@@ -183,14 +182,14 @@ module _ (setup : Setup) (first : TaskState) where
       → new ≡ middle → step ≡ step_of setup (id_of task) asked reply → Goes log next new (λ calls. ShowsStep setup task next (seen_by new.pass) calls step)
   told_of log task next asked reply middle new step same apart goes_on g stays tells =
       let apart_task : request setup task ≡ Rest → ⊥ = λ rests. apart (same ∙ rests) in
-      let rests : is_some (breach_of (answered setup task reply)) ≡ true → request setup next ≡ Rest =
+      let rests : is_broken (answered setup task reply) ≡ true → request setup next ≡ Rest =
       λ broke. subst (λ t. request setup t ≡ Rest) (sym goes_on) (broken_rests setup (answered setup task reply) broke) in (
         g.0,
         subst (λ n. IsLogged setup first (log ++ g.0) next n) (sym stays) g.1,
         subst (ShowsStep setup task next (seen_by new.pass) g.0) (sym tells)
             (shows_step setup task next (seen_by new.pass) g.0 (what_of asked reply) asked reply same refl
             (subst (λ d. Tells (what_of asked reply) asked reply (seen_by d.pass) g.0) (sym stays) g.2)
-            (λ spent. rests (subst (λ r. is_some (breach_of (answered setup task r)) ≡ true) (sym spent) (spent_breaks_off setup task apart_task)))
+            (λ spent. rests (subst (λ r. is_broken (answered setup task r) ≡ true) (sym spent) (spent_breaks_off setup task apart_task)))
             (λ stop. rests (stop_breaks setup task reply apart_task (subst (λ a. is_stop a reply ≡ true) same stop)))),
       )
 

@@ -22,7 +22,7 @@ use Rattle.run_machine.specs.Laws.{Object, OfNone, object_of}
 use Rattle.run_machine.specs.Scene.{Setup}
 use Rattle.task_steps.specs.Stage.{Stage, Owes}
 use Rattle.run_machine.specs.Tasks.{Todo, Gathered, NoBio, HasBio, HasBoth, Carried, Empty, Brings, Carries, Fails, Duty, Keeping, Keeps, carried_answered, carried_request, Stops, TaskState, Writer, Rescuer, Completer, Keeper, writer_look, request, look_of, lets, answered}
-use Rattle.task_steps.specs.Turns.{silent_step, step_by, step_of, resting_step, breach_of, idle_step}
+use Rattle.task_steps.specs.Turns.{silent_step, step_by, step_of, resting_step, idle_step}
 use Rattle.object_things.specs.Stamps.{is_spent, PassBy}
 use Rattle.object_things.specs.Histories.{Call}
 use Rattle.shared_objects.specs.Calls.{struck}

@@ -1,9 +1,7 @@
 -- Where the calls of a task lead it.
 use Rattle.std.specs.Prelude.{◌≡◌, ◌⊎◌, ◌++◌, true, false, List, [], ◌∷◌, All}
-use Rattle.std.specs.Option.{is_some}
 use Rattle.run_machine.specs.Scene.{Setup}
-use Rattle.run_machine.specs.Tasks.{TaskState, request, look_of, answered}
-use Rattle.task_steps.specs.Turns.{breach_of}
+use Rattle.run_machine.specs.Tasks.{TaskState, request, look_of, answered, is_broken}
 use Rattle.object_things.specs.Histories.{Call}
 use Rattle.shared_objects.specs.Calls.{struck}
 use Rattle.shared_objects.specs.Desks.{DeskState}
@@ -32,7 +30,7 @@ pub record BrokeOff (setup : Setup) (log : List Call) (through now : TaskState) 
   pub asks : call.asked ≡ struck (request setup through)
   pub looked : Looked before through call (look_of through)
   pub goes_on : now ≡ answered setup through call.told.reply
-  pub broken : is_some (breach_of now) ≡ true
+  pub broken : is_broken now ≡ true
 
 -- What all calls of a task show of it: its events lead it from the first state to one, it looked before each of them, where it has to, and it is
 -- there now, or broke off from there.

@@ -13,10 +13,9 @@ use Rattle.task_steps.specs.declared.step.Step.{Step}
 use Rattle.task_steps.specs.declared.step.Step.TheVariants.{Stepped, Blocked, Waiting, Ended, Broken}
 use Rattle.stack_base.specs.declared.ids.DevId.{DevId}
 use Rattle.run_machine.specs.Scene.{Setup}
-use Rattle.run_machine.specs.Submissions.{Doing, Rests, Drives, Copies, Breaks}
 use Rattle.task_steps.specs.Choosing.{IsAsked}
 use Rattle.run_machine.specs.Requests.{Request, Reply, Opening, Write, Chain, Master, Leg, TakeBio, TakeVec, TakeSlip, Link, Drop, Resize, LookLeft, Rest, Missed, LinkedTo, DroppedTo, OutIs, LeftOver, Nothing, Spent}
-use Rattle.run_machine.specs.Tasks.{TaskState, Writer, Rescuer, Completer, Keeper, Carried, Empty, Brings, Carries, Fails, Keeping, Keeps, Stops, request, look_of, lets, answered}
+use Rattle.run_machine.specs.Tasks.{TaskState, request, look_of, lets, answered, breach_of}
 use Rattle.run_machine.specs.Events.{id_of, what_of}
 
 -- the node that an opening names, if it names one
@@ -46,28 +45,6 @@ abbrev pub step_of : Setup → TaskId → Request → Reply → Step
 step_of setup task request reply = step_by task (what_of request reply) (silent_step setup request reply)
 
 -- a task that asks for nothing has ended, or has broken off
-abbrev pub doing_breach : Doing → Option Breach
-doing_breach Rests = None
-doing_breach (Drives bio ask) = None
-doing_breach (Copies bio master leg want) = None
-doing_breach (Breaks breach kept) = Some breach
-
-abbrev pub carried_breach : Carried → Option Breach
-carried_breach Empty = None
-carried_breach (Brings bio status) = None
-carried_breach (Carries writer closed) = None
-carried_breach (Fails breach kept) = Some breach
-
-abbrev pub keeping_breach : Keeping → Option Breach
-keeping_breach (Keeps duties) = None
-keeping_breach (Stops breach) = Some breach
-
-abbrev pub breach_of : TaskState → Option Breach
-breach_of (Writer number todo taken submission) = doing_breach submission.doing
-breach_of (Rescuer dev submission) = doing_breach submission.doing
-breach_of (Completer disk carried) = carried_breach carried
-breach_of (Keeper keeping) = keeping_breach keeping
-
 abbrev pub resting_step : Option Breach → Step
 resting_step None = Ended
 resting_step (Some breach) = Broken breach

@@ -1,11 +1,10 @@
 //! Submissions: the bio that its driver has, what the driver asks for, and the bios that wait (`submit_bio_noacct`, `block/blk-core.c`).
 ghost use Rattle.std.specs.Prelude.{◌≡◌, ◌<◌, ◌++◌, [], ◌∷◌, true, None};
 ghost use Rattle.bio_records.specs.Items.{item_of, IsAlone};
-ghost use Rattle.run_machine.specs.Submissions.{Rests, Drives, Breaks as Breaks', ToCut, settled, rests};
+ghost use Rattle.run_machine.specs.Submissions.{Rests, Drives, Breaks as Breaks', ToCut, settled, rests, doing_breach};
 ghost use Rattle.task_steps.specs.Within.{IsWithinDevice};
 ghost use Rattle.task_steps.specs.Routed.{routing_setup};
 ghost use Rattle.task_steps.specs.Homes.{IsSubmissionOf};
-ghost use Rattle.task_steps.specs.Turns.{doing_breach};
 ghost use Rattle.task_steps.specs.SubmissionViews.{unmade_kept, kept_of, doing_of, submission_of, IsDoingAlone, is_asking};
 ghost use Rattle.task_steps.specs.declared.submission.Doing.TheVariants as doing';
 ghost use Rattle.run_machine.specs.Kept.{bio_kept};

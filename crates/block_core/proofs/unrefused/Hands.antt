@@ -5,10 +5,9 @@ use Rattle.run_machine.specs.declared.event.Event.{Event}
 use Rattle.run_machine.specs.Maps.{upd}
 use Rattle.run_machine.specs.Scene.{Scene}
 use Rattle.run_machine.specs.Submissions.{Doing, Submission}
-use Rattle.run_machine.specs.Tasks.{TaskState, Writer, Rescuer, Completer, Keeper, Todo, Gathered, NoBio, HasBio, HasBoth}
+use Rattle.run_machine.specs.Tasks.{TaskState, Writer, Rescuer, Completer, Keeper, Todo, Gathered, NoBio, HasBio, HasBoth, is_broken}
 use Rattle.run_machine.specs.Opened.{scene, todos, duties}
 use Rattle.run_machine.specs.Runs.{State, IsRun}
-use Rattle.block_core.specs.Breaks.{failed}
 use Rattle.block_core.proofs.moves.Moves.{Move, Can, after, HasSubmission, with_submission}
 use Rattle.block_core.proofs.moves.Moves as moves
 use Rattle.block_core.proofs.sound.Facts.{Fair}
@@ -30,7 +29,7 @@ IsForOne (todo ∷ later) (HasBoth item vector) = Unit {0}
 abbrev pub GoesOnCarrying : TaskState → Type 0
 GoesOnCarrying (Writer number todo taken submission) = IsForOne todo taken
 GoesOnCarrying (Rescuer dev submission) = Unit {0}
-GoesOnCarrying (Completer disk carried) = failed carried ≡ false
+GoesOnCarrying (Completer disk carried) = is_broken (Completer disk carried) ≡ false
 GoesOnCarrying (Keeper keeping) = Unit {0}
 
 lined : (x : TaskState) (doing : Doing) (lists : TaskLists) (submission : Submission) → HasSubmission x doing lists → GoesOnCarrying x
@@ -79,5 +78,5 @@ module _ (scene : Scene) (f : Fair scene) (g : Ground scene.setup) where
 pub begins_on : (scene : Scene) (x : TaskState) → Begins scene x → GoesOnCarrying x
 begins_on scene (Writer number todo taken submission) b = subst (IsForOne todo) (sym b.1) tt
 begins_on scene (Rescuer dev submission) b = tt
-begins_on scene (Completer disk carried) b = ap failed b.1
+begins_on scene (Completer disk carried) b = ap (λ c. is_broken (Completer disk c)) b.1
 begins_on scene (Keeper keeping) b = tt

@@ -1,7 +1,8 @@
 -- No task of any run of any scenario that is allowed breaks off.
-use Rattle.std.proofs.Common.{◌≡◌, ◌≤◌, ◌++◌, not, ℕ, Bool, false, List, [], ◌∷◌, length, map, filter, refl, subst, arith}
+use Rattle.std.proofs.Common.{◌≡◌, ◌≤◌, ◌++◌, not, ℕ, Bool, false, List, [], ◌∷◌, length, map, filter, refl, subst, arith, ap, None}
 use Rattle.std.specs.Prelude.{zip}
 use Rattle.std.specs.List.{range_with_len, list_any}
+use Rattle.std.specs.Option.{is_some}
 use Rattle.std.proofs.lemmas.List.{length-map, length-append}
 use Rattle.std.proofs.lemmas.List.FromFn.{length-range_with_len}
 use Rattle.std.proofs.lemmas.List.Filters.{length-filter_both}
@@ -13,12 +14,12 @@ use Rattle.layout_model.specs.Bound.{most_elements}
 use Rattle.bio_records.specs.declared.tasks.TaskLists.{TaskLists}
 use Rattle.run_machine.specs.declared.event.Event.{Event}
 use Rattle.run_machine.specs.Scene.{Scene, is_disk}
-use Rattle.run_machine.specs.Submissions.{Doing, Rests, Drives, Copies, Breaks, rests}
-use Rattle.run_machine.specs.Tasks.{TaskState, Writer, Rescuer, Completer, Keeper, Keeps, Stops, Duty, Todo, NoBio, Empty, look_of}
+use Rattle.run_machine.specs.Submissions.{Doing, Rests, Drives, Copies, Breaks, rests, doing_breach}
+use Rattle.run_machine.specs.Tasks.{TaskState, Writer, Rescuer, Completer, Keeper, Keeps, Stops, Duty, Todo, NoBio, Empty, look_of, is_broken}
 use Rattle.run_machine.specs.Opened.{Scenario, scene, start, tasks as opened_tasks, todos, todos_of, is_by, writers, duties, keepers, places_of, setup as setup_in, at as device_at}
 use Rattle.run_machine.specs.Runs.{State, IsRun, IsLet}
 use Rattle.block_core.specs.Scenarios.{IsScenario, IsNaming}
-use Rattle.block_core.specs.Breaks.{ElementsAreAllowed, broke_in, is_broken, GoesUnrefused, NoTaskBreaks}
+use Rattle.block_core.specs.Breaks.{ElementsAreAllowed, GoesUnrefused, NoTaskBreaks}
 use Rattle.block_core.proofs.sound.Facts.{DoingFits, TaskFits, Fair}
 use Rattle.block_core.proofs.moves.Devices.{ground}
 use Rattle.block_core.proofs.unrefused.NodeNeeds.{needs_known}
@@ -33,15 +34,15 @@ use Rattle.block_core.proofs.unrefused.Resizes.{nothing_out}
 use Rattle.block_core.proofs.unrefused.Hands.{GoesOnCarrying, runs_on, begins_on}
 
 -- what fits did not break off
-unbroken_submission : (scene : Scene) (doing : Doing) (lists : TaskLists) → DoingFits scene.setup doing lists → broke_in doing ≡ false
+unbroken_submission : (scene : Scene) (doing : Doing) (lists : TaskLists) → DoingFits scene.setup doing lists → doing_breach doing ≡ None
 unbroken_submission scene Rests lists fits = refl
 unbroken_submission scene (Drives bio ask) lists fits = refl
 unbroken_submission scene (Copies bio master leg want) lists fits = refl
 unbroken_submission scene (Breaks breach kept) lists fits = absurd fits
 
 unbroken : (scene : Scene) (x : TaskState) → TaskFits scene x → GoesOnCarrying x → is_broken x ≡ false
-unbroken scene (Writer number todo taken submission) fits on = unbroken_submission scene submission.doing submission.lists fits.1
-unbroken scene (Rescuer dev submission) fits on = unbroken_submission scene submission.doing submission.lists fits.1
+unbroken scene (Writer number todo taken submission) fits on = ap is_some (unbroken_submission scene submission.doing submission.lists fits.1)
+unbroken scene (Rescuer dev submission) fits on = ap is_some (unbroken_submission scene submission.doing submission.lists fits.1)
 unbroken scene (Completer disk carried) fits on = on
 unbroken scene (Keeper (Keeps duties)) fits on = refl
 unbroken scene (Keeper (Stops breach)) fits on = absurd fits

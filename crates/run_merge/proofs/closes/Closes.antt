@@ -16,12 +16,11 @@ use Rattle.run_machine.specs.Objects.{Objects, TallyState}
 use Rattle.run_machine.specs.Opened.{Scenario, at, setup, start, no_task}
 use Rattle.run_machine.specs.Opened as opened
 use Rattle.run_machine.specs.Runs.{State}
-use Rattle.run_machine.specs.Tasks.{TaskState, look_of}
+use Rattle.run_machine.specs.Tasks.{TaskState, look_of, is_broken}
 use Rattle.task_core.specs.declared.plain.Plain.{Plain}
 use Rattle.task_core.specs.Plains.{list_number, objects_of, stage_of}
 use Rattle.task_core.specs.Tables.{is_entry_of}
 use Rattle.task_core.specs.opened.OfOne.{scenario_in}
-use Rattle.block_core.specs.Breaks.{is_broken}
 use Rattle.block_core.proofs.claim.Runnable.{accepted_texts_are_runnable}
 use Rattle.object_things.specs.Histories.{Call, drawn_in, or_last}
 use Rattle.object_things.specs.Stamps.{ThingState}

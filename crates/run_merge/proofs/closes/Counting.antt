@@ -14,9 +14,8 @@ use Rattle.run_machine.specs.Opened.{Scenario, setup, start, no_task, round_coun
 use Rattle.run_machine.specs.Opened as opened
 use Rattle.run_machine.specs.Requests.{Request, Reply, LookRound, LookLeft}
 use Rattle.run_machine.specs.Scene.{Setup}
-use Rattle.run_machine.specs.Tasks.{TaskState, answered}
+use Rattle.run_machine.specs.Tasks.{TaskState, answered, is_broken}
 use Rattle.task_core.specs.declared.plain.Plain.{Plain}
-use Rattle.block_core.specs.Breaks.{is_broken}
 use Rattle.object_things.specs.Histories.{Call, drawn_in}
 use Rattle.object_things.specs.Stamps.{ThingState, StepOf, is_spent}
 use Rattle.shared_objects.specs.Calls.{is_same_object, struck}
@@ -32,7 +31,7 @@ use Rattle.run_merge.specs.Entries.{Entry}
 use Rattle.run_merge.specs.Merging.{Ticketed, RiseFrom, without_tickets, all_of, done_by}
 use Rattle.run_merge.specs.Products.{is_next_round}
 use Rattle.run_merge.specs.SharedObjects.{ticketed}
-use Rattle.run_merge.proofs.closes.Breaking.{broken_rests, stop_breaks}
+use Rattle.run_merge.proofs.closes.Breaking.{stop_breaks}
 use Rattle.run_merge.proofs.closes.Drawn.{HasTicket, rises_events}
 use Rattle.run_merge.proofs.closes.Events.{ticketed_events, event_histories}
 use Rattle.run_merge.proofs.closes.Objects as calls
@@ -44,6 +43,7 @@ use Rattle.run_merge.proofs.closes.Sorting.{picks_mine, events_to, done_is}
 use Rattle.run_merge.proofs.closes.Walks.{is_told, AskSome, Walked, walk}
 use Rattle.run_merge.proofs.closing.Counts.{sorted_length}
 use Rattle.shared_objects.proofs.FewTasks.{few_of}
+use Rattle.shared_objects.proofs.Breaking.{broken_rests}
 use Rattle.run_merge.proofs.merging.Picked.{is_at, is_by, entries_filter, filter_swap}
 
 -- a call that left its task as it was drew no ticket

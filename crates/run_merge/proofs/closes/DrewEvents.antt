@@ -7,8 +7,8 @@ use Rattle.std.proofs.lemmas.List.Elements.{All-weaker, All-contains, All-contai
 use Rattle.tick_clock.specs.Tickets.{PassState}
 use Rattle.run_machine.specs.Laws.{Object}
 use Rattle.run_machine.specs.Opened.{Scenario, setup}
+use Rattle.run_machine.specs.Tasks.{is_broken}
 use Rattle.task_core.specs.declared.plain.Plain.{Plain}
-use Rattle.block_core.specs.Breaks.{is_broken}
 use Rattle.object_things.specs.Histories.{Call}
 use Rattle.object_things.specs.Stamps.{ThingState, StepOf}
 use Rattle.shared_objects.specs.Closes.{Returned, ClosesAs}
@@ -20,7 +20,6 @@ use Rattle.shared_objects.proofs.Drawn.{keeps}
 use Rattle.shared_objects.proofs.Owners.{logged, IsOwned, owner, IsInPlace, in_place}
 use Rattle.shared_objects.proofs.Refusing.{served_refused}
 use Rattle.run_merge.specs.SharedObjects.{DrewAsEvent}
-use Rattle.run_merge.proofs.closes.Breaking.{broken_is}
 use Rattle.run_merge.proofs.closes.Counting.{refused_stops}
 use Rattle.run_merge.proofs.closes.Walks.{is_told}
 
@@ -37,7 +36,7 @@ module _ (s : Scenario) (plain : Plain) (names : List Object) (history : Object 
       by_end : ((task.task ≡ led.through) × All (λ (x : Call). is_stop x.asked x.told.reply ≡ false) task.log) ⊎ BrokeOff (setup s) task.log led.through task.task
           → is_stop call.asked call.told.reply ≡ false
       by_end (inl (is, goes)) = All-contains (λ (x : Call). is_stop x.asked x.told.reply ≡ false) task.log call goes there
-      by_end (inr broke) = absurd (true≢false (sym (broken_is task.task ∙ broke.broken) ∙ whole place task at))
+      by_end (inr broke) = absurd (true≢false (sym broke.broken ∙ whole place task at))
 
   drew_as : (name : Object) (call : Call) → Contains (history name) call → DrewAsEvent call
   drew_as name call there = by_ticket call.told.ticket p.answers.step

@@ -6,16 +6,16 @@ use Rattle.std.proofs.lemmas.List.{append_assoc, append-nil}
 use Rattle.std.proofs.lemmas.List.Elements.{All-head, All-tail}
 use Rattle.run_machine.specs.Laws.{OfNone, object_of}
 use Rattle.run_machine.specs.Scene.{Setup}
-use Rattle.run_machine.specs.Tasks.{TaskState, request, look_of, answered}
-use Rattle.block_core.specs.Breaks.{is_broken}
+use Rattle.run_machine.specs.Tasks.{TaskState, request, look_of, answered, is_broken}
 use Rattle.object_things.specs.Histories.{Call}
 use Rattle.shared_objects.specs.Calls.{struck}
 use Rattle.shared_objects.specs.Logs.{is_event, is_stop, events_in, Looked, LogLeads}
 use Rattle.shared_objects.proofs.Leading.{event_first, kinds, quiet_first, stop_kind}
+use Rattle.shared_objects.proofs.Breaking.{broken_rests}
 use Rattle.run_merge.specs.Merging.{Ticketed, without_tickets}
 use Rattle.run_merge.specs.Products.{LeadsTask, led_by}
 use Rattle.run_merge.specs.SharedObjects.{ticketed}
-use Rattle.run_merge.proofs.closes.Breaking.{broken_rests, stop_breaks}
+use Rattle.run_merge.proofs.closes.Breaking.{stop_breaks}
 use Rattle.run_merge.proofs.closes.Events.{ticketed_events}
 
 abbrev pub is_told : Call → Bool

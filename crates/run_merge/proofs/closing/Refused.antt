@@ -12,9 +12,8 @@ use Rattle.run_machine.specs.Objects.{Objects, Serves}
 use Rattle.run_machine.specs.Opened.{Scenario, scene, start, setup, tasks}
 use Rattle.run_machine.specs.Requests.{Request, Reply}
 use Rattle.run_machine.specs.Runs.{State, IsLet, Steps}
-use Rattle.run_machine.specs.Tasks.{TaskState, request, look_of, answered}
+use Rattle.run_machine.specs.Tasks.{TaskState, request, look_of, answered, is_broken}
 use Rattle.run_machine.proofs.Frames.{upd_same}
-use Rattle.block_core.specs.Breaks.{is_broken}
 use Rattle.block_core.specs.Replies.{IsEventOrNothing}
 use Rattle.block_core.specs.Runnable.{IsRunnable}
 use Rattle.block_core.specs.Scenarios.{IsNaming}

@@ -18,7 +18,7 @@ use Rattle.run_machine.specs.Scene.{Setup}
 use Rattle.run_machine.specs.Submissions.{Doing, Rests, Drives, Copies, Breaks}
 use Rattle.run_machine.specs.Requests as requests
 use Rattle.run_machine.specs.Requests.{Request, Reply}
-use Rattle.run_machine.specs.Tasks.{TaskState, Writer, Rescuer, Completer, Keeper, Keeps, Stops, Todo, Gathered, NoBio, HasBio, HasBoth, request, writer_look, look_of, lets, answered}
+use Rattle.run_machine.specs.Tasks.{TaskState, Writer, Rescuer, Completer, Keeper, Keeps, Stops, Todo, Gathered, NoBio, HasBio, HasBoth, request, writer_look, look_of, lets, answered, breach_of}
 use Rattle.run_machine.specs.Objects.{Objects, Serves}
 use Rattle.run_machine.specs.Events.{id_of, what_of}
 use Rattle.run_machine.specs.Runs.{IsLet, Steps}
@@ -26,7 +26,7 @@ use Rattle.task_core.specs.Plains.{objects_of, stage_of, PlainServes, StaysLast}
 use Rattle.task_core.specs.PlainSteps.{state_of_objects, scene_of_objects, HasRound, IsStill, IsPassedOver, StepsAreEvents}
 use Rattle.task_steps.specs.Routed.{routing_setup}
 use Rattle.task_steps.specs.Stage.{Stage, Owes}
-use Rattle.task_steps.specs.Turns.{silent_step, step_by, resting_step, breach_of, idle_step, Asks, Turns, Rested, Waited, Asked, Saw}
+use Rattle.task_steps.specs.Turns.{silent_step, step_by, resting_step, idle_step, Asks, Turns, Rested, Waited, Asked, Saw}
 use Rattle.run_machine.proofs.Idle.{IsFair, fair_task, task_stays}
 use Rattle.task_core.proofs.Quiet.{quiet, passed}
 use Rattle.task_core.proofs.opened.OwedLedgers.{of_ledgers}
