@@ -22,7 +22,7 @@ use Rattle.model_disks.specs.Moves as disk
 use Rattle.run_machine.specs.Scene.{Setup, Scene, setup_of, is_disk}
 use Rattle.run_machine.specs.Submissions.{rests}
 use Rattle.run_machine.specs.Tasks.{Todo, NoBio, Empty, Duty, Resizes, Starts, Keeps, TaskState, Writer, Rescuer, Completer, Keeper}
-use Rattle.run_machine.specs.Objects.{Objects}
+use Rattle.run_machine.specs.Objects.{Objects, TallyState}
 use Rattle.run_machine.specs.Events.{pool_of}
 use Rattle.run_machine.specs.Runs.{State}
 
@@ -41,50 +41,92 @@ pub record Scenario : Type 0 where
   pub rounds : List ℕ
   pub changes : List Change
 
--- the writes, each with its number and its round
+-- writes, each with its round and its number, the first of which is this
+abbrev pub numbered_from : ℕ → List ℕ → List Write → List Todo
+numbered_from first rounds writes =
+    map (λ x. record { number = x.0; round = x.1.0; write = x.1.1 }) (zip (range_with_len first (length writes)) (zip rounds writes))
+
+abbrev pub numbered : List ℕ → List Write → List Todo
+numbered rounds writes = numbered_from 0 rounds writes
+
 abbrev pub todos : Scenario → List Todo
-todos s = map (λ x. record { number = x.0; round = x.1.0; write = x.1.1 }) (zip (range_with_len 0 (length s.writes)) (zip s.rounds s.writes))
+todos s = numbered s.rounds s.writes
 
 abbrev pub is_by : ℕ → Todo → Bool
 is_by writer todo = todo.write.task == writer
 
 -- the writes of a writer, in the order of the text
+abbrev pub share_of : List ℕ → List Write → ℕ → List Todo
+share_of rounds writes writer = filter (is_by writer) (numbered rounds writes)
+
 abbrev pub todos_of : Scenario → ℕ → List Todo
-todos_of s writer = filter (is_by writer) (todos s)
+todos_of s writer = share_of s.rounds s.writes writer
 
 -- the numbers of writers are below this, and a writer is there for each number that a write names
 abbrev pub most_writers : ℕ
 most_writers = 8
 
+abbrev pub is_writer : List ℕ → List Write → ℕ → Bool
+is_writer rounds writes writer = list_any (is_by writer) (numbered rounds writes)
+
 abbrev pub writers : Scenario → List ℕ
-writers s = filter (λ writer. list_any (is_by writer) (todos s)) (range_with_len 0 most_writers)
+writers s = filter (is_writer s.rounds s.writes) (range_with_len 0 most_writers)
+
+-- how many nodes such writes open
+abbrev pub nodes_of : Stack → List Todo → ℕ
+nodes_of stack todos = sum_by (λ (todo : Todo). nodes stack todo.write) todos
 
 -- how many places the book of a writer has: one for each node that its writes open
 abbrev pub places_of : Scenario → ℕ → ℕ
-places_of s writer = sum_by (λ todo. nodes s.stack todo.write) (todos_of s writer)
+places_of s writer = nodes_of s.stack (todos_of s writer)
 
 abbrev pub setup : Scenario → Setup
 setup s = setup_of s.stack (places_of s)
 
 -- how many rounds there are: the last one has a write, but where there is no write at all
+abbrev pub rounds_in : List ℕ → ℕ
+rounds_in rounds = 1 + fold max 0 rounds
+
 abbrev pub round_count : Scenario → ℕ
-round_count s = 1 + fold max 0 s.rounds
+round_count s = rounds_in s.rounds
 
 -- how many writes a round has, and how many it has with all behind it
+abbrev pub in_round : List ℕ → ℕ → ℕ
+in_round rounds round = length (filter (λ r. r == round) rounds)
+
+abbrev pub from_round : List ℕ → ℕ → ℕ
+from_round rounds round = length (filter (λ r. nat_le round r) rounds)
+
 abbrev pub writes_in : Scenario → ℕ → ℕ
-writes_in s round = length (filter (λ r. r == round) s.rounds)
+writes_in s round = in_round s.rounds round
 
 abbrev pub writes_from : Scenario → ℕ → ℕ
-writes_from s round = length (filter (λ r. nat_le round r) s.rounds)
+writes_from s round = from_round s.rounds round
+
+-- how many writes each round has
+abbrev pub left_in : List ℕ → List ℕ
+left_in rounds = map (in_round rounds) (range_with_len 0 (rounds_in rounds))
+
+-- the changes before a round, where so many writes are left when it starts
+abbrev pub is_at : ℕ → Change → Bool
+is_at round change = change.round == round
+
+abbrev pub changes_at : ℕ → ℕ → List Change → List Duty
+changes_at round later changes = map (λ (change : Change). Resizes change.pool change.min later) (filter (is_at round) changes)
 
 -- what the keeper does before a round and at its start
+abbrev pub starts_at : List ℕ → List Change → ℕ → List Duty
+starts_at rounds changes round = changes_at round (from_round rounds round) changes ++ Starts round (from_round rounds round) ∷ []
+
 abbrev pub duties_of : Scenario → ℕ → List Duty
-duties_of s round =
-    map (λ (change : Change). Resizes change.pool change.min (writes_from s round)) (filter (λ (change : Change). change.round == round) s.changes)
-    ++ Starts round (writes_from s round) ∷ []
+duties_of s round = starts_at s.rounds s.changes round
+
+-- and that of so many rounds behind round 0
+abbrev pub duties_in : List ℕ → List Change → ℕ → List Duty
+duties_in rounds changes count = flat_map (starts_at rounds changes) (range_with_len 1 count)
 
 abbrev pub duties : Scenario → List Duty
-duties s = flat_map (duties_of s) (range_with_len 1 (round_count s - 1))
+duties s = duties_in s.rounds s.changes (round_count s - 1)
 
 -- there is a keeper where there is more than one round
 abbrev pub keepers : List Duty → List TaskState
@@ -94,13 +136,23 @@ keepers (duty ∷ duties) = Keeper (Keeps (duty ∷ duties)) ∷ []
 abbrev pub at : ℕ → DevId
 at dev = record { 0 = dev }
 
+-- the writers of these numbers that have a write, and the rescuers and completers of devices that have one
+abbrev pub writers_of : List ℕ → List Write → List ℕ → List TaskState
+writers_of rounds writes numbers =
+    map (λ writer. Writer writer (share_of rounds writes writer) NoBio rests) (filter (is_writer rounds writes) numbers)
+
+abbrev pub rescuers_of : Setup → List ℕ → List TaskState
+rescuers_of setup numbers = map (λ dev. Rescuer (at dev) rests) (filter setup.rescuer numbers)
+
+abbrev pub completers_of : Setup → List ℕ → List TaskState
+completers_of setup numbers = map (λ dev. Completer (at dev) Empty) (filter (is_disk setup) numbers)
+
 -- the tasks in their order: writers, the rescuers of sets, the completers of disks, and the keeper
 abbrev pub tasks : Scenario → List TaskState
 tasks s =
-    map (λ writer. Writer writer (todos_of s writer) NoBio rests) (writers s)
-    ++ (map (λ dev. Rescuer (at dev) rests) (filter (setup s).rescuer (range_with_len 0 (setup s).count))
-    ++ (map (λ dev. Completer (at dev) Empty) (filter (is_disk (setup s)) (range_with_len 0 (setup s).count))
-    ++ keepers (duties s)))
+    writers_of s.rounds s.writes (range_with_len 0 most_writers)
+    ++ (rescuers_of (setup s) (range_with_len 0 (setup s).count)
+    ++ (completers_of (setup s) (range_with_len 0 (setup s).count) ++ keepers (duties s)))
 
 abbrev pub scene : Scenario → (ℕ → LedgerId) → Scene
 scene s ledger = record { setup = setup s; tasks = length (tasks s); books = most_writers; writes = length s.writes; ledger = ledger }
@@ -123,6 +175,10 @@ is_numbered number script = pool_number script.0 == number
 abbrev pub script_at : List (PoolId × Answers) → ℕ → Answers
 script_at scripts number = option_map_or (λ (script : PoolId × Answers). script.1) (find (is_numbered number) scripts) (only_tail true)
 
+-- the tally in which every write is unfinished
+abbrev pub tally_in : List ℕ → List Write → TallyState
+tally_in rounds writes = record { round = 0; left = left_in rounds; statuses = replicate (length writes) status.Ok }
+
 -- pools are full, disks are zeros, nothing waits, no node is open and every write is unfinished
 abbrev pub objects : Scenario → Objects
 objects s = record {
@@ -130,11 +186,7 @@ objects s = record {
   rescue = λ dev. [];
   disk = λ dev. disk.opened (at dev) (size (tree s.stack dev)) (bads_of s.stack dev);
   book = λ writer. record { writer = writer; nodes = replicate (places_of s writer) None };
-  tally = record {
-    round = 0;
-    left = map (writes_in s) (range_with_len 0 (round_count s));
-    statuses = replicate (length s.writes) status.Ok;
-  };
+  tally = tally_in s.rounds s.writes;
 }
 
 -- no task behind the last

@@ -2,12 +2,13 @@
 ghost use Rattle.std.specs.Prelude.{◌≡◌, ◌≤◌, ◌<◌, ◌^◌, IfOk, OnOk, length, sum};
 ghost use Rattle.stack_base.specs.Stack.{HasRescuers, IsStack};
 ghost use Rattle.task_core.specs.Leaving.{IsReservedForRun};
-ghost use Rattle.task_core.specs.opened.NewTasks.{left_in, others_in, reserves_in, rounds_in, writers_in, AddsTasks, AreShared, IsRoutingFor};
+ghost use Rattle.task_core.specs.opened.NewTasks.{others_in, reserves_in, writers_in, AddsTasks, AreShared, IsRoutingFor};
 ghost use Rattle.task_core.specs.opened.OpenTasks.{AreTasksOf};
 ghost use Rattle.task_core.specs.opened.OfOne.{scenario_in, AreOpenedOf, IsOpened};
 ghost use Rattle.run_machine.specs.ReadBehind.{IsReadBehind};
 ghost use Rattle.task_steps.specs.Routed.{routing_setup};
 ghost use Rattle.run_machine.specs.Scenario.{scenario_of};
+ghost use Rattle.run_machine.specs.Opened.{left_in, rounds_in};
 
 pub(crate) mod objects;
 pub(crate) mod pools;

@@ -29,12 +29,12 @@ use Rattle.run_machine.specs.Events.{pool_of}
 use Rattle.task_steps.specs.Homes.{TodoFits, IsSubmissionOf, IsOwned, DutyFits, IsTaskOf}
 use Rattle.task_core.specs.Leaving.{IsReservedForRun}
 use Rattle.run_machine.specs.Submissions.{rests}
-use Rattle.task_core.specs.opened.NewTasks.{AreShared, writers_of, others_in, tally_in, reserves_in}
+use Rattle.task_core.specs.opened.NewTasks.{AreShared, others_in, reserves_in}
 use Rattle.task_core.specs.opened.OpenTasks.{AreTasksOf}
 use Rattle.run_machine.specs.Objects.{Objects, TallyState}
 use Rattle.task_core.specs.opened.OfOne.{states, AreOfOne, IsOpened, scenario_in}
 use Rattle.run_machine.specs.ReadBehind.{IsReadBehind}
-use Rattle.run_machine.specs.Opened.{Change, Scenario, at, is_by, todos, todos_of, writers, places_of, reserve_of, script_at, keepers, duties, duties_of, writes_from, round_count, tasks}
+use Rattle.run_machine.specs.Opened.{Change, Scenario, at, is_by, todos, todos_of, writers, places_of, reserve_of, script_at, keepers, duties, duties_of, writes_from, round_count, tasks, writers_of, tally_in}
 use Rattle.run_machine.specs.Opened as opened
 use Rattle.task_core.specs.opened.Openings.{widest, AreOpened, AreRows}
 use Rattle.task_core.specs.Plains.{objects_of, stage_of}

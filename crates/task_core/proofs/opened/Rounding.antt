@@ -8,8 +8,7 @@ use Rattle.std.proofs.lemmas.List.{append-nil, map-id}
 use Rattle.std.proofs.lemmas.List.Filters.{length-filter_more}
 use Rattle.std.proofs.lemmas.List.FromFn.{get_or-map-range_with_len, map-range_with_len_more}
 use Rattle.std.proofs.lemmas.List.Sums.{get_or-le-sum_by, sum_by-set}
-use Rattle.work_text.specs.declared.Resize.{Resize}
-use Rattle.task_core.specs.opened.NewTasks.{in_round, from_round, rounds_in, left_in, starts_at, duties_in}
+use Rattle.run_machine.specs.Opened.{in_round, from_round, rounds_in, left_in, starts_at, duties_in, Change}
 
 is_itself : (a b : ℕ) → a ≡ b → (a == b) ≡ true
 is_itself a b e = grind (arith, nat_tests)
@@ -110,15 +109,15 @@ left_at rounds left round d is lt =
     ap (λ xs. get_or xs round d) is ∙ get_or-map-range_with_len (in_round rounds) 0 (rounds_in rounds) round round d lt (omega arith)
 
 -- one more round
-pub duties_more : (rounds : List ℕ) (resizes : List Resize) (passed : ℕ)
-    → duties_in rounds resizes (passed + 1) ≡ duties_in rounds resizes passed ++ starts_at rounds resizes (passed + 1)
-duties_more rounds resizes passed =
+pub duties_more : (rounds : List ℕ) (changes : List Change) (passed : ℕ)
+    → duties_in rounds changes (passed + 1) ≡ duties_in rounds changes passed ++ starts_at rounds changes (passed + 1)
+duties_more rounds changes passed =
     let next : 1 + passed ≡ passed + 1 = omega arith in
-    ap (flat_map (starts_at rounds resizes))
+    ap (flat_map (starts_at rounds changes))
     (sym (map-id (range_with_len 1 (passed + 1))) ∙ map-range_with_len_more (λ i. i) 1 passed (passed + 1) next
     ∙ ap (λ xs. xs ++ (passed + 1) ∷ []) (map-id (range_with_len 1 passed)))
-    ∙ flat_map-append (starts_at rounds resizes) (range_with_len 1 passed) ((passed + 1) ∷ [])
-    ∙ ap (λ ys. duties_in rounds resizes passed ++ ys) (append-nil (starts_at rounds resizes (passed + 1)))
+    ∙ flat_map-append (starts_at rounds changes) (range_with_len 1 passed) ((passed + 1) ∷ [])
+    ∙ ap (λ ys. duties_in rounds changes passed ++ ys) (append-nil (starts_at rounds changes (passed + 1)))
 
 -- how many were counted of a round before
 pub had_count : (rounds left : List ℕ) (i n round value : ℕ) → left ≡ map (in_round (take i rounds)) (range_with_len 0 n) → round < n

@@ -11,14 +11,14 @@ use Rattle.stack_base.specs.declared.stack.Stack.{Stack}
 use Rattle.layout_model.specs.declared.write.Write.{Write}
 use Rattle.layout_model.specs.NeedCounts.{nodes}
 use Rattle.work_text.specs.declared.Work.{Work}
-use Rattle.run_machine.specs.Opened.{Scenario, is_by, places_of, tasks, todos}
+use Rattle.run_machine.specs.Opened.{Scenario, is_by, places_of, tasks, todos, writers_of}
 use Rattle.run_machine.specs.Opened as opened
 use Rattle.run_machine.specs.Scenario.{change_of}
 use Rattle.run_machine.specs.Scene.{setup_of}
 use Rattle.run_machine.specs.Tasks.{TaskState, Todo}
 use Rattle.task_steps.specs.Routed.{Routing, places_at, routing_setup}
 use Rattle.task_steps.specs.TaskViews.{TaskOf}
-use Rattle.task_core.specs.opened.NewTasks.{AreShared, others_in, with_routing, writers_of}
+use Rattle.task_core.specs.opened.NewTasks.{AreShared, others_in, with_routing}
 use Rattle.task_core.specs.opened.OfOne.{states}
 use Rattle.task_core.specs.opened.OpenTasks.{AreTasksOf}
 use Rattle.task_core.proofs.opened.Sharing.{numbered_all}

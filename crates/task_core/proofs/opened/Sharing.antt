@@ -13,8 +13,8 @@ use Rattle.layout_model.specs.NeedCounts.{nodes}
 use Rattle.layout_model.specs.Writes.{IsWrite}
 use Rattle.task_steps.specs.declared.task.Kind.{Kind}
 use Rattle.run_machine.specs.Submissions.{rests}
-use Rattle.task_core.specs.opened.NewTasks.{numbered, numbered_from, share_of, nodes_of, is_writer, writer_with, writers_of, shown_tasks, AddsTasks, AreShared, ArePlaced}
-use Rattle.run_machine.specs.Opened.{is_by}
+use Rattle.task_core.specs.opened.NewTasks.{writer_with, shown_tasks, AddsTasks, AreShared, ArePlaced}
+use Rattle.run_machine.specs.Opened.{is_by, numbered, numbered_from, share_of, nodes_of, is_writer, writers_of}
 use Rattle.run_machine.specs.Tasks.{Todo, TaskState, NoBio, Writer}
 use Rattle.task_core.proofs.opened.Filling as fill
 

@@ -7,9 +7,9 @@ use Rattle.task_core.specs.declared.opening.Opened.{Opened}
 use Rattle.task_core.specs.declared.plain.Plain.{Plain}
 use Rattle.task_steps.specs.Homes.{IsTaskOf}
 use Rattle.task_core.specs.Leaving.{IsReservedForRun}
-use Rattle.task_core.specs.opened.NewTasks.{reserves_in, tally_in}
+use Rattle.task_core.specs.opened.NewTasks.{reserves_in}
 use Rattle.task_core.specs.opened.Openings.{AreRows, AreOpened}
-use Rattle.run_machine.specs.Opened.{Scenario, objects, tasks, no_task}
+use Rattle.run_machine.specs.Opened.{Scenario, objects, tasks, no_task, tally_in}
 use Rattle.run_machine.specs.Opened as opened
 use Rattle.task_core.specs.Plains.{objects_of, stage_of, Holds}
 use Rattle.task_core.specs.PlainSteps.{state_of_objects}

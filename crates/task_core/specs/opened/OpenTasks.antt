@@ -2,9 +2,10 @@
 use Rattle.std.specs.Prelude.{◌≡◌, ◌≤◌, ◌^◌, ◌++◌, ℕ, List, length, sum}
 use Rattle.stack_base.specs.declared.stack.Stack.{Stack}
 use Rattle.work_text.specs.declared.Work.{Work}
+use Rattle.run_machine.specs.Opened.{left_in, rounds_in}
 use Rattle.task_steps.specs.Routed.{Routing, routing_setup}
 use Rattle.task_steps.specs.TaskViews.{TaskOf}
-use Rattle.task_core.specs.opened.NewTasks.{left_in, others_in, rounds_in, with_routing, writers_in, ArePlaced}
+use Rattle.task_core.specs.opened.NewTasks.{others_in, with_routing, writers_in, ArePlaced}
 
 -- Writers first and then the tasks of devices and the keeper, each with what all know of devices: the stack, and the places of the writers'
 -- books. Beside them stands how many writes each round has.

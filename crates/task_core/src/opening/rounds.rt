@@ -4,7 +4,8 @@ ghost use Rattle.stack_base.specs.declared.ids.Status.TheVariants as status;
 ghost use Rattle.task_steps.specs.KeeperViews.{duty_of};
 ghost use Rattle.task_core.specs.Plains.{tally_of};
 ghost use Rattle.run_machine.specs.Scenario.{change_of};
-ghost use Rattle.task_core.specs.opened.NewTasks.{left_in, rounds_in, changes_at, duties_at, duties_in, keepers_in, AddsDuties, AddsTasks};
+ghost use Rattle.run_machine.specs.Opened.{left_in, rounds_in, changes_at, duties_in};
+ghost use Rattle.task_core.specs.opened.NewTasks.{duties_at, keepers_in, AddsDuties, AddsTasks};
 
 use crate::plain::tally::Tally;
 use stack_base::Status;
@@ -96,7 +97,7 @@ fn duties_of(
     requires few { length rounds.now < 2 ^ 32 }
     requires short { rounds_in rounds.now ≤ 2 ^ 32 }
     requires left { left.now ≡ left_in rounds.now }
-    ensures { IfOk result (λ duties. map duty_of duties.items ≡ duties_in rounds.now resizes.now (rounds_in rounds.now - 1)) }
+    ensures { IfOk result (λ duties. map duty_of duties.items ≡ duties_in rounds.now (map change_of resizes.now) (rounds_in rounds.now - 1)) }
 {
     let mut duties = Vec::new(alloc);
     let mut later = rounds.len() as u32;

@@ -1,9 +1,10 @@
 //! The tasks of devices, and the list of all tasks.
 ghost use Rattle.std.specs.Prelude.{◌≡◌, ◌<◌, [], ◌∷◌, ◌++◌, IfOk, OnOk, length};
 ghost use Rattle.stack_base.specs.Stack.{IsStack};
+ghost use Rattle.run_machine.specs.Opened.{rescuers_of, completers_of};
 ghost use Rattle.task_steps.specs.Routed.{routing_setup};
 ghost use Rattle.task_steps.specs.TaskViews.{task_of};
-ghost use Rattle.task_core.specs.opened.NewTasks.{rescuers_of, rescuers_in, completers_of, completers_in, shown_tasks, with_routing, AddsTasks};
+ghost use Rattle.task_core.specs.opened.NewTasks.{rescuers_in, completers_in, shown_tasks, with_routing, AddsTasks};
 
 use crate::opening::objects::is_disk;
 use stack_base::{DevId, Stack};

@@ -2,8 +2,8 @@
 ghost use Rattle.std.specs.Prelude.{◌≡◌, ◌+◌, ◌<◌, ◌^◌, ◌++◌, [], ◌∷◌, All, IfOk, OnOk, filter, length, slice_set};
 ghost use Rattle.stack_base.specs.Stack.{IsStack};
 ghost use Rattle.layout_model.specs.Writes.{IsWrite};
-ghost use Rattle.run_machine.specs.Opened.{is_by};
-ghost use Rattle.task_core.specs.opened.NewTasks.{book_places, share_of, nodes_of, writer_with, writers_among, writers_in, AddsTasks, AreShared, ArePlaced};
+ghost use Rattle.run_machine.specs.Opened.{is_by, share_of, nodes_of};
+ghost use Rattle.task_core.specs.opened.NewTasks.{book_places, writer_with, writers_among, writers_in, AddsTasks, AreShared, ArePlaced};
 
 use layout_model::need;
 use stack_base::Stack;

@@ -1,6 +1,7 @@
 use Rattle.std.proofs.Common.{◌≡◌, arith, length, refl, subst}
+use Rattle.run_machine.specs.Opened.{tally_in}
 use Rattle.task_core.specs.Leaving.{IsReservedForRun}
-use Rattle.task_core.specs.opened.NewTasks.{reserves_in, tally_in}
+use Rattle.task_core.specs.opened.NewTasks.{reserves_in}
 use Rattle.task_core.specs.opened.Openings.{AreOpened}
 use Rattle.task_steps.specs.Routed.{Routing}
 use Rattle.task_core.proofs.opened.Behind.{shared}

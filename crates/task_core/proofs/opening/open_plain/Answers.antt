@@ -10,8 +10,8 @@ use Rattle.stack_base.specs.Stack.{IsStack}
 use Rattle.decl_text.specs.Accepting.{IsDeclaredSo}
 use Rattle.decl_text.specs.Fit.{IsFitStack}
 use Rattle.decl_text.proofs.Fits.{accepted_fit}
-use Rattle.task_core.specs.opened.NewTasks.{in_round, reserves_in, rounds_in}
-use Rattle.run_machine.specs.Opened.{at, reserve_of, script_at}
+use Rattle.task_core.specs.opened.NewTasks.{reserves_in}
+use Rattle.run_machine.specs.Opened.{at, reserve_of, script_at, in_round, rounds_in}
 use Rattle.task_core.specs.opened.Openings.{has_pool, uses_set, uses_slips}
 use Rattle.task_core.proofs.opened.Behind.{bads_are, reserves_small, rounds_few, sets_kept, slips_are_kept}
 use Rattle.task_core.proofs.opened.ScriptsBehind.{scripts_alone, scripts_small}

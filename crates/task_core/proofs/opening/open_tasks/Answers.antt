@@ -1,6 +1,7 @@
 use Rattle.std.proofs.Common.{◌<◌, ◌≤◌, ◌^◌, ◌++◌, ◌∙◌, ℕ, List, ap, length, subst, sym}
 use Rattle.std.specs.List.{range_with_len}
-use Rattle.task_core.specs.opened.NewTasks.{left_in, others_in, rounds_in, shown_tasks, with_routing, writers_of}
+use Rattle.run_machine.specs.Opened.{left_in, rounds_in, writers_of}
+use Rattle.task_core.specs.opened.NewTasks.{others_in, shown_tasks, with_routing}
 use Rattle.task_core.specs.opened.OpenTasks.{AreTasksOf}
 use Rattle.task_steps.specs.Routed.{Routing, routing_setup}
 use Rattle.task_core.proofs.opened.Sharing.{few_rounds}

@@ -1,7 +1,7 @@
 use Rattle.std.proofs.Common.{◌≡◌, ◌++◌, map, take}
 use Rattle.task_steps.specs.KeeperViews.{duty_of}
-use Rattle.task_core.specs.opened.NewTasks.{changes_at}
 use Rattle.run_machine.specs.Scenario.{change_of}
+use Rattle.run_machine.specs.Opened.{changes_at}
 use Rattle.task_core.proofs.opening.rounds.add_round.Given as goal
 
 abbrev pub invariant-changing : goal.invariant-changing

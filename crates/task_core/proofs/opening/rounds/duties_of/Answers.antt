@@ -1,9 +1,9 @@
 use Rattle.std.proofs.Common.{◌≡◌, ◌+◌, ◌-◌, ◌++◌, ◌∷◌, [], ◌∙◌, ap, arith, length, map, slice_index_or, sym}
 use Rattle.std.proofs.lemmas.List.FromFn.{length-map-range_with_len}
 use Rattle.task_steps.specs.KeeperViews.{duty_of}
-use Rattle.task_core.specs.opened.NewTasks.{changes_at, duties_in, from_round, in_round, rounds_in, starts_at}
 use Rattle.run_machine.specs.Scenario.{change_of}
 use Rattle.run_machine.specs.Tasks.{Starts}
+use Rattle.run_machine.specs.Opened.{changes_at, duties_in, from_round, in_round, rounds_in, starts_at}
 use Rattle.task_core.proofs.opened.Rounding.{duties_more, from_first, from_next, left_at}
 use Rattle.task_core.proofs.opening.rounds.duties_of.Goals as goal
 
@@ -40,7 +40,7 @@ pub passing-preserved : goal.passing-preserved
 passing-preserved c =
     let test = c.passing-test.true in
     let rounds = c.args.rounds.now in
-    let resizes = c.args.resizes.now in
+    let changes = map change_of c.args.resizes.now in
     let passed = c.passing.passed in
     let left = slice_index_or c.args.left.now passed 0 in
     let long = ap length c.requires.left ∙ length-map-range_with_len (in_round rounds) 0 (rounds_in rounds) in
@@ -50,8 +50,8 @@ passing-preserved c =
     let is : c.passing.later - left ≡ from_round rounds (passed + 1) = omega (arith, later, own, next) in
     record {
       duties = c.in_ok-add_round.ensures
-          ∙ ap (λ n. map duty_of c.passing.duties.items ++ (changes_at (passed + 1) n (map change_of resizes) ++ Starts (passed + 1) n ∷ [])) is
-          ∙ ap (λ ys. ys ++ starts_at rounds resizes (passed + 1)) c.passing.invariant.duties ∙ sym (duties_more rounds resizes passed);
+          ∙ ap (λ n. map duty_of c.passing.duties.items ++ (changes_at (passed + 1) n changes ++ Starts (passed + 1) n ∷ [])) is
+          ∙ ap (λ ys. ys ++ starts_at rounds changes (passed + 1)) c.passing.invariant.duties ∙ sym (duties_more rounds changes passed);
       later = is;
     }
 
@@ -62,4 +62,4 @@ returns c =
     let long = ap length c.requires.left ∙ length-map-range_with_len (in_round rounds) 0 (rounds_in rounds) in
     let auto = c.passing.auto.passed-end in
     let whole : c.passing.passed ≡ rounds_in rounds - 1 = omega (arith, test, long, auto) in
-    c.passing.invariant.duties ∙ ap (duties_in rounds c.args.resizes.now) whole
+    c.passing.invariant.duties ∙ ap (duties_in rounds (map change_of c.args.resizes.now)) whole

@@ -1,7 +1,7 @@
 use Rattle.std.proofs.Common.{◌≡◌, ◌+◌, ◌<◌, ◌∙◌, ap, arith, length, refl, replicate, rules, set, slice_index_or, take}
 use Rattle.std.specs.Prelude.{sum}
 use Rattle.std.proofs.lemmas.List.FromFn.{length-map-range_with_len}
-use Rattle.task_core.specs.opened.NewTasks.{in_round, rounds_in}
+use Rattle.run_machine.specs.Opened.{in_round, rounds_in}
 use Rattle.task_core.proofs.opened.Rounding.{none_counted, sum_none, counted_more, had_count, round_inside, sum_more, entry_le}
 use Rattle.task_core.proofs.opening.rounds.left_of.Goals as goal
 

@@ -1,7 +1,7 @@
 use Rattle.std.proofs.Common.{◌≡◌, map, take}
 use Rattle.std.specs.Prelude.{sum}
 use Rattle.std.specs.List.{range_with_len}
-use Rattle.task_core.specs.opened.NewTasks.{in_round, rounds_in}
+use Rattle.run_machine.specs.Opened.{in_round, rounds_in}
 use Rattle.task_core.proofs.opening.rounds.left_of.Given as goal
 
 abbrev pub invariant-counting : goal.invariant-counting

@@ -1,5 +1,4 @@
-use Rattle.task_core.specs.opened.NewTasks.{completers_of}
-use Rattle.run_machine.specs.Opened.{at}
+use Rattle.run_machine.specs.Opened.{at, completers_of}
 use Rattle.task_steps.specs.Routed.{routing_setup}
 use Rattle.run_machine.specs.Scene.{is_disk}
 use Rattle.run_machine.specs.Tasks.{Completer, Empty}

@@ -1,6 +1,5 @@
 use Rattle.run_machine.specs.Submissions.{rests}
-use Rattle.task_core.specs.opened.NewTasks.{rescuers_of}
-use Rattle.run_machine.specs.Opened.{at}
+use Rattle.run_machine.specs.Opened.{at, rescuers_of}
 use Rattle.task_steps.specs.Routed.{routing_setup}
 use Rattle.run_machine.specs.Tasks.{Rescuer}
 use Rattle.task_core.proofs.opened.Sharing.{adds_more, kept_split}

@@ -1,5 +1,6 @@
 use Rattle.std.specs.List.{range_with_len}
-use Rattle.task_core.specs.opened.NewTasks.{rescuers_of, AddsTasks}
+use Rattle.run_machine.specs.Opened.{rescuers_of}
+use Rattle.task_core.specs.opened.NewTasks.{AddsTasks}
 use Rattle.task_steps.specs.Routed.{routing_setup}
 use Rattle.task_core.proofs.opening.tasks.open_rescuers.Given as goal
 

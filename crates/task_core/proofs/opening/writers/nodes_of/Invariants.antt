@@ -1,5 +1,5 @@
 use Rattle.std.proofs.Common.{◌≡◌, take}
-use Rattle.task_core.specs.opened.NewTasks.{nodes_of}
+use Rattle.run_machine.specs.Opened.{nodes_of}
 use Rattle.task_core.proofs.opening.writers.nodes_of.Given as goal
 
 abbrev pub invariant-counting : goal.invariant-counting

@@ -1,6 +1,6 @@
 use Rattle.run_machine.specs.Submissions.{rests}
-use Rattle.task_core.specs.opened.NewTasks.{is_writer, share_of, writers_of}
 use Rattle.run_machine.specs.Tasks.{NoBio, Writer}
+use Rattle.run_machine.specs.Opened.{is_writer, share_of, writers_of}
 use Rattle.task_core.proofs.opened.Sharing.{adds_more, kept_split, placed_more}
 use Rattle.task_core.proofs.opening.writers.open_writers.Goals as goal
 

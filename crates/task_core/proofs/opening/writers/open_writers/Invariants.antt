@@ -1,5 +1,6 @@
 use Rattle.std.specs.List.{range_with_len}
-use Rattle.task_core.specs.opened.NewTasks.{writers_of, AddsTasks, ArePlaced}
+use Rattle.run_machine.specs.Opened.{writers_of}
+use Rattle.task_core.specs.opened.NewTasks.{AddsTasks, ArePlaced}
 use Rattle.task_core.proofs.opening.writers.open_writers.Given as goal
 
 abbrev pub invariant-opening : goal.invariant-opening

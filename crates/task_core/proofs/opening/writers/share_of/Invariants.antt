@@ -1,6 +1,5 @@
 use Rattle.std.proofs.Common.{◌≡◌, filter, take}
-use Rattle.task_core.specs.opened.NewTasks.{numbered}
-use Rattle.run_machine.specs.Opened.{is_by}
+use Rattle.run_machine.specs.Opened.{is_by, numbered}
 use Rattle.task_core.proofs.opening.writers.share_of.Given as goal
 
 abbrev pub invariant-sharing : goal.invariant-sharing
