@@ -21,7 +21,8 @@ use Rattle.run_machine.specs.declared.event.TaskId.TheVariants as task
 use Rattle.run_machine.specs.declared.event.What.{What}
 use Rattle.run_machine.specs.declared.event.What.TheVariants as what
 use Rattle.run_machine.specs.Named.{HasDevice, HasPool, HasTask, HasWhat, IsEventOf, is_stacked_kind, is_any, is_disk_kind, is_mirror_kind}
-use Rattle.trace_text.specs.Lines.{device_name, got_word, line_of_event, pool_word, status_word, task_word, what_words}
+use Rattle.run_machine.specs.StatusWords.{status_word}
+use Rattle.trace_text.specs.Lines.{device_name, got_word, line_of_event, pool_word, task_word, what_words}
 use Rattle.biostack_top.proofs.SameStacks.{same_of}
 
 disk_told : (kind : Kind) → is_disk_kind kind ≡ declared.declares_disk (what_of kind)

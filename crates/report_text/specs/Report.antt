@@ -6,13 +6,13 @@ use Rattle.hex.specs.Hex.{encode_lower}
 use Rattle.stack_base.specs.declared.ids.DevId.{DevId}
 use Rattle.stack_base.specs.declared.ids.PoolId.{PoolId}
 use Rattle.stack_base.specs.declared.ids.Status.{Status}
-use Rattle.stack_base.specs.declared.ids.Status.TheVariants as status
 use Rattle.stack_base.specs.declared.ids.Range.{Range}
 use Rattle.stack_base.specs.declared.stack.Stack.{Stack}
 use Rattle.outside_io.specs.Saying.{joined_text}
 use Rattle.mempool_core.specs.declared.Facts.{Facts}
 use Rattle.model_disks.specs.Disks.{sum_of_words}
 use Rattle.model_disks.specs.Runs.{written_runs}
+use Rattle.run_machine.specs.StatusWords.{status_word}
 use Rattle.report_text.specs.Pools.{told_pools, same_pool, name_of_device, pool_name}
 
 -- what a report tells of: the status of each write in the order of the text, each disk with its image in the order of the devices, the facts
@@ -24,15 +24,9 @@ pub record Reported : Type 0 where
   pub steps : ℕ
   pub bound : ℕ
 
-abbrev pub reported_status : Status → List ℕ
-reported_status status.Ok = codes "ok"
-reported_status status.Io = codes "io"
-reported_status status.Medium = codes "medium"
-reported_status status.NoSpace = codes "nospace"
-
 -- `write W STATUS`
 abbrev pub write_line : ℕ → Status → List ℕ
-write_line number status = joined_text (codes "write " ∷ decimal number ∷ codes " " ∷ reported_status status ∷ codes "\n" ∷ [])
+write_line number status = joined_text (codes "write " ∷ decimal number ∷ codes " " ∷ status_word status ∷ codes "\n" ∷ [])
 
 -- `disk NAME sum HEX`, the sum in 16 hexadecimal digits
 abbrev pub disk_line : List ℕ → ℕ → List ℕ

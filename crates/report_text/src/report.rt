@@ -1,8 +1,8 @@
 //! Writes the report of a run that has ended.
-ghost use Rattle.std.specs.Prelude.{◌≡◌, ◌^◌, ◌<◌};
+ghost use Rattle.std.specs.Prelude.{◌^◌, ◌<◌};
 ghost use Rattle.outside_io.specs.Saying.{Says, Writes};
 ghost use Rattle.report_text.specs.CheckText.{steps_bound};
-ghost use Rattle.report_text.specs.Report.{report, reported_status, steps_line, write_line, write_lines};
+ghost use Rattle.report_text.specs.Report.{report, steps_line, write_line, write_lines};
 ghost use Rattle.report_text.specs.Views.{IsEndedOfStack, told_of};
 
 use crate::images::image_lines;
@@ -10,19 +10,9 @@ use crate::pools::pool_lines;
 use itoa::Buffer;
 use layout_model::Bounds;
 use outside_io::{Failed, Pen, Sink};
+use run_machine::status_word;
 use stack_base::{Stack, Status};
 use task_core::Ended;
-
-fn status_word(status: Status) -> &'static [u8]
-    ensures { result.now ≡ reported_status status }
-{
-    match status {
-        Status::Ok => b"ok",
-        Status::Io => b"io",
-        Status::Medium => b"medium",
-        Status::NoSpace => b"nospace",
-    }
-}
 
 // `write W STATUS`
 fn write_line<K: Sink>(pen: &mut Pen, out: &mut K, number: u64, status: Status)

@@ -13,3 +13,4 @@ pub mod Laws
 pub mod Scenario
 pub mod ReadBehind
 pub mod OneState
+pub mod StatusWords

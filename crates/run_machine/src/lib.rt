@@ -7,5 +7,7 @@
 
 mod event;
 pub mod laws;
+mod words;
 
 pub use event::{Breach, End, Event, Got, How, TaskId, What};
+pub use words::status_word;

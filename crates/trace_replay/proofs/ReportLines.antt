@@ -18,6 +18,7 @@ use Rattle.stack_base.specs.declared.ids.Status.{Status}
 use Rattle.stack_base.specs.declared.ids.Status.TheVariants as status
 use Rattle.stack_base.specs.declared.stack.Device.{Device}
 use Rattle.stack_base.specs.declared.stack.Stack.{Stack}
+use Rattle.run_machine.specs.StatusWords.{status_word}
 use Rattle.outside_io.specs.Saying.{joined_text}
 use Rattle.mempool_core.specs.declared.Facts.{Facts}
 use Rattle.model_disks.specs.Disks.{sum_of_words}
@@ -81,7 +82,7 @@ hex_inner table (byte ∷ bytes) inner =
     let low = all_of (is_inner (get_or table (byte % 16) 0)) (list_all is_inner (encode_with table bytes)) (at_inner table (byte % 16) inner) (hex_inner table bytes inner) in
     all_of (is_inner (get_or table (byte / 16) 0)) (list_all is_inner (get_or table (byte % 16) 0 ∷ encode_with table bytes)) (at_inner table (byte / 16) inner) low
 
-status_inner : (one : Status) → IsInner (said.reported_status one)
+status_inner : (one : Status) → IsInner (status_word one)
 status_inner status.Ok = refl
 status_inner status.Io = refl
 status_inner status.Medium = refl
@@ -137,7 +138,7 @@ parts_none parts inner other =
 -- the lines of a report
 write_none : (number : ℕ) (one : Status) → AddsNone (said.write_line number one)
 write_none number one =
-    parts_none (codes "write " ∷ decimal number ∷ codes " " ∷ said.reported_status one ∷ []) (refl, (decimal_inner number, (refl, (status_inner one, tt)))) refl
+    parts_none (codes "write " ∷ decimal number ∷ codes " " ∷ status_word one ∷ []) (refl, (decimal_inner number, (refl, (status_inner one, tt)))) refl
 
 writes_none : (number : ℕ) (all : List Status) → AddsNone (said.write_lines number all)
 writes_none number [] = λ back none. none

@@ -26,8 +26,9 @@ use Rattle.run_machine.specs.declared.event.End.TheVariants as end
 use Rattle.run_machine.specs.declared.event.What.{What}
 use Rattle.run_machine.specs.declared.event.What.TheVariants as what
 use Rattle.run_machine.specs.declared.event.Event.{Event}
+use Rattle.run_machine.specs.StatusWords.{status_word}
 use Rattle.trace_text.specs.Names.{HasDevice, HasPool, DevicesAreNamed, is_stacked_kind, is_any, is_disk_kind, is_mirror_kind}
-use Rattle.trace_text.specs.Lines.{Fits, IsEventOf, end_word, got_word, how_word, line_of_event, device_name, pool_word, status_word, task_word, what_words, words_of}
+use Rattle.trace_text.specs.Lines.{Fits, IsEventOf, end_word, got_word, how_word, line_of_event, device_name, pool_word, task_word, what_words, words_of}
 use Rattle.trace_text.specs.Reading.{at_end, both, event_of, field, made, fixed_word, task_of_word, what_of}
 use Rattle.trace_text.specs.Laws.{IsEventLine, IsEventRead, is_line_byte}
 use Rattle.trace_text.proofs.NameLemmas.{any_of}

@@ -17,9 +17,10 @@ use Rattle.run_machine.specs.declared.event.How.{How}
 use Rattle.run_machine.specs.declared.event.How.TheVariants as how
 use Rattle.run_machine.specs.declared.event.End.{End}
 use Rattle.run_machine.specs.declared.event.End.TheVariants as end
+use Rattle.run_machine.specs.StatusWords.{status_word}
 use Rattle.trace_text.specs.declared.verb.Verb.{Verb}
 use Rattle.trace_text.specs.declared.verb.Verb.TheVariants as verb
-use Rattle.trace_text.specs.Lines.{status_word, got_word, how_word, end_word}
+use Rattle.trace_text.specs.Lines.{got_word, how_word, end_word}
 use Rattle.trace_text.specs.Reading.{with_word, all_verbs, verb_word, verb_of_word, all_statuses, status_of_word, all_gots, got_of_word, all_hows, how_of_word, all_ends, end_of_word, is_plain, plain_number, fixed_word}
 use Rattle.stack_base.proofs.NumeralLemmas.{AllAreDigits, numerals}
 use Rattle.trace_text.proofs.Readers.{IsWord}

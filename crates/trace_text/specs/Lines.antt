@@ -5,8 +5,6 @@ use Rattle.std.specs.Option.{option_map_or}
 use Rattle.stack_base.specs.declared.ids.DevId.{DevId}
 use Rattle.stack_base.specs.declared.ids.PoolId.{PoolId}
 use Rattle.stack_base.specs.declared.ids.PoolId.TheVariants.{FsBios, FsVecs, Bios, Records}
-use Rattle.stack_base.specs.declared.ids.Status.{Status}
-use Rattle.stack_base.specs.declared.ids.Status.TheVariants as status
 use Rattle.stack_base.specs.declared.stack.Device.{Device}
 use Rattle.stack_base.specs.declared.stack.Stack.{Stack}
 use Rattle.run_machine.specs.declared.event.TaskId.{TaskId}
@@ -21,12 +19,7 @@ use Rattle.run_machine.specs.declared.event.What.{What}
 use Rattle.run_machine.specs.declared.event.What.TheVariants as what
 use Rattle.run_machine.specs.declared.event.Event.{Event}
 pub use Rattle.run_machine.specs.Named.{HasTask, HasWhat, IsEventOf, FitsTask, FitsWhat, Fits}
-
-abbrev pub status_word : Status → List ℕ
-status_word status.Ok = codes "ok"
-status_word status.Io = codes "io"
-status_word status.Medium = codes "medium"
-status_word status.NoSpace = codes "nospace"
+use Rattle.run_machine.specs.StatusWords.{status_word}
 
 abbrev pub got_word : Got → List ℕ
 got_word got.Ordinary = codes "ordinary"

@@ -26,8 +26,9 @@ use Rattle.run_machine.specs.declared.event.End.TheVariants as end
 use Rattle.run_machine.specs.declared.event.What.{What}
 use Rattle.run_machine.specs.declared.event.What.TheVariants as what
 use Rattle.run_machine.specs.declared.event.Event.{Event}
+use Rattle.run_machine.specs.StatusWords.{status_word}
 use Rattle.trace_text.specs.Names.{has_device, is_stacked_kind, is_disk_kind, is_mirror_kind}
-use Rattle.trace_text.specs.Lines.{status_word, got_word, how_word, end_word}
+use Rattle.trace_text.specs.Lines.{got_word, how_word, end_word}
 use Rattle.trace_text.specs.declared.verb.Verb.{Verb}
 use Rattle.trace_text.specs.declared.verb.Verb.TheVariants as verb
 

@@ -1,9 +1,9 @@
 //! The words that tell one kind of event from another, and those that have few choices.
 ghost use Rattle.std.specs.Prelude.{◌≡◌, ◌≤◌, length};
-ghost use Rattle.trace_text.specs.Lines.{end_word, got_word, how_word, status_word};
+ghost use Rattle.trace_text.specs.Lines.{end_word, got_word, how_word};
 ghost use Rattle.trace_text.specs.Reading.{end_of_word, got_of_word, how_of_word, status_of_word, verb_of_word, verb_word};
 
-use run_machine::{End, Got, How};
+use run_machine::{End, Got, How, status_word};
 use stack_base::Status;
 
 /// The word behind the task: what the task did.
@@ -70,19 +70,6 @@ pub(crate) fn verb_of_word(word: &[u8]) -> Option<Verb>
     ensures { result ≡ verb_of_word word.now }
 {
     VERBS.iter().copied().find(|verb| verb_word(*verb) == word)
-}
-
-/// The word of a status.
-pub(crate) fn status_word(status: Status) -> &'static [u8]
-    ensures word { result.now ≡ status_word status }
-    ensures short { length result.now ≤ 7 }
-{
-    match status {
-        Status::Ok => b"ok",
-        Status::Io => b"io",
-        Status::Medium => b"medium",
-        Status::NoSpace => b"nospace",
-    }
 }
 
 /// The status of this word.

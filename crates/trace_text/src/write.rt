@@ -1,13 +1,14 @@
 //! Writes events.
 ghost use Rattle.std.specs.Prelude.{◌≡◌, ◌+◌, ◌≤◌, ◌++◌, ◌∷◌, [], codes, decimal, length};
-ghost use Rattle.trace_text.specs.Lines.{end_word, how_word, line_of_event, status_word, device_name, pool_word, task_word, what_words};
+ghost use Rattle.trace_text.specs.Lines.{end_word, how_word, line_of_event, device_name, pool_word, task_word, what_words};
 ghost use Rattle.trace_text.specs.Writing.{spaced};
 ghost use Rattle.run_machine.specs.declared.event.What.TheVariants as what;
+ghost use Rattle.run_machine.specs.StatusWords.{status_word};
 
-use crate::verb::{end_word, got_word, how_word, status_word};
+use crate::verb::{end_word, got_word, how_word};
 use arrayvec::ArrayVec;
 use itoa::Buffer;
-use run_machine::{End, Event, Got, How, TaskId, What};
+use run_machine::{End, Event, Got, How, TaskId, What, status_word};
 use stack_base::{DevId, PoolId, Stack, Status};
 
 // A line as it is written. The longest one has 103 bytes.
