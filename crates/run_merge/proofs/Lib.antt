@@ -1,3 +1,4 @@
+pub mod Fronts
 pub mod products
 pub mod merging
 pub mod closing

@@ -1,5 +1,5 @@
 -- What was opened has few tasks: eight writers, a rescuer or a completer for each device, and a keeper.
-use Rattle.std.proofs.Common.{◌≡◌, ◌+◌, ◌≤◌, ◌++◌, ◌&&◌, cond, ℕ, Bool, true, false, true≢false, List, [], ◌∷◌, length, filter, Option, Some, None, arith, refl, sym, ◌∙◌, ap}
+use Rattle.std.proofs.Common.{◌≡◌, ◌+◌, ◌≤◌, ◌++◌, ◌&&◌, cond, ℕ, Bool, true, false, true≢false, List, [], ◌∷◌, length, filter, Option, Some, None, arith, refl, sym, ap}
 use Rattle.std.specs.Prelude.{map, slice_get}
 use Rattle.std.specs.List.{range_with_len, list_any}
 use Rattle.std.proofs.lemmas.List.{length-map, length-append}
@@ -22,6 +22,7 @@ use Rattle.task_steps.specs.TaskViews.{TaskOf}
 use Rattle.task_core.specs.declared.opening.Opened.{Opened}
 use Rattle.task_core.specs.opened.OfOne.{IsOpened, scenario_in}
 use Rattle.shared_objects.specs.Rans.{most_tasks}
+use Rattle.task_core.proofs.NumberTests.{clash}
 
 pub few_of : {X : Type 0} (p : X → Bool) (xs : List X) → length (filter p xs) ≤ length xs
 few_of p [] = omega arith
@@ -46,9 +47,6 @@ few_of_both p q apart (x ∷ xs) = by_test (p x) (q x) refl refl (few_of_both p 
 one_keeper : (ds : List Duty) → length (keepers ds) ≤ 1
 one_keeper [] = omega arith
 one_keeper (duty ∷ ds) = omega arith
-
-clash : (b : Bool) → b ≡ true → b ≡ false → ⊥
-clash b p q = true≢false (sym p ∙ q)
 
 right_of : (a b : Bool) → (a && b) ≡ true → b ≡ true
 right_of true b e = e

@@ -8,11 +8,7 @@ use Rattle.shared_objects.specs.Rans.{RanState, most_tasks}
 use Rattle.shared_objects.specs.Shared.{HandsOut, HasRoomFor, IsOwnIfHere, IsUntaken, SameShared, SharedHolds, ran_key_at}
 use Rattle.shared_objects.specs.Taking.{TakenHold}
 use Rattle.shared_objects.specs.declared.shared.Shared.{Shared}
-use Rattle.std.proofs.lemmas.Bool.Decides.{nat_tests}
-use Rattle.task_core.proofs.PoolLemmas.{same_by}
-
-apart_by : (a b : ℕ) → (a == b) ≡ false → a ≢ b
-apart_by a b e same = grind (arith, nat_tests)
+use Rattle.task_core.proofs.NumberTests.{same_by, apart_by}
 
 -- The slot of a task that was handed out was set, and nothing else but which is the next one.
 module _ (old : Shared) (holds : SharedHolds old) (new : Shared) (same : record old { tasks = new.tasks; next = new.next } ≡ new)

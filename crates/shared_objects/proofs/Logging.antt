@@ -3,7 +3,6 @@ use Rattle.std.proofs.Common.{◌≡◌, ℕ, ◌==◌, ◌<◌, ◌≤◌, ◌�
 use Rattle.std.specs.Prelude.{All, Contains, IfSome, IsTrue, max, ◌-◌, ◌^◌, map}
 use Rattle.std.specs.List.{cons_option}
 use Rattle.std.proofs.lemmas.Bool.{cases_lt}
-use Rattle.std.proofs.lemmas.Bool.Decides.{nat_tests}
 use Rattle.std.proofs.lemmas.List.{append-nil, append_assoc, map-append}
 use Rattle.std.proofs.lemmas.List.Elements.{All-push, All-weaker, filter-append, filter_map-append, Contains-push, Contains-append_left}
 use Rattle.tick_clock.specs.Tickets.{PassState, drawn_with}
@@ -18,12 +17,10 @@ use Rattle.object_things.specs.Histories.{Call, TicketsRise, IsNextTicket, or_la
 use Rattle.shared_objects.specs.Calls.{CallsAt, with_call, is_same_object, calls_at, calls_to, struck}
 use Rattle.shared_objects.specs.Desks.{DeskState, HasCalled, PassOn}
 use Rattle.shared_objects.specs.Logs.{is_glance, tickets_in, Looked, LogLeads, IsMet, IsSeenIn, FoundNone, KnowsLast, WentThrough, HasPass, IsMade, IsLogged}
+use Rattle.task_core.proofs.NumberTests.{same_by}
 
 abbrev here : Bool → Call → List Call
 here b call = cond b (call ∷ []) []
-
-same_by : (a b : ℕ) → (a == b) ≡ true → a ≡ b
-same_by a b e = grind (arith, nat_tests)
 
 more_by : (f : ℕ → List Call) (n m : ℕ) (call : Call) (b : Bool) → (m == n) ≡ b → cond b (f n ++ call ∷ []) (f m) ≡ f m ++ here b call
 more_by f n m call true e = ap (λ k. f k ++ call ∷ []) (sym (same_by m n e))

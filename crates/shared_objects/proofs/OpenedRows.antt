@@ -19,6 +19,7 @@ use Rattle.task_core.specs.opened.Openings.{itself, set_index, slip_index, uses_
 use Rattle.task_core.specs.ObjectsOf.{IsBookOf, IsDiskOf}
 use Rattle.task_core.specs.Plains.{bios_at, book_number, disk_number, is_bios_number, list_number, no_book, no_disk, no_pool, objects_of, pool_at, records_at, records_number, set_number, stage_of}
 use Rattle.task_core.specs.Tables.{is_entry_of, look_up}
+use Rattle.task_core.proofs.NumberTests.{is_itself}
 use Rattle.task_core.proofs.PoolLemmas.{stands_for_bios, stands_for_records}
 use Rattle.task_steps.specs.Stage.{AreServed}
 use Rattle.object_things.specs.Pools.{IsPoolOf}
@@ -32,9 +33,6 @@ head_or d (x ∷ xs) = x
 abbrev rest_of : List ℕ → List ℕ
 rest_of [] = []
 rest_of (x ∷ xs) = xs
-
-is_itself : (a b : ℕ) → a ≡ b → (a == b) ≡ true
-is_itself a b e = grind (e, arith, nat_tests)
 
 is_other : (a b : ℕ) → a ≢ b → (a == b) ≡ false
 is_other a b apart = grind (apart, arith, nat_tests)

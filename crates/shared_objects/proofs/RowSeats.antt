@@ -3,24 +3,18 @@ use Rattle.std.proofs.Common.{◌≡◌, ◌==◌, ◌<◌, ◌+◌, ◌++◌, �
 use Rattle.std.specs.Prelude.{IsTrue, slice_index_or}
 use Rattle.std.specs.List.{position_or_len}
 use Rattle.std.proofs.lemmas.List.{length-set, get_or-set_same, get_or-set_other}
-use Rattle.std.proofs.lemmas.Bool.Decides.{nat_tests}
 use Rattle.std.proofs.lemmas.Option.{slice_get-get_or, get_or_from_slice_get}
 use Rattle.seat_lock.specs.Seats.{LockId, SeatState, own}
 use Rattle.run_machine.specs.Laws.{Object}
 use Rattle.run_machine.specs.Maps.{upd}
 use Rattle.run_machine.specs.Requests.{Request}
 use Rattle.task_core.specs.Tables.{is_entry_of, IsAt}
+use Rattle.task_core.proofs.NumberTests.{same_by, apart_by}
 use Rattle.task_core.proofs.TableLemmas.{key_is, looked, changed}
 use Rattle.object_things.specs.Histories.{Call}
 use Rattle.object_things.specs.Stamps.{CommonState, MarkState, Told}
 use Rattle.shared_objects.specs.Calling.{AreSeatedAt}
 use Rattle.shared_objects.specs.Holding.{AreLocked, AreSeatsOf, IsNamed, IsSeatOf, calls_in}
-
-same_by : (a b : ℕ) → (a == b) ≡ true → a ≡ b
-same_by a b e = grind (arith, nat_tests)
-
-apart_by : (a b : ℕ) → (a == b) ≡ false → a ≡ b → ⊥
-apart_by a b e same = grind (arith, nat_tests)
 
 default_to : {X : Type 0} (xs : List X) (k : ℕ) (a b : X) → k < length xs → get_or xs k a ≡ get_or xs k b
 default_to xs k a b lt = get_or_from_slice_get xs k (get_or xs k b) a (slice_get-get_or xs k b lt)

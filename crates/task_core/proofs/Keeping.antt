@@ -1,5 +1,5 @@
 -- What a call makes of the objects of a stage are objects of this stage, and what it hands out is at home.
-use Rattle.std.proofs.Common.{◌≡◌, ◌≢◌, ◌+◌, ◌-◌, ◌*◌, ◌/◌, ◌%◌, ◌<◌, ◌≤◌, ◌==◌, ◌&&◌, ◌||◌, if◌then◌else◌, ℕ, Bool, true, false, List, length, take, drop, sum, set, get_or, Some, refl, sym, ap, subst, ◌∙◌, arith, suc}
+use Rattle.std.proofs.Common.{◌≡◌, ◌+◌, ◌-◌, ◌*◌, ◌/◌, ◌%◌, ◌<◌, ◌≤◌, ◌==◌, ◌&&◌, ◌||◌, if◌then◌else◌, ℕ, Bool, true, false, List, length, take, drop, sum, set, get_or, Some, refl, sym, ap, subst, ◌∙◌, arith, suc}
 use Rattle.std.specs.Prelude.{IsTrue, slice_get}
 use Rattle.std.proofs.lemmas.Bool.Decides.{nat_tests}
 use Rattle.std.proofs.lemmas.Grind.{common_steps}
@@ -37,13 +37,11 @@ use Rattle.run_machine.specs.Opened.{at}
 use Rattle.task_steps.specs.Stage.{Stage, has_mirror, is_set, is_bios, is_vecs, is_slips, IsTaken, IsServed, AreServed, RequestFits, Owes}
 use Rattle.task_core.specs.ObjectsOf.{IsDiskOf, IsBookOf, IsTallyOf, AreObjectsOf, AreNumbered}
 use Rattle.run_machine.proofs.Frames.{upd_same, upd_other}
-pub use Rattle.task_core.proofs.StageBooks.{node_is, links_is, drops_is}
+pub use Rattle.task_core.proofs.NumberTests.{apart_by}
+use Rattle.task_core.proofs.StageBooks.{node_is, links_is, drops_is}
 
 same_by : (a b : ℕ) → (a == b) ≡ true → b ≡ a
 same_by a b e = grind (arith, nat_tests)
-
-apart_by : (a b : ℕ) → (a == b) ≡ false → a ≢ b
-apart_by a b e = grind (arith, nat_tests)
 
 -- what holds at each number holds so with one changed
 upd_keeps : {X : Type 0} (P : ℕ → X → Type 0) (f : ℕ → X) (i : ℕ) (x : X) → ((j : ℕ) → P j (f j)) → P i x → (j : ℕ) → P j (upd f i x j)

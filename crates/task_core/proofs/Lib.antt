@@ -1,3 +1,4 @@
+pub mod NumberTests
 pub mod TableLemmas
 pub mod PoolLemmas
 pub mod StageBooks

@@ -11,9 +11,7 @@ use Rattle.task_core.specs.declared.plain.Plain.{Plain}
 use Rattle.run_machine.specs.Maps.{upd}
 use Rattle.run_machine.specs.Objects.{PoolMoves}
 use Rattle.task_core.specs.Plains.{Holds, is_bios_number, pool_at, objects_of, stage_of}
-
-pub same_by : (a b : ℕ) → (a == b) ≡ true → a ≡ b
-same_by a b e = grind (arith, nat_tests)
+use Rattle.task_core.proofs.NumberTests.{same_by}
 
 not_64 : (m n : ℕ) → m ≡ n → n ≢ 64 → (m == 64) ≡ false
 not_64 m n e apart = grind (arith, nat_tests)

@@ -14,7 +14,7 @@ use Rattle.run_machine.specs.Requests.{Opening, Write, Chain, Master, Leg}
 use Rattle.run_machine.specs.Objects.{Opened}
 use Rattle.task_steps.specs.Stage.{Stage, is_bios, is_slips, IsHome, IsBioHome, IsVecHome, HoldsHome, OpeningFits, LinkFits, TopFits, ClosedFits, DropFits}
 use Rattle.task_core.specs.ObjectsOf.{IsNodeOf, IsBookOf}
-use Rattle.task_core.proofs.TestLemmas.{lt_or}
+use Rattle.task_core.proofs.NumberTests.{lt_or}
 
 module _ (stage : Stage) where
   abbrev pub IsOpenOf : Option Node → Type 0

@@ -1,5 +1,5 @@
 -- An entry at its place is changed: what is looked up changes at its number alone, and all places stay.
-use Rattle.std.proofs.Common.{◌≡◌, ◌≢◌, ◌<◌, ◌==◌, ℕ, Bool, true, false, List, length, map, get_or, set, Some, refl, sym, ap, subst, ◌∙◌, arith, find, slice_get, slice_index_or}
+use Rattle.std.proofs.Common.{◌≡◌, ◌<◌, ◌==◌, ℕ, Bool, true, false, List, length, map, get_or, set, Some, refl, sym, ap, subst, ◌∙◌, arith, find, slice_get, slice_index_or}
 use Rattle.std.specs.List.{position_or_len}
 use Rattle.std.specs.Option.{option_map_or}
 use Rattle.std.proofs.lemmas.List.{length-set, map-set, set-get_or}
@@ -10,15 +10,7 @@ use Rattle.std.proofs.lemmas.Bool.Decides.{nat_tests}
 use Rattle.run_machine.specs.Maps.{upd}
 use Rattle.task_core.specs.Tables.{is_entry_of, look_up, IsAt, AreAt}
 use Rattle.run_machine.proofs.Frames.{upd_same, upd_other}
-
-same_by : (a b : ℕ) → (a == b) ≡ true → a ≡ b
-same_by a b e = grind (arith, nat_tests)
-
-apart_by : (a b : ℕ) → (a == b) ≡ false → a ≢ b
-apart_by a b e = grind (arith, nat_tests)
-
-is_itself : (a b : ℕ) → a ≡ b → (a == b) ≡ true
-is_itself a b e = grind (arith, nat_tests)
+use Rattle.task_core.proofs.NumberTests.{same_by, apart_by, is_itself}
 
 not_other : (a b c : ℕ) → a ≡ b → (c == b) ≡ false → (a == c) ≡ false
 not_other a b c e q = grind (arith, nat_tests)

@@ -37,6 +37,7 @@ use Rattle.run_merge.specs.Merging.{Ticketed, RiseFrom, without_tickets, history
 use Rattle.run_merge.specs.ObjectsByName.{get, made_of}
 use Rattle.run_merge.specs.Products.{LeadsTask, led_by, task_behind}
 use Rattle.run_merge.specs.SharedObjects.{ticketed, seen_at, tasks_left, state_left, ClosesAreRuns}
+use Rattle.run_merge.proofs.Fronts.{first_or, behind_first, has_some}
 use Rattle.run_merge.proofs.closes.Counting.{walked, first_is, done_at, rounds_few, few_drawn, image_at, image_none}
 use Rattle.run_merge.proofs.closes.DrewEvents.{drew_as_events}
 use Rattle.run_merge.proofs.closes.Drawn.{events_told, events_untold, rises_events}
@@ -51,18 +52,6 @@ use Rattle.run_merge.proofs.closes.Stopping.{object_last, log_drew, comes_to}
 use Rattle.run_merge.proofs.closes.Walks.{is_told, AskSome, Walked, looks_there}
 use Rattle.run_merge.proofs.closing.Closed.{closed_runs_end}
 use Rattle.run_merge.proofs.products.ObjectNames.{get_made}
-
-abbrev has_some : {X : Type 0} → List X → Bool
-has_some [] = false
-has_some (x ∷ xs) = true
-
-abbrev first_or : {X : Type 0} → X → List X → X
-first_or x [] = x
-first_or x (y ∷ ys) = y
-
-abbrev behind_first : {X : Type 0} → List X → List X
-behind_first [] = []
-behind_first (y ∷ ys) = ys
 
 -- a log where one of its events stands
 record IsCutAt (log : List Call) (mine : List Ticketed) (n : Ticketed) : Type 0 where

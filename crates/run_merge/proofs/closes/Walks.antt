@@ -15,6 +15,7 @@ use Rattle.shared_objects.proofs.Breaking.{broken_rests}
 use Rattle.run_merge.specs.Merging.{Ticketed, without_tickets}
 use Rattle.run_merge.specs.Products.{LeadsTask, led_by}
 use Rattle.run_merge.specs.SharedObjects.{ticketed}
+use Rattle.run_merge.proofs.Fronts.{has_some}
 use Rattle.run_merge.proofs.closes.Breaking.{stop_breaks}
 use Rattle.run_merge.proofs.closes.Events.{ticketed_events}
 
@@ -47,10 +48,6 @@ pub record Walked (setup : Setup) (before : List Call) (first : TaskState) (log 
 
 abbrev pub map_all : List Call → List Ticketed
 map_all calls = map ticketed calls
-
-abbrev has_some : {X : Type 0} → List X → Bool
-has_some [] = false
-has_some (x ∷ xs) = true
 
 module _ (setup : Setup) where
   by_events : (before : List Call) (first : TaskState) (m : Call) (mine : List Call) (call : Call) (events : List Call) → events_in (m ∷ mine) ≡ events

@@ -13,8 +13,8 @@ use Rattle.stack_base.specs.declared.ids.SetId.{SetId}
 use Rattle.stack_base.specs.declared.ids.SetId.TheVariants.{Fs, Of}
 use Rattle.mempool_core.specs.declared.Facts.{Facts}
 use Rattle.run_machine.specs.Opened.{at}
-use Rattle.run_merge.proofs.leaving.Looking.{head_or, tail_of}
 use Rattle.run_merge.specs.Falling.{DevicePools, row_of, at_number, below, sets_below, records_below, with_facts, falling_below, MovesLast, MovesIf}
+use Rattle.run_merge.proofs.Fronts.{first_or, behind_first}
 
 -- a list is empty or has a last element
 pub parted : {A : Type 0} (xs : List A) → (xs ≡ []) ⊎ ((rest : List A) × (last : A) × (xs ≡ rest ++ last ∷ []))
@@ -179,6 +179,6 @@ module _ {K X : Type 0} (facts : X → Facts) where
       → new ≡ take 0 row ++ drop 1 row → (facts e.1 ≡ x.1) × (row_of facts new ≡ xs)
   first_and_rest [] new x xs e are some is left = absurd (omega (arith, some))
   first_and_rest (y ∷ ys) new x xs e are some is left = (
-    ap (λ (z : K × X). facts z.1) is ∙ ap (λ (l : List (K × Facts)). (head_or x l).1) are,
-    ap (row_of facts) left ∙ ap tail_of are,
+    ap (λ (z : K × X). facts z.1) is ∙ ap (λ (l : List (K × Facts)). (first_or x l).1) are,
+    ap (row_of facts) left ∙ ap behind_first are,
   )

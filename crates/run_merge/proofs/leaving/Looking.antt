@@ -6,6 +6,7 @@ use Rattle.std.specs.Option.{option_map_or}
 use Rattle.std.proofs.lemmas.Bool.{true≢false, eq-eqb, ne_eqb}
 use Rattle.std.proofs.lemmas.List.Elements.{All-nil, All-cons, All-head, All-tail}
 use Rattle.task_core.specs.Tables.{is_entry_of, look_up}
+use Rattle.run_merge.proofs.Fronts.{first_or, behind_first, has_some}
 
 abbrev pub AreDistinct : List ℕ → Type 0
 AreDistinct [] = Unit {0}
@@ -62,18 +63,6 @@ module _ (number : ℕ → ℕ) (apart : (m n : ℕ) → m < n → number m ≢ 
       by_test true all here = (here, all)
       by_test false all here = all
 
-abbrev pub head_or : {A : Type 0} → A → List A → A
-head_or x [] = x
-head_or x (y ∷ ys) = y
-
-abbrev pub tail_of : {A : Type 0} → List A → List A
-tail_of [] = []
-tail_of (x ∷ xs) = xs
-
-abbrev pub has_some : {A : Type 0} → List A → Bool
-has_some [] = false
-has_some (x ∷ xs) = true
-
 -- entries with names that go by their keys
 module _ {E K X : Type 0} (key : E → ℕ) (own : E → K) (value : E → X) (number : ℕ → ℕ) (name : ℕ → K) (f : ℕ → X)
     (named : (e : E) (n : ℕ) → key e ≡ number n → own e ≡ name n) where
@@ -83,10 +72,10 @@ module _ {E K X : Type 0} (key : E → ℕ) (own : E → K) (value : E → X) (n
   pairs [] (n ∷ ns) keys values = absurd (true≢false (sym (ap has_some keys)))
   pairs (e ∷ es) [] keys values = absurd (true≢false (ap has_some keys))
   pairs (e ∷ es) (n ∷ ns) keys values =
-      let key_is : key e ≡ number n = ap (head_or (number n)) keys in
+      let key_is : key e ≡ number n = ap (first_or (number n)) keys in
       let here = named e n key_is in
-      let is : value e ≡ f n = ap (head_or (f n)) values in
-      let rest = pairs es ns (ap tail_of keys) (ap tail_of values) in
+      let is : value e ≡ f n = ap (first_or (f n)) values in
+      let rest = pairs es ns (ap behind_first keys) (ap behind_first values) in
       λ i. (here i, is i) ∷ rest i
 
 pub map_alike : {A B : Type 0} (f g : A → B) (xs : List A) → All (λ x. f x ≡ g x) xs → map f xs ≡ map g xs

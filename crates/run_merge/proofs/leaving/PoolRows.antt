@@ -15,8 +15,9 @@ use Rattle.task_core.specs.Tables.{look_up}
 use Rattle.task_core.specs.opened.Openings.{itself, set_index, uses_set, slip_index, uses_slips}
 use Rattle.task_steps.specs.Routed.{Routing, routing_setup}
 use Rattle.shared_objects.specs.Holding.{by_pool, set_key, slip_key}
+use Rattle.run_merge.proofs.Fronts.{first_or, behind_first, has_some}
 use Rattle.run_merge.proofs.leaving.Devices.{has_records}
-use Rattle.run_merge.proofs.leaving.Looking.{AreDistinct, looked, numbers_apart, head_or, tail_of, has_some, pairs}
+use Rattle.run_merge.proofs.leaving.Looking.{AreDistinct, looked, numbers_apart, pairs}
 
 -- numbers of pools
 twice_apart : (m n : ℕ) → m < n → 2 * m ≢ 2 * n
@@ -141,11 +142,11 @@ module _ (r : Routing) where
             ≡ (Fs, final (set_of 65)) ∷ map {B = SetId × F} (λ n. (Of (at n), final (set_of (2 * n)))) devices
         by_row [] keyed valued = absurd (true≢false (sym (ap has_some keyed)))
         by_row (e ∷ es) keyed valued =
-            let named = first_named e.0 (ap (head_or 65) keyed) in
-            let is = ap final (ap (head_or (value e.1)) valued) in
+            let named = first_named e.0 (ap (first_or 65) keyed) in
+            let is = ap final (ap (first_or (value e.1)) valued) in
             let rest = pairs (λ (e : SetId × X). set_key e.0) (λ (e : SetId × X). e.0) (λ (e : SetId × X). final (value e.1)) (λ d. 2 * d) (λ n. Of (at n)) (λ n. final (set_of (2 * n)))
-            (λ e n is. set_named e.0 n is) es devices (ap tail_of keyed)
-            (sym (map-map final (λ (e : SetId × X). value e.1) es) ∙ ap (λ l. map final (tail_of l)) valued
+            (λ e n is. set_named e.0 n is) es devices (ap behind_first keyed)
+            (sym (map-map final (λ (e : SetId × X). value e.1) es) ∙ ap (λ l. map final (behind_first l)) valued
             ∙ map-map final set_of (map (λ d. 2 * d) devices) ∙ map-map (λ n. final (set_of n)) (λ d. 2 * d) devices) in
             λ i. (named i, is i) ∷ rest i
 

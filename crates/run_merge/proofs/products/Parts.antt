@@ -21,25 +21,13 @@ use Rattle.run_merge.specs.Entries.{Entry, AreEvents, entries_in}
 use Rattle.run_merge.specs.Machines.{ServesAt, LeadsObject, entries_at}
 use Rattle.run_merge.specs.ObjectsByName.{get}
 use Rattle.run_merge.specs.Products.{LeadsTask, entries_by, led_by, AtEach, IsProduct, AreOfRun, RunsAreProducts}
+use Rattle.run_merge.proofs.Fronts.{first_or, behind_first, is_none}
 use Rattle.run_merge.proofs.products.Behind.{entry_of, at_start, behind_run}
 use Rattle.run_merge.proofs.products.Known.{known}
 use Rattle.run_merge.proofs.products.Leads.{leads}
 use Rattle.run_merge.proofs.products.Lets.{ComesBehind, comes_by}
 use Rattle.run_merge.proofs.products.ObjectNames.{get_other}
 use Rattle.run_merge.proofs.products.Served.{others_stay, serves_one, serves_struck, struck_event}
-
--- equations of lists
-abbrev pub first_or : {X : Type 0} → X → List X → X
-first_or x [] = x
-first_or x (y ∷ ys) = y
-
-abbrev pub behind_first : {X : Type 0} → List X → List X
-behind_first [] = []
-behind_first (y ∷ ys) = ys
-
-abbrev pub is_none : {X : Type 0} → List X → Bool
-is_none [] = true
-is_none (x ∷ xs) = false
 
 -- the parts of a run from any state
 module _ (scene : Scene) where

@@ -31,8 +31,9 @@ use Rattle.run_machine.specs.Opened.{at, records_of as records_at, reserve_of}
 use Rattle.task_core.specs.opened.Openings.{uses_set, uses_slips}
 use Rattle.task_steps.specs.Routed.{Routing, copies_bios, keeps, routing_setup}
 use Rattle.run_machine.specs.Scene.{has_set, is_mirror, keeps_data}
+use Rattle.task_core.proofs.NumberTests.{clash, is_below, below_by}
 use Rattle.task_core.proofs.opened.Sharing.{few_rounds}
-use Rattle.task_core.proofs.opened.PoolsBehind.{clash, bios_kept, slips_kept, disks_keep_none, others_have_none, is_below, below_by, data_by, mirror_by, bads_by, number_small}
+use Rattle.task_core.proofs.opened.PoolsBehind.{bios_kept, slips_kept, disks_keep_none, others_have_none, data_by, mirror_by, bads_by, number_small}
 pub use Rattle.task_core.proofs.opened.PoolsBehind.{of_stack}
 pub use Rattle.task_core.proofs.opened.ScriptsBehind.{scripts_alone, scripts_of_stack}
 

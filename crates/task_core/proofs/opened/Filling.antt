@@ -2,7 +2,6 @@
 use Rattle.std.proofs.Common.{◌≡◌, ◌≢◌, ◌⊎◌, inl, inr, ◌+◌, ◌<◌, ◌≤◌, ◌==◌, ◌++◌, ℕ, Bool, true, false, List, [], ◌∷◌, length, map, filter, get_or, set, Some, None, refl, sym, ap, subst, ◌∙◌, arith, length-append, find}
 use Rattle.std.specs.List.{position_or_len, range_with_len}
 use Rattle.std.specs.Option.{option_or}
-use Rattle.std.proofs.lemmas.Bool.Decides.{nat_tests}
 use Rattle.std.proofs.lemmas.List.{append-nil, get_or-set_same, get_or-set_other, length-set, map-append, map-id}
 use Rattle.std.proofs.lemmas.List.Elements.{filter-append}
 use Rattle.std.proofs.lemmas.List.FromFn.{map-range_with_len_more}
@@ -10,15 +9,7 @@ use Rattle.std.proofs.lemmas.List.Folds.{find_at, find-append, position_or_len_p
 use Rattle.std.proofs.lemmas.Option.{slice_get-get_or}
 use Rattle.task_core.specs.Tables.{is_entry_of, IsAt}
 use Rattle.task_core.specs.opened.Filled.{AreMade, IsNext}
-
-is_itself : (a b : ℕ) → a ≡ b → (a == b) ≡ true
-is_itself a b e = grind (arith, nat_tests)
-
-is_apart : (a b : ℕ) → a ≢ b → (a == b) ≡ false
-is_apart a b e = grind (arith, nat_tests)
-
-pub clash : (b : Bool) → b ≡ true → b ≡ false → ⊥
-clash b p q = cc
+use Rattle.task_core.proofs.NumberTests.{is_itself, is_apart, clash, lt_or}
 
 pub below_or_last : (i n : ℕ) → i < n + 1 → (i < n) ⊎ (i ≡ n)
 below_or_last i n lt = search (lt, arith)
@@ -50,9 +41,6 @@ not_there p [] lt none = absurd (omega (arith, lt))
 not_there p (x ∷ xs) lt none =
     some_is_none (get_or (x ∷ xs) (position_or_len p (x ∷ xs)) x)
     (sym (find_at p (x ∷ xs) ∙ slice_get-get_or (x ∷ xs) (position_or_len p (x ∷ xs)) x lt) ∙ none)
-
-lt_or : (a b : ℕ) → (a < b) ⊎ (b ≤ a)
-lt_or a b = search arith
 
 no_place : {E : Type 0} (p : E → Bool) (xs : List E) → find p xs ≡ None → position_or_len p xs ≡ length xs
 no_place p xs none = elim (lt_or (position_or_len p xs) (length xs)) [

@@ -38,22 +38,11 @@ use Rattle.run_machine.specs.Scene.{has_set}
 use Rattle.task_steps.specs.Stage.{Stage, IsServed}
 use Rattle.task_core.specs.Tables.{look_up, IsAt, AreAt}
 use Rattle.run_machine.proofs.Frames.{pools_are_numbered}
+use Rattle.task_core.proofs.NumberTests.{lt_or, below_by, same_by, apart_by}
 
 is_left : (a b : Bool) → (a && b) ≡ true → a ≡ true
 is_left true b e = refl
 is_left false b e = e
-
-lt_or : (a b : ℕ) → (a < b) ⊎ (b ≤ a)
-lt_or a b = search arith
-
-below_by : (a b : ℕ) → nat_lt a b ≡ true → a < b
-below_by a b e = grind (e, arith, nat_tests)
-
-same_by : (a b : ℕ) → (a == b) ≡ true → a ≡ b
-same_by a b e = grind (e, arith, nat_tests)
-
-apart_by : (a b : ℕ) → (a == b) ≡ false → a ≢ b
-apart_by a b e same = absurd (grind (e, same, arith, nat_tests))
 
 module _ {E : Type 0} (key : E → ℕ) (number : ℕ → ℕ) (is_used : ℕ → Bool) (IsMade : ℕ → E → Type 0) (bound : ℕ) (entries : List E) (table : List ℕ)
     (all : AreMade key number is_used IsMade bound entries table) where

@@ -1,8 +1,7 @@
 -- New pools.
 use Rattle.std.proofs.Common.{◌≡◌, ◌≢◌, ◌<◌, ◌≤◌, ◌==◌, ℕ, zero, suc, Bool, true, false, List, [], ◌∷◌, length, max, Some, refl, sym, ap, arith}
-use Rattle.std.specs.Prelude.{slice_get, nat_lt}
+use Rattle.std.specs.Prelude.{slice_get}
 use Rattle.std.specs.Option.{option_map_or}
-use Rattle.std.proofs.lemmas.Bool.Decides.{nat_tests}
 use Rattle.stack_base.specs.declared.ids.DevId.{DevId}
 use Rattle.stack_base.specs.declared.ids.PoolId.{PoolId}
 use Rattle.stack_base.specs.declared.ids.PoolId.TheVariants.{Bios}
@@ -13,6 +12,7 @@ use Rattle.run_machine.specs.Opened.{reserve_of}
 use Rattle.task_core.specs.opened.Openings.{widest, set_index, slip_index, uses_set, uses_slips}
 use Rattle.task_steps.specs.Routed.{Routing, routing_setup}
 use Rattle.run_machine.specs.Scene.{keeps_data, is_mirror}
+use Rattle.task_core.proofs.NumberTests.{is_below}
 
 -- a pool is never narrower than it begins
 pub widest_least : (reserves : List (PoolId × ℕ)) (number most : ℕ) → most ≤ widest reserves number most
@@ -23,9 +23,6 @@ widest_least (reserve ∷ reserves) number most = by_case (widest_least reserves
         → (pool_number reserve.0 == number) ≡ b → most ≤ widest (reserve ∷ reserves) number most
     by_case same more true q = rw (q) (omega (arith, more))
     by_case same more false q = rw (q) same
-
-is_below : (a b : ℕ) → a < b → nat_lt a b ≡ true
-is_below a b lt = grind (lt, arith, nat_tests)
 
 pub set_used : (routing : Routing) (dev : ℕ) → dev < length routing.stack.devices.items → keeps_data ((routing_setup routing).tree dev) ≡ false
     → uses_set routing (suc dev) ≡ true

@@ -2,7 +2,6 @@
 use Rattle.std.proofs.Common.{◌≡◌, ◌-◌, ◌<◌, ◌≤◌, ◌==◌, ◌++◌, ◌&&◌, if◌then◌else◌, ℕ, Bool, true, false, List, [], ◌∷◌, length, map, filter, get_or, max, replicate, None, refl, sym, ap, subst, ◌∙◌, arith}
 use Rattle.std.specs.Prelude.{All, IsTrue, nat_lt, sum_by}
 use Rattle.std.specs.List.{list_any, range_with_len}
-use Rattle.std.proofs.lemmas.Bool.Decides.{nat_tests}
 use Rattle.std.proofs.lemmas.List.{length-replicate}
 use Rattle.std.proofs.lemmas.List.Elements.{All-append, All-cons, All-filter, All-head, All-map, All-nil, All-tail, All-weaker}
 use Rattle.std.proofs.lemmas.List.FromFn.{get_or-range_with_len, length-range_with_len}
@@ -45,17 +44,15 @@ use Rattle.task_steps.specs.Stage.{Stage, has_book, is_pool}
 use Rattle.task_steps.specs.TaskViews.{TaskOf}
 use Rattle.run_machine.specs.Tasks.{Todo, NoBio, Empty, Duty, Resizes, Starts, TaskState, Writer, Rescuer, Completer, Keeper, Keeps}
 use Rattle.task_steps.specs.Within.{IsItemWithin}
+use Rattle.task_core.proofs.NumberTests.{is_itself, is_below}
 use Rattle.task_core.proofs.opened.Behind.{fit_work, shared}
 use Rattle.task_core.proofs.opened.ScriptsBehind.{all_flat}
-use Rattle.task_core.proofs.opened.PoolsBehind.{is_below, pool_known, pool_there}
+use Rattle.task_core.proofs.opened.PoolsBehind.{pool_known, pool_there}
 use Rattle.task_core.proofs.opened.NewPools.{widest_least}
 use Rattle.task_core.proofs.opened.Setups as shown
 use Rattle.task_core.proofs.opened.Sharing.{any_some, numbered_all, numbers_below}
 
 -- the largest reserve is no less than each
-is_itself : (a b : ℕ) → a ≡ b → (a == b) ≡ true
-is_itself a b e = grind (arith, nat_tests)
-
 abbrev grown : PoolId × ℕ → ℕ → ℕ → ℕ
 grown reserve number most = if pool_number reserve.0 == number then max most reserve.1 else most
 

@@ -1,6 +1,6 @@
 -- A pool that the declarations of a text have is one of its stack.
 use Rattle.std.proofs.Common.{◌≡◌, ◌+◌, ◌*◌, ◌/◌, ◌%◌, ◌^◌, ◌<◌, ◌≤◌, ◌==◌, ◌&&◌, ◌||◌, ℕ, Bool, true, false, true≢false, length, Option, None, Some, refl, sym, ap, subst, ◌∙◌, arith}
-use Rattle.std.specs.Prelude.{All, nat_lt, slice_get}
+use Rattle.std.specs.Prelude.{All, slice_get}
 use Rattle.std.specs.Option.{option_and_then, option_map}
 use Rattle.std.proofs.lemmas.Bool.Decides.{nat_tests}
 use Rattle.std.proofs.lemmas.List.Elements.{All-nil, All-weaker}
@@ -28,9 +28,7 @@ use Rattle.task_core.specs.opened.Openings.{has_pool, uses_slips}
 use Rattle.task_steps.specs.Routed.{Routing, copies_bios, keeps, routing_setup}
 use Rattle.run_machine.specs.Scene.{has_set, is_mirror, keeps_data}
 use Rattle.task_steps.specs.Stage.{Stage, is_pool}
-
-pub clash : (b : Bool) → b ≡ true → b ≡ false → ⊥
-clash b p q = true≢false (sym p ∙ q)
+use Rattle.task_core.proofs.NumberTests.{is_below}
 
 -- kinds
 pub kind_sets : (kind : Kind) (number : ℕ) (pool : PoolId) → bios_of number (what_of kind) ≡ Some pool → keeps (shape_of kind) ≡ false
@@ -82,12 +80,6 @@ others_have_none (Limit longest chunk) e = refl
 others_have_none (Mirror records) e = absurd (true≢false e)
 
 -- devices
-pub is_below : (a b : ℕ) → a < b → nat_lt a b ≡ true
-is_below a b lt = grind (lt, arith, nat_tests)
-
-pub below_by : (a b : ℕ) → nat_lt a b ≡ true → a < b
-below_by a b e = grind (e, arith, nat_tests)
-
 module _ (stack : Stack) (good : IsStack stack) (number : ℕ) (device : Device) (found : slice_get stack.devices.items number ≡ Some device) where
   pub data_by : (shape : Shape) → shape_of device.kind ≡ shape → keeps_data (tree stack number) ≡ keeps shape
   data_by (Keeps sectors) e = ap keeps_data (keeps_is stack good number device found sectors e)

@@ -9,12 +9,7 @@ use Rattle.std.proofs.lemmas.List.Filters.{length-filter_more}
 use Rattle.std.proofs.lemmas.List.FromFn.{get_or-map-range_with_len, map-range_with_len_more}
 use Rattle.std.proofs.lemmas.List.Sums.{get_or-le-sum_by, sum_by-set}
 use Rattle.run_machine.specs.Opened.{in_round, from_round, rounds_in, left_in, starts_at, duties_in, Change}
-
-is_itself : (a b : ℕ) → a ≡ b → (a == b) ≡ true
-is_itself a b e = grind (arith, nat_tests)
-
-is_apart : (a b : ℕ) → a ≢ b → (a == b) ≡ false
-is_apart a b e = grind (arith, nat_tests)
+use Rattle.task_core.proofs.NumberTests.{is_itself, is_apart}
 
 -- nothing is counted yet
 pub none_counted : (a n : ℕ) → replicate n 0 ≡ map (in_round []) (range_with_len a n)

@@ -1,9 +1,8 @@
 -- The scripts of a text's declarations are of pools of its stack, and no other pool has one.
-use Rattle.std.proofs.Common.{◌≡◌, ◌⊎◌, inl, inr, ◌+◌, ◌-◌, ◌^◌, ◌<◌, ◌≤◌, ◌==◌, ℕ, Bool, true, false, List, [], ◌∷◌, length, reverse, get_or, find, Option, None, Some, refl, sym, ap, subst, ◌∙◌, arith}
+use Rattle.std.proofs.Common.{◌≡◌, inl, inr, ◌+◌, ◌-◌, ◌^◌, ◌<◌, ℕ, Bool, true, false, List, [], ◌∷◌, length, reverse, get_or, find, Option, None, Some, refl, sym, ap, subst, ◌∙◌, arith}
 use Rattle.std.specs.Prelude.{All, flat_map, slice_get, zip}
 use Rattle.std.specs.List.{range_with_len}
 use Rattle.std.specs.Option.{option_and_then, option_map_or}
-use Rattle.std.proofs.lemmas.Bool.Decides.{nat_tests}
 use Rattle.std.proofs.lemmas.Grind.{not_there}
 use Rattle.std.proofs.lemmas.List.{get_or-reverse, length-reverse}
 use Rattle.std.proofs.lemmas.List.Elements.{All-append, All-cons, All-head, All-map, All-nil, All-tail, All-weaker}
@@ -25,7 +24,8 @@ use Rattle.work_text.specs.Fit.{IsPoolIn}
 use Rattle.run_machine.specs.Opened.{at, is_numbered, script_at}
 use Rattle.task_core.specs.opened.Openings.{has_pool}
 use Rattle.task_steps.specs.Routed.{Routing}
-use Rattle.task_core.proofs.opened.PoolsBehind.{clash, pool_there, number_small, of_stack}
+use Rattle.task_core.proofs.NumberTests.{lt_or, same_by, clash}
+use Rattle.task_core.proofs.opened.PoolsBehind.{pool_there, number_small, of_stack}
 
 -- the scripts of declarations are of their pools
 pub all_flat : {X Y : Type 0} (P : Y → Type 0) (f : X → List Y) (xs : List X) → All (λ x. All P (f x)) xs → All P (flat_map f xs)
@@ -95,9 +95,6 @@ scripts_in stack scripts declared =
     (subst (λ devices. All (λ (script : PoolId × Answers). IsPoolIn devices script.0) (scripts_of known)) (sym means.devices)
     (All-map (λ (script : PoolId × Answers). IsPoolIn known.devices script.0) (λ pool. (pool, script_of known pool)) (pools known.devices) (pools_in known.devices)))
 
-lt_or : (a b : ℕ) → (a < b) ⊎ (b ≤ a)
-lt_or a b = search arith
-
 pub scripts_small : (stack : Stack) (scripts : Scripts) → IsStack stack → ∥ IsDeclaredSo stack scripts ∥₁
     → All (λ (script : PoolId × Answers). pool_number script.0 < 2 ^ 32) scripts
 scripts_small stack scripts good so = λ k d lt. elim (lt_or (pool_number (get_or scripts k d).0) (2 ^ 32)) [
@@ -125,9 +122,6 @@ scripts_of_stack stack scripts good so = λ k d lt. by_pool (get_or scripts k d)
 none_passes : {X : Type 0} (p : X → Bool) (xs : List X) → All (λ x. p x ≡ false) xs → find p xs ≡ None
 none_passes p [] all = refl
 none_passes p (x ∷ xs) all = let first = All-head (λ x. p x ≡ false) x xs all in rw (first) (none_passes p xs (All-tail (λ x. p x ≡ false) x xs all))
-
-same_by : (a b : ℕ) → (a == b) ≡ true → a ≡ b
-same_by a b e = grind (e, arith, nat_tests)
 
 pub scripts_alone : (routing : Routing) (scripts : Scripts) → IsStack routing.stack → ∥ IsDeclaredSo routing.stack scripts ∥₁
     → (number : ℕ) → has_pool routing number ≡ false → script_at scripts number ≡ only_tail true

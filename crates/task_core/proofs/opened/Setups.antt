@@ -1,5 +1,5 @@
 -- What opened tasks know of devices is the setup of their scenario, and they are its tasks.
-use Rattle.std.proofs.Common.{◌≡◌, ◌⊎◌, inl, inr, ◌<◌, ◌≤◌, ◌==◌, ◌++◌, ℕ, Bool, false, List, [], ◌∷◌, filter, get_or, map, refl, sym, ap, ◌∙◌, arith}
+use Rattle.std.proofs.Common.{◌≡◌, inl, inr, ◌<◌, ◌≤◌, ◌==◌, ◌++◌, ℕ, Bool, false, List, [], ◌∷◌, filter, get_or, map, refl, sym, ap, ◌∙◌, arith}
 use Rattle.std.specs.Prelude.{All, sum_by}
 use Rattle.std.specs.List.{range_with_len}
 use Rattle.std.proofs.lemmas.Bool.Decides.{nat_tests}
@@ -21,6 +21,7 @@ use Rattle.task_steps.specs.TaskViews.{TaskOf}
 use Rattle.task_core.specs.opened.NewTasks.{AreShared, others_in, with_routing}
 use Rattle.task_core.specs.opened.OfOne.{states}
 use Rattle.task_core.specs.opened.OpenTasks.{AreTasksOf}
+use Rattle.task_core.proofs.NumberTests.{lt_or}
 use Rattle.task_core.proofs.opened.Sharing.{numbered_all}
 
 none_passing : {X : Type 0} (p : X → Bool) (xs : List X) → All (λ x. p x ≡ false) xs → filter p xs ≡ []
@@ -29,9 +30,6 @@ none_passing p (x ∷ xs) all = let first = All-head (λ x. p x ≡ false) x xs 
 
 is_other : (a b : ℕ) → a < b → (a == b) ≡ false
 is_other a b lt = grind (lt, arith, nat_tests)
-
-lt_or : (a b : ℕ) → (a < b) ⊎ (b ≤ a)
-lt_or a b = search arith
 
 shown_states : (routing : Routing) (tasks : List TaskState) → states (with_routing routing tasks) ≡ tasks
 shown_states routing [] = refl

@@ -16,6 +16,7 @@ use Rattle.run_machine.specs.Submissions.{rests}
 use Rattle.task_core.specs.opened.NewTasks.{writer_with, shown_tasks, AddsTasks, AreShared, ArePlaced}
 use Rattle.run_machine.specs.Opened.{is_by, numbered, numbered_from, share_of, nodes_of, is_writer, writers_of}
 use Rattle.run_machine.specs.Tasks.{Todo, TaskState, NoBio, Writer}
+use Rattle.task_core.proofs.NumberTests.{clash}
 use Rattle.task_core.proofs.opened.Filling as fill
 
 -- how many there are, and which stands at a place
@@ -161,7 +162,7 @@ any_kept p [] none = refl
 any_kept p (x ∷ xs) none = by_test (any_kept p xs) (p x) refl none
   where
     by_test : (list_any p xs ≡ false → filter p xs ≡ []) → (b : Bool) → p x ≡ b → list_any p (x ∷ xs) ≡ false → filter p (x ∷ xs) ≡ []
-    by_test rest true q none = let some : list_any p (x ∷ xs) ≡ true = rw (q) refl in absurd (fill.clash (list_any p (x ∷ xs)) some none)
+    by_test rest true q none = let some : list_any p (x ∷ xs) ≡ true = rw (q) refl in absurd (clash (list_any p (x ∷ xs)) some none)
     by_test rest false q none = let same : list_any p (x ∷ xs) ≡ list_any p xs = rw (q) refl in rw (q) (rest (sym same ∙ none))
 
 pub record IsSome {X : Type 0} (xs : List X) : Type 0 where
@@ -170,7 +171,7 @@ pub record IsSome {X : Type 0} (xs : List X) : Type 0 where
   pub is : xs ≡ first ∷ more
 
 pub any_some : {X : Type 0} (p : X → Bool) (xs : List X) → list_any p xs ≡ true → IsSome (filter p xs)
-any_some p [] some = absurd (fill.clash false some refl)
+any_some p [] some = absurd (clash false some refl)
 any_some p (x ∷ xs) some = by_test (any_some p xs) (p x) refl some
   where
     by_test : (list_any p xs ≡ true → IsSome (filter p xs)) → (b : Bool) → p x ≡ b → list_any p (x ∷ xs) ≡ true → IsSome (filter p (x ∷ xs))

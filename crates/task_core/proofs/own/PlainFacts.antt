@@ -14,7 +14,7 @@ use Rattle.task_steps.specs.Stage.{Stage, is_bios, is_pool, is_set, is_slips}
 use Rattle.task_core.proofs.Keeping.{set_is_bios, mirror_is_slips}
 use Rattle.task_core.proofs.own.PlainLemmas.{bios_there, records_there}
 
-set_is : (stage : Stage) (of : SetId) → IsTrue (is_pool stage (bios_of of)) → IsTrue (is_set stage of)
+pub set_is : (stage : Stage) (of : SetId) → IsTrue (is_pool stage (bios_of of)) → IsTrue (is_set stage of)
 set_is stage Fs is = is
 set_is stage (Of dev) is = is
 

@@ -5,7 +5,6 @@ use Rattle.std.proofs.lemmas.Bool.Decides.{nat_tests}
 use Rattle.std.proofs.lemmas.List.{set-get_or}
 use Rattle.stack_base.specs.declared.ids.DevId.{DevId}
 use Rattle.stack_base.specs.declared.ids.SetId.{SetId}
-use Rattle.stack_base.specs.declared.ids.SetId.TheVariants.{Fs, Of}
 use Rattle.stack_base.specs.declared.ids.PoolId.{PoolId}
 use Rattle.stack_base.specs.declared.ids.PoolId.TheVariants.{FsVecs, Records}
 use Rattle.stack_base.specs.PoolId.{pool_number}
@@ -18,11 +17,12 @@ use Rattle.run_machine.specs.Maps.{upd}
 use Rattle.task_core.specs.Tables.{look_up}
 use Rattle.run_machine.specs.Requests.{Resize, OutIs}
 use Rattle.run_machine.specs.Objects.{Objects, PoolMoves, Serves}
-use Rattle.task_steps.specs.Stage.{Stage, is_set, is_pool, is_bios, is_slips, RequestFits}
+use Rattle.task_steps.specs.Stage.{Stage, is_bios, is_slips, RequestFits}
 use Rattle.task_core.specs.Resizing.{Resizes}
 use Rattle.task_core.specs.Plains.{set_number, records_number, no_pool, by_kind, bios_at, records_at, pool_at, objects_of, stage_of, Holds}
 use Rattle.task_core.proofs.Keeping.{set_is_bios, mirror_is_slips}
 use Rattle.task_core.proofs.own.PlainLemmas.{kept_by, with_bios, with_records, with_vecs, bios_there, bios_seated, bios_move, bios_stage, records_there, records_seated, records_move, records_stage, vecs_seated, vecs_move, vecs_stage}
+use Rattle.task_core.proofs.own.PlainFacts.{set_is}
 
 is_zero : (out : ℕ) → out ≡ 0 → (out == 0) ≡ true
 is_zero out e = grind (e, arith, nat_tests)
@@ -48,10 +48,6 @@ stays : (plain new : Plain) (pool : PoolId) (min out : ℕ) → objects_of new �
     → out ≡ (pool_at plain (pool_number pool)).state.facts.out → 0 < out
     → Serves (stage_of plain).ledger (objects_of plain) (Resize pool min) (OutIs out) (objects_of new)
 stays plain new pool min out same is some = (is, stayed_so (objects_of plain) (objects_of new) (pool_number pool) min out some same)
-
-set_is : (stage : Stage) (of : SetId) → IsTrue (is_pool stage (bios_of of)) → IsTrue (is_set stage of)
-set_is stage Fs is = is
-set_is stage (Of dev) is = is
 
 module _ (plain : Plain) (holds : Holds plain) (of : SetId) (min : ℕ) (fits : RequestFits (stage_of plain) (Resize (bios_of of) min)) (i : ℕ)
     (place : i ≡ slice_index_or plain.index.bios (pool_number (bios_of of)) 0) (entry : SetId × LedgerPool) (value : entry ≡ get_or plain.bios.items i entry) where
