@@ -1,7 +1,8 @@
 //! Steps of submissions.
 ghost use Rattle.std.specs.Prelude.{◌≡◌, ◌<◌, length, IfOk};
-ghost use Rattle.run_machine.specs.Submissions.{landed_doing, goes_on};
+ghost use Rattle.run_machine.specs.Submissions.{goes_on};
 ghost use Rattle.task_steps.specs.Routed.{routing_setup};
+ghost use Rattle.task_steps.specs.SubmissionViews.{landed_submission};
 ghost use Rattle.task_steps.specs.Within.{IsWithinDevice, ListsAreWithin, DoingFits, SubmissionFits};
 ghost use Rattle.plain_core.specs.objects.Lists.{lists_of, ListsHaveCapacity};
 ghost use Rattle.plain_core.specs.steps.Views.{ask_of_plain, doing_of_plain, submission_of_plain, want_of_plain};
@@ -51,7 +52,7 @@ fn first_ask(routes: &Routes, dev: DevId, lists: &Lists) -> Ask
 // A bio is served next.
 pub fn drive(routes: &Routes, part: Part, submission: &mut Submission)
     requires { IsWithinDevice routes.now.stack part.bio }
-    ensures { submission_of_plain submission.new ≡ record { doing = landed_doing (routing_setup routes.now) (lists_of submission.old.lists) part; lists = lists_of submission.old.lists } }
+    ensures { submission_of_plain submission.new ≡ landed_submission (routing_setup routes.now) (lists_of submission.old.lists) part }
 {
     let at = routes.land(part.bio());
     let ask = first_ask(routes, at.dev, &submission.lists);
