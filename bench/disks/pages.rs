@@ -1,7 +1,7 @@
-//! The words of a disk by pages of 64 sectors, in slots that stand in the order of the pages' first writes, as `crates/model_disks/src/pages.rt` keeps
+//! The words of a disk by pages of 16 sectors, in slots that stand in the order of the pages' first writes, as `crates/model_disks/src/pages.rt` keeps
 //! them: zeros are set only in pages that are written.
 
-const SECTORS: usize = 64;
+const SECTORS: usize = 16;
 const WORDS: usize = 64 * SECTORS;
 
 pub struct Pages {

@@ -92,7 +92,7 @@ zeros_are count words slots none =
     (λ x lt. get_or-replicate count x zero_sector [] lt ∙ sym (words_end words (word_place slots x) (omega (arith, ap length none)))))
 
 pub zeros_kept : (count room flags_room : ℕ) (words slots owners : List ℕ) (flags : List Bool) → ArePaged room words slots owners → words ≡ [] → flags ≡ []
-    → count ≤ 64 * length slots → count ≤ flags_room → IsImage count room flags_room words slots owners flags
+    → count ≤ 16 * length slots → count ≤ flags_room → IsImage count room flags_room words slots owners flags
 unfolding grown
 zeros_kept count room flags_room words slots owners flags pages none unset all fits = record {
   kept = pages;
@@ -169,7 +169,7 @@ after_write bio shown count room flags_room new_room new_flags_room words slots 
 -- there is room for what is written within the image
 pub room_for : (bio : Bio) (count room flags_room : ℕ) (words slots owners : List ℕ) (flags : List Bool) (shown : List (List ℕ))
     → IsImage count room flags_room words slots owners flags → paged count words slots ≡ shown → bio.range.start + bio.range.len ≤ length shown
-    → (bio.range.start + bio.range.len ≤ 64 * length slots) × (bio.range.start + bio.range.len ≤ flags_room)
+    → (bio.range.start + bio.range.len ≤ 16 * length slots) × (bio.range.start + bio.range.len ≤ flags_room)
 room_for bio count room flags_room words slots owners flags shown image is fits =
     let within : bio.range.start + bio.range.len ≤ count = omega (arith, fits, ap length is, length_paged count words slots) in
     (omega (arith, within, image.all), omega (arith, within, image.fits))
@@ -191,15 +191,15 @@ after_settling shown count room flags_room new_room words slots owners new new_s
     )
 
 -- pages in their order are the words of the sectors, one sector behind the other
-pub settled_words : (count : ℕ) (words slots : List ℕ) → AreInOrder slots (length slots) → count ≤ 64 * length slots
-    → length words ≡ 4096 * length slots → take (64 * count) words ≡ concat (paged count words slots)
+pub settled_words : (count : ℕ) (words slots : List ℕ) → AreInOrder slots (length slots) → count ≤ 16 * length slots
+    → length words ≡ 1024 * length slots → take (64 * count) words ≡ concat (paged count words slots)
 settled_words count words slots settled all full =
     let front = take (64 * count) words in
     let long : length front ≡ 64 * count = length-take-le (64 * count) words (omega (arith, all, full)) in
     concat_sectors count front long
     ∙ ap concat (is_paged count words slots (sectors count front) (length_sectors count front) (λ x lt.
     let parts : 64 * count ≡ 64 * x + (64 * count - 64 * x) = omega (arith, lt) in
-    let there : 64 * x ≡ word_place slots x = omega (arith, place_is slots x (x / 64) (settled (x / 64) (omega (arith, lt, all)))) in
+    let there : 64 * x ≡ word_place slots x = omega (arith, place_is slots x (x / 16) (settled (x / 16) (omega (arith, lt, all)))) in
     sector_at count front x lt
     ∙ ap (λ n. take 64 (drop (64 * x) (take n words))) parts
     ∙ ap (take 64) (drop-take (64 * x) (64 * count - 64 * x) words)
@@ -209,7 +209,7 @@ settled_words count words slots settled all full =
 
 -- a sector of the image is in its pages
 pub sector_known : (count room flags_room : ℕ) (words slots owners : List ℕ) (flags : List Bool) (shown : List (List ℕ)) (at : ℕ)
-    → IsImage count room flags_room words slots owners flags → paged count words slots ≡ shown → at < length shown → at < 64 * length slots
+    → IsImage count room flags_room words slots owners flags → paged count words slots ≡ shown → at < length shown → at < 16 * length slots
 sector_known count room flags_room words slots owners flags shown at image is lt =
     omega (arith, lt, ap length is, length_paged count words slots, image.all)
 

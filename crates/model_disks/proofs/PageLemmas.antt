@@ -166,9 +166,9 @@ pub sector_grown : (size : ℕ) (words : List ℕ) (from : ℕ) → sector_in (g
 sector_grown size words from = same_words words (grown 0 size words) from from (λ i lt. word_grown size words (from + i))
 
 -- where a sector is
-pub place_is : (slots : List ℕ) (x slot : ℕ) → number_at slots (x / 64) ≡ slot → word_place slots x ≡ 4096 * slot + 64 * (x % 64)
+pub place_is : (slots : List ℕ) (x slot : ℕ) → number_at slots (x / 16) ≡ slot → word_place slots x ≡ 1024 * slot + 64 * (x % 16)
 unfolding word_place
-place_is slots x slot is = ap (λ (s : ℕ). 4096 * s + 64 * (x % 64)) is
+place_is slots x slot is = ap (λ (s : ℕ). 1024 * s + 64 * (x % 16)) is
 
 -- words that grow by zeros
 pub same_grown : (size : ℕ) (words slots : List ℕ) → AreSame words slots (grown 0 size words) slots
@@ -180,29 +180,29 @@ pub same_swapped : (words slots new new_slots : List ℕ) (one other : ℕ) → 
 same_swapped words slots new new_slots one other swapped exchanged = record {
   size = exchanged.size;
   sector = λ x lt.
-      let slot = number_at slots (x / 64) in
-      let r = 64 * (x % 64) in
-      let turns = exchanged.slot (x / 64) (omega (arith, lt)) in
+      let slot = number_at slots (x / 16) in
+      let r = 64 * (x % 16) in
+      let turns = exchanged.slot (x / 16) (omega (arith, lt)) in
       ap (sector_in new) (place_is new_slots x (swapped_slot one other slot) turns)
-      ∙ same_words words new (4096 * slot + r) (4096 * swapped_slot one other slot + r) (λ i lt.
-      let on : 4096 * swapped_slot one other slot + r + i ≡ 4096 * swapped_slot one other slot + (r + i) = omega arith in
-      let back : 4096 * slot + (r + i) ≡ 4096 * slot + r + i = omega arith in
+      ∙ same_words words new (1024 * slot + r) (1024 * swapped_slot one other slot + r) (λ i lt.
+      let on : 1024 * swapped_slot one other slot + r + i ≡ 1024 * swapped_slot one other slot + (r + i) = omega arith in
+      let back : 1024 * slot + (r + i) ≡ 1024 * slot + r + i = omega arith in
       ap (number_at new) on
       ∙ swapped.word (swapped_slot one other slot) (r + i) (omega (arith, lt))
-      ∙ ap (λ (s : ℕ). number_at words (4096 * s + (r + i))) (turned_twice one other slot)
+      ∙ ap (λ (s : ℕ). number_at words (1024 * s + (r + i))) (turned_twice one other slot)
       ∙ ap (number_at words) back)
       ∙ ap (sector_in words) (sym (place_is slots x slot refl));
 }
 
 -- a page that comes into the first slot without words, from one behind it
-pub same_behind : (words slots new_slots : List ℕ) (used slot size : ℕ) → length words ≤ 4096 * used → used ≤ slot → IsExchanged slot used slots new_slots
+pub same_behind : (words slots new_slots : List ℕ) (used slot size : ℕ) → length words ≤ 1024 * used → used ≤ slot → IsExchanged slot used slots new_slots
     → AreSame words slots (grown 0 size words) new_slots
 same_behind words slots new_slots used slot size end behind exchanged = record {
   size = exchanged.size;
   sector = λ x lt.
-      let s = number_at slots (x / 64) in
-      let r = 64 * (x % 64) in
-      let turns = exchanged.slot (x / 64) (omega (arith, lt)) in
+      let s = number_at slots (x / 16) in
+      let r = 64 * (x % 16) in
+      let turns = exchanged.slot (x / 16) (omega (arith, lt)) in
       sector_grown size words (word_place new_slots x)
       ∙ elim (turned_cases slot used s) [
         | inl first ↦
@@ -219,10 +219,10 @@ same_behind words slots new_slots used slot size end behind exchanged = record {
 
 -- pages whose words grow to those of so many slots
 pub paged_grown : (room new_room : ℕ) (words slots owners new_slots new_owners : List ℕ) (count : ℕ) → ArePaged room words slots owners
-    → AreInverse new_slots new_owners → length new_slots ≡ length slots → length words ≤ 4096 * count → count ≤ length slots → room ≤ new_room
-    → ArePaged new_room (grown 0 (4096 * count) words) new_slots new_owners
+    → AreInverse new_slots new_owners → length new_slots ≡ length slots → length words ≤ 1024 * count → count ≤ length slots → room ≤ new_room
+    → ArePaged new_room (grown 0 (1024 * count) words) new_slots new_owners
 paged_grown room new_room words slots owners new_slots new_owners count pages inverse same few fits more =
-    let long = length_grown 0 (4096 * count) words in
+    let long = length_grown 0 (1024 * count) words in
     record {
       inverse = inverse;
       whole = omega (arith, long, few);

@@ -49,18 +49,18 @@ module _ (from count first : ℕ) (words : List ℕ) (fits : from + count ≤ le
       ∙ ap (number_at words) there
 
 -- sectors that are written within a page
-pub filled_page : (slots owners words : List ℕ) (start len first slot : ℕ) → AreInverse slots owners → start < 64 * length slots
-    → start % 64 + len ≤ 64 → number_at slots (start / 64) ≡ slot → 4096 * slot + 4096 ≤ length words
-    → AreFilled start len first words slots (put_words (4096 * slot + 64 * (start % 64)) (64 * len) first words) slots
+pub filled_page : (slots owners words : List ℕ) (start len first slot : ℕ) → AreInverse slots owners → start < 16 * length slots
+    → start % 16 + len ≤ 16 → number_at slots (start / 16) ≡ slot → 1024 * slot + 1024 ≤ length words
+    → AreFilled start len first words slots (put_words (1024 * slot + 64 * (start % 16)) (64 * len) first words) slots
 filled_page slots owners words start len first slot inverse within short at kept =
-    let from = 4096 * slot + 64 * (start % 64) in
+    let from = 1024 * slot + 64 * (start % 16) in
     let new = put_words from (64 * len) first words in
     let fits : from + 64 * len ≤ length words = omega (arith, short, kept) in
     record {
       size = refl;
       inside = λ j lt.
-          let page : (start + j) / 64 ≡ start / 64 = omega (arith, lt, short) in
-          let there : 4096 * slot + 64 * ((start + j) % 64) ≡ from + 64 * j = omega (arith, lt, short) in
+          let page : (start + j) / 16 ≡ start / 16 = omega (arith, lt, short) in
+          let there : 1024 * slot + 64 * ((start + j) % 16) ≡ from + 64 * j = omega (arith, lt, short) in
           ap (sector_in new) (place_is slots (start + j) slot (ap (number_at slots) page ∙ at) ∙ there)
           ∙ words_count new (from + 64 * j) (first + 64 * j) (λ i small.
           let on : from + 64 * j + i ≡ from + (64 * j + i) = omega arith in
@@ -69,10 +69,10 @@ filled_page slots owners words start len first slot inverse within short at kept
           ∙ word_put from (64 * len) first words fits (64 * j + i) (omega (arith, lt, small))
           ∙ ap (λ n. n % 2 ^ 64) too);
       outside = λ x lt away.
-          let s = number_at slots (x / 64) in
+          let s = number_at slots (x / 16) in
           let place = place_is slots x s refl in
           same_words words new (word_place slots x) (word_place slots x) (λ i small.
-          word_kept from (64 * len) first words fits (word_place slots x + i) (elim (cases_eq (x / 64) (start / 64)) [
+          word_kept from (64 * len) first words fits (word_place slots x + i) (elim (cases_eq (x / 16) (start / 16)) [
             | inl same ↦
                 let here : s ≡ slot = ap (number_at slots) same ∙ at in
                 elim away [
@@ -81,7 +81,7 @@ filled_page slots owners words start len first slot inverse within short at kept
                 ]
             | inr other ↦
                 let apart : s ≡ slot → ⊥ = λ is.
-                other (sym (inverse.back (x / 64) (omega (arith, lt))) ∙ ap (number_at owners) (is ∙ sym at) ∙ inverse.back (start / 64) (omega (arith, within))) in
+                other (sym (inverse.back (x / 16) (omega (arith, lt))) ∙ ap (number_at owners) (is ∙ sym at) ∙ inverse.back (start / 16) (omega (arith, within))) in
                 elim (cases_lt s slot) [
                   | inl low ↦ inl (omega (arith, place, low, small))
                   | inr high ↦ inr (omega (arith, place, high, apart, small, short))
@@ -90,7 +90,7 @@ filled_page slots owners words start len first slot inverse within short at kept
     }
 
 -- what is written in pages that were the same
-pub filled_same : (start len first : ℕ) (words slots mid mid_slots new new_slots : List ℕ) → start + len ≤ 64 * length slots
+pub filled_same : (start len first : ℕ) (words slots mid mid_slots new new_slots : List ℕ) → start + len ≤ 16 * length slots
     → AreSame words slots mid mid_slots → AreFilled start len first mid mid_slots new new_slots → AreFilled start len first words slots new new_slots
 filled_same start len first words slots mid mid_slots new new_slots within was filled = record {
   size = filled.size ∙ was.size;
@@ -106,7 +106,7 @@ sector_mod first more on =
     (λ i lt. get_or-map-range_with_len (λ i. ((first + more) % 2 ^ 64 + on + i) % 2 ^ 64) 0 64 i i 0 lt (omega arith) ∙ omega arith)
 
 -- more sectors are written, behind those that were
-pub filled_more : (start done len first : ℕ) (words slots mid mid_slots new new_slots : List ℕ) → start + (done + len) ≤ 64 * length slots
+pub filled_more : (start done len first : ℕ) (words slots mid mid_slots new new_slots : List ℕ) → start + (done + len) ≤ 16 * length slots
     → AreFilled start done first words slots mid mid_slots
     → AreFilled (start + done) len ((first + 64 * done) % 2 ^ 64) mid mid_slots new new_slots
     → AreFilled start (done + len) first words slots new new_slots
@@ -136,12 +136,12 @@ filled_more start done len first words slots mid mid_slots new new_slots within 
 }
 
 -- a sector of the words of a page from one of its sectors on
-pub rest_sector : (slots words : List ℕ) (at slot len i : ℕ) → number_at slots (at / 64) ≡ slot → at % 64 + len ≤ 64 → 4096 * slot + 4096 ≤ length words → i < len
-    → take 64 (drop (64 * i) (take (64 * len) (drop (4096 * slot + 64 * (at % 64)) words))) ≡ sector_words words slots (at + i)
+pub rest_sector : (slots words : List ℕ) (at slot len i : ℕ) → number_at slots (at / 16) ≡ slot → at % 16 + len ≤ 16 → 1024 * slot + 1024 ≤ length words → i < len
+    → take 64 (drop (64 * i) (take (64 * len) (drop (1024 * slot + 64 * (at % 16)) words))) ≡ sector_words words slots (at + i)
 rest_sector slots words at slot len i is short kept lt =
-    let from = 4096 * slot + 64 * (at % 64) in
-    let page : (at + i) / 64 ≡ at / 64 = omega (arith, lt, short) in
-    let there : from + 64 * i ≡ 4096 * slot + 64 * ((at + i) % 64) = omega (arith, lt, short) in
+    let from = 1024 * slot + 64 * (at % 16) in
+    let page : (at + i) / 16 ≡ at / 16 = omega (arith, lt, short) in
+    let there : from + 64 * i ≡ 1024 * slot + 64 * ((at + i) % 16) = omega (arith, lt, short) in
     let parts : 64 * len ≡ 64 * i + (64 * len - 64 * i) = omega (arith, lt) in
     ap (λ n. take 64 (drop (64 * i) (take n (drop from words)))) parts
     ∙ ap (take 64) (drop-take (64 * i) (64 * len - 64 * i) (drop from words))
@@ -166,14 +166,14 @@ unfolding paged
 is_paged count words slots image long each = fill_by_all (sector_words words slots) image count [] long each
 
 -- pages that are the same show the same image
-pub same_image : (count : ℕ) (words slots new new_slots : List ℕ) → count ≤ 64 * length slots → AreSame words slots new new_slots
+pub same_image : (count : ℕ) (words slots new new_slots : List ℕ) → count ≤ 16 * length slots → AreSame words slots new new_slots
     → paged count words slots ≡ paged count new new_slots
 same_image count words slots new new_slots within same =
     is_paged count new new_slots (paged count words slots) (length_paged count words slots)
     (λ x lt. paged_at count words slots x lt ∙ sym (same.sector x (omega (arith, lt, within))))
 
 -- pages in which a bio is written show the image after it
-pub written_image : (bio : Bio) (count : ℕ) (words slots new new_slots : List ℕ) → count ≤ 64 * length slots → bio.range.start + bio.range.len ≤ count
+pub written_image : (bio : Bio) (count : ℕ) (words slots new new_slots : List ℕ) → count ≤ 16 * length slots → bio.range.start + bio.range.len ≤ count
     → AreFilled bio.range.start bio.range.len bio.word words slots new new_slots → paged count new new_slots ≡ written bio (paged count words slots)
 written_image bio count words slots new new_slots within ends filled =
     let image = paged count words slots in

@@ -1,4 +1,4 @@
--- The words of a disk, kept by pages of 64 sectors, 4,096 words, in slots that stand in the order of the pages' first writes.
+-- The words of a disk, kept by pages of 16 sectors, 1,024 words, in slots that stand in the order of the pages' first writes.
 use Rattle.std.specs.Prelude.{◌≡◌, ◌⊎◌, ◌+◌, ◌*◌, ◌/◌, ◌%◌, ◌<◌, ◌≤◌, ◌==◌, ◌++◌, ℕ, Bool, false, List, map, length, take, drop, slice_index_or, if◌then◌else◌, vec_capacity}
 use Rattle.std.specs.List.{range_with_len}
 use Rattle.stack_base.specs.Words.{sector_from, is_written}
@@ -16,7 +16,7 @@ sector_in words place = map (λ i. number_at words (place + i)) (range_with_len 
 
 -- where the words of a sector begin, in the slot of its page
 unfoldable pub word_place : List ℕ → ℕ → ℕ
-word_place slots x = 4096 * number_at slots (x / 64) + 64 * (x % 64)
+word_place slots x = 1024 * number_at slots (x / 16) + 64 * (x % 16)
 
 -- the words of a sector
 abbrev pub sector_words : List ℕ → List ℕ → ℕ → List ℕ
@@ -32,7 +32,7 @@ put_words from count first words = take from words ++ (counting first count ++ d
 
 -- so many sectors that count up from one of a slot on, behind the words of the slots before it, with zeros around them
 abbrev pub put_behind : ℕ → ℕ → ℕ → ℕ → List ℕ → List ℕ
-put_behind slot start sectors first words = put_words (4096 * slot + 64 * start) (64 * sectors) first (grown 0 (4096 * (slot + 1)) words)
+put_behind slot start sectors first words = put_words (1024 * slot + 64 * start) (64 * sectors) first (grown 0 (1024 * (slot + 1)) words)
 
 -- each page has a slot, and each slot a page: one list says where a page is, the other whose a slot is
 pub record AreInverse (slots owners : List ℕ) : Type 0 where
@@ -54,7 +54,7 @@ pub record IsExchanged (one other : ℕ) (slots new : List ℕ) : Type 0 where
 -- the words in two slots have changed places
 pub record AreSwapped (one other : ℕ) (words new : List ℕ) : Type 0 where
   pub size : length new ≡ length words
-  pub word : (slot i : ℕ) → i < 4096 → number_at new (4096 * slot + i) ≡ number_at words (4096 * swapped_slot one other slot + i)
+  pub word : (slot i : ℕ) → i < 1024 → number_at new (1024 * slot + i) ≡ number_at words (1024 * swapped_slot one other slot + i)
 
 -- the first pages are each in the slot of its own number
 abbrev pub AreInOrder : List ℕ → ℕ → Type 0
@@ -63,20 +63,20 @@ AreInOrder slots count = (page : ℕ) → page < count → number_at slots page 
 -- whole pages of words, of which each has one slot, with room for those of all slots
 pub record ArePaged (room : ℕ) (words slots owners : List ℕ) : Type 0 where
   pub inverse : AreInverse slots owners
-  pub whole : length words % 4096 ≡ 0
-  pub within : length words ≤ 4096 * length slots
-  pub fits : 4096 * length slots ≤ room
+  pub whole : length words % 1024 ≡ 0
+  pub within : length words ≤ 1024 * length slots
+  pub fits : 1024 * length slots ≤ room
 
 -- each sector has the words that it had
 pub record AreSame (words slots new new_slots : List ℕ) : Type 0 where
   pub size : length new_slots ≡ length slots
-  pub sector : (x : ℕ) → x < 64 * length slots → sector_words new new_slots x ≡ sector_words words slots x
+  pub sector : (x : ℕ) → x < 16 * length slots → sector_words new new_slots x ≡ sector_words words slots x
 
 -- so many sectors have words that count up, and the others those that they had
 pub record AreFilled (start len first : ℕ) (words slots new new_slots : List ℕ) : Type 0 where
   pub size : length new_slots ≡ length slots
   pub inside : (j : ℕ) → j < len → sector_words new new_slots (start + j) ≡ sector_from (first + 64 * j)
-  pub outside : (x : ℕ) → x < 64 * length slots → (x < start) ⊎ (start + len ≤ x) → sector_words new new_slots x ≡ sector_words words slots x
+  pub outside : (x : ℕ) → x < 16 * length slots → (x < start) ⊎ (start + len ≤ x) → sector_words new new_slots x ≡ sector_words words slots x
 
 -- these of the pages as they are kept
 abbrev pub ArePagesKept : Pages → Type 0
@@ -101,7 +101,7 @@ FlagsAreRight words slots flags = (x : ℕ) → x < length flags → slice_index
 -- the pages and the flags of an image of so many sectors: none is written of those that have no flag, and there is room for the flags of all
 pub record IsImage (count room flags_room : ℕ) (words slots owners : List ℕ) (flags : List Bool) : Type 0 where
   pub kept : ArePaged room words slots owners
-  pub all : count ≤ 64 * length slots
+  pub all : count ≤ 16 * length slots
   pub noted : map is_written (paged count words slots) ≡ grown false count flags
   pub within : length flags ≤ count
   pub fits : count ≤ flags_room

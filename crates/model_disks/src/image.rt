@@ -53,7 +53,7 @@ impl Model for Image {
 // The sum of the words of one sector, modulo 2 ^ 64.
 fn sum_of_sector(pages: &Pages, at: u64) -> u64
     requires paged { ArePagesKept pages.now }
-    requires here { at < 64 * length pages.now.slots.items }
+    requires here { at < 16 * length pages.now.slots.items }
     ensures { result ≡ sum_mod (sector_in_pages pages.now at) }
 {
     sum_words(pages.sector(at))
@@ -62,7 +62,7 @@ fn sum_of_sector(pages: &Pages, at: u64) -> u64
 // The sum of the words of the sectors that have flags, modulo 2 ^ 64, which is that of those that are written.
 fn sum_of_written(pages: &Pages, flags: &[bool]) -> u64
     requires paged { ArePagesKept pages.now }
-    requires within { length flags.now ≤ 64 * length pages.now.slots.items }
+    requires within { length flags.now ≤ 16 * length pages.now.slots.items }
     requires noted { FlagsAreRight pages.now.words.items pages.now.slots.items flags.now }
     ensures { result ≡ sum_of_words (in_pages (length flags.now) pages.now) }
 {

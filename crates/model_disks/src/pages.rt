@@ -12,11 +12,11 @@ use stack_base::Range;
 use std::alloc::{AllocError, Global};
 
 // The sectors of a page, and its words.
-const SECTORS: u64 = 64;
+const SECTORS: u64 = 16;
 
-const WORDS: usize = 4096;
+const WORDS: usize = 1024;
 
-/// The words of a disk, by pages of 64 sectors.
+/// The words of a disk, by pages of 16 sectors.
 ///
 /// A page that was never written has a slot too, behind those that have words: its words are zeros, of which those that are not written are set
 /// where it is first written. Then it changes places with the page in the first slot that has no words.
@@ -40,7 +40,7 @@ fn zeros<'a>() -> &'a [u64]
 // The words of two slots, of which `low` is the first, change places.
 fn swap(words: &mut [u64], low: usize, high: usize)
     requires order { low < high }
-    requires within { 4096 * high + 4096 ≤ length words.old }
+    requires within { 1024 * high + 1024 ≤ length words.old }
     ensures { AreSwapped low high words.old words.new }
 {
     let (front, behind) = words.split_at_mut(WORDS * high);
@@ -75,9 +75,9 @@ fn grow(words: &mut Vec<u64>, size: usize)
 // Writes so many sectors from one of a slot on, which has no words yet, but stands right behind those that have. Zeros are set only before and
 // behind them.
 fn put_behind(words: &mut Vec<u64>, slot: usize, start: usize, sectors: usize, first: u64)
-    requires behind { length words.old.items ≤ 4096 * slot }
-    requires short { start + sectors ≤ 64 }
-    requires room { 4096 * (slot + 1) ≤ vec_capacity words.old }
+    requires behind { length words.old.items ≤ 1024 * slot }
+    requires short { start + sectors ≤ 16 }
+    requires room { 1024 * (slot + 1) ≤ vec_capacity words.old }
     ensures words { words.new.items ≡ put_behind slot start sectors first words.old.items }
     ensures room { vec_capacity words.old ≤ vec_capacity words.new }
 {
@@ -123,11 +123,11 @@ impl Pages {
     // The page comes into the slot of its own number. All slots have words, and the pages before it are settled.
     fn settle(&mut self, page: usize)
         requires paged { ArePagesKept self.old }
-        requires full { length self.old.words.items ≡ 4096 * length self.old.slots.items }
+        requires full { length self.old.words.items ≡ 1024 * length self.old.slots.items }
         requires page { page < length self.old.slots.items }
         requires settled { AreInOrder self.old.slots.items page }
         ensures paged { ArePagesKept self.new }
-        ensures full { length self.new.words.items ≡ 4096 * length self.new.slots.items }
+        ensures full { length self.new.words.items ≡ 1024 * length self.new.slots.items }
         ensures settled { AreInOrder self.new.slots.items (page + 1) }
         ensures same { StaysSame self.old self.new }
     {
@@ -142,7 +142,7 @@ impl Pages {
     pub fn settle_all(&mut self)
         requires paged { ArePagesKept self.old }
         ensures paged { ArePagesKept self.new }
-        ensures full { length self.new.words.items ≡ 4096 * length self.new.slots.items }
+        ensures full { length self.new.words.items ≡ 1024 * length self.new.slots.items }
         ensures settled { AreInOrder self.new.slots.items (length self.new.slots.items) }
         ensures same { StaysSame self.old self.new }
     {
@@ -156,9 +156,9 @@ impl Pages {
     // Writes the sectors of a range within a page that has no words yet. The page comes into the first slot without words.
     fn write_new(&mut self, range: Range, first: u64)
         requires paged { ArePagesKept self.old }
-        requires page { range.start % 64 + range.len ≤ 64 }
-        requires within { range.start < 64 * length self.old.slots.items }
-        requires behind { length self.old.words.items ≤ 4096 * number_at self.old.slots.items (range.start / 64) }
+        requires page { range.start % 16 + range.len ≤ 16 }
+        requires within { range.start < 16 * length self.old.slots.items }
+        requires behind { length self.old.words.items ≤ 1024 * number_at self.old.slots.items (range.start / 16) }
         ensures paged { ArePagesKept self.new }
         ensures filled { IsFilled range.start range.len first self.old self.new }
     {
@@ -172,8 +172,8 @@ impl Pages {
     // Writes the sectors of a range that ends within the page in which it begins.
     fn write_page(&mut self, range: Range, first: u64)
         requires paged { ArePagesKept self.old }
-        requires page { range.start % 64 + range.len ≤ 64 }
-        requires within { range.start < 64 * length self.old.slots.items }
+        requires page { range.start % 16 + range.len ≤ 16 }
+        requires within { range.start < 16 * length self.old.slots.items }
         ensures paged { ArePagesKept self.new }
         ensures filled { IsFilled range.start range.len first self.old self.new }
     {
@@ -190,7 +190,7 @@ impl Pages {
     /// Writes a bio's sectors, which are among those of the pages.
     pub fn write(&mut self, bio: Bio)
         requires paged { ArePagesKept self.old }
-        requires within { bio.range.start + bio.range.len ≤ 64 * length self.old.slots.items }
+        requires within { bio.range.start + bio.range.len ≤ 16 * length self.old.slots.items }
         ensures paged { ArePagesKept self.new }
         ensures filled { IsFilled bio.range.start bio.range.len bio.word self.old self.new }
     {
@@ -206,7 +206,7 @@ impl Pages {
     /// The words of the sectors from this one on up to the end of its page, so many sectors at most, or none where the page has no words.
     pub fn rest(&self, at: u64, most: u64) -> &[u64]
         requires paged { ArePagesKept self.now }
-        requires here { at < 64 * length self.now.slots.items }
+        requires here { at < 16 * length self.now.slots.items }
         requires some { 1 ≤ most }
         ensures sectors { (i : ℕ) → i < length result.now / 64
             → take 64 (drop (64 * i) result.now) ≡ sector_in_pages self.now (at + i) }
@@ -230,7 +230,7 @@ impl Pages {
     /// Where there is no memory for it.
     pub fn zeros(alloc: Global, sectors: u64) -> Result<Pages, AllocError>
         ensures paged { IfOk result ArePagesKept }
-        ensures all { IfOk result (λ pages. sectors ≤ 64 * length pages.slots.items) }
+        ensures all { IfOk result (λ pages. sectors ≤ 16 * length pages.slots.items) }
         ensures none { IfOk result (λ pages. pages.words.items ≡ []) }
     {
         let count = sectors.div_ceil(SECTORS) as usize;
@@ -247,7 +247,7 @@ impl Pages {
     /// The words of one sector.
     pub fn sector(&self, at: u64) -> &[u64]
         requires paged { ArePagesKept self.now }
-        requires here { at < 64 * length self.now.slots.items }
+        requires here { at < 16 * length self.now.slots.items }
         ensures { result.now ≡ sector_in_pages self.now at }
     {
         let words = self.rest(at, 1);
@@ -259,9 +259,9 @@ impl Pages {
 
     /// The words of the first sectors, one sector behind the other, where the pages stand in their order.
     pub fn words(&self, count: u64) -> &[u64]
-        requires full { length self.now.words.items ≡ 4096 * length self.now.slots.items }
+        requires full { length self.now.words.items ≡ 1024 * length self.now.slots.items }
         requires settled { AreInOrder self.now.slots.items (length self.now.slots.items) }
-        requires all { count ≤ 64 * length self.now.slots.items }
+        requires all { count ≤ 16 * length self.now.slots.items }
         ensures { result.now ≡ concat (in_pages count self.now) }
     {
         &self.words[..64 * count as usize]

@@ -11,7 +11,7 @@ append_sectors-requires c =
     omega (
       arith,
       ap length c.grow.ensures.words,
-      length_grown 0 (4096 * c.args.slot + 64 * c.args.start) c.args.words.now.items,
+      length_grown 0 (1024 * c.args.slot + 64 * c.args.start) c.args.words.now.items,
       c.grow.ensures.room,
       c.requires.behind,
       c.requires.short,
@@ -20,8 +20,8 @@ append_sectors-requires c =
 
 pub returns-clause-words : goal.returns-clause-words
 returns-clause-words c =
-    let size = 4096 * (c.args.slot + 1) in
-    let from = 4096 * c.args.slot + 64 * c.args.start in
+    let size = 1024 * (c.args.slot + 1) in
+    let from = 1024 * c.args.slot + 64 * c.args.start in
     let count = 64 * c.args.sectors in
     c.grow-2.ensures.words
     ∙ ap (grown 0 size) (c.append_sectors.ensures.words ∙ ap (λ ws. ws ++ counting c.args.first count) c.grow.ensures.words)

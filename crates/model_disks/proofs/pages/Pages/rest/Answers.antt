@@ -10,7 +10,7 @@ pub returns-then-slot-len-clause-zeros : goal.returns-then-slot-len-clause-zeros
 returns-then-slot-len-clause-zeros c none =
     let words = c.args.self.now.words.items in
     let slots = c.args.self.now.slots.items in
-    let slot = get_or_read slots (c.args.at / 64) _ (omega (arith, c.requires.here)) c.index-slot.ensures 0 in
+    let slot = get_or_read slots (c.args.at / 16) _ (omega (arith, c.requires.here)) c.index-slot.ensures 0 in
     words_end words (word_place slots c.args.at)
     (omega (
       arith,
@@ -25,8 +25,8 @@ pub returns-clause-sectors : goal.returns-clause-sectors
 returns-clause-sectors c i lt =
     let words = c.args.self.now.words.items in
     let slots = c.args.self.now.slots.items in
-    let slot = get_or_read slots (c.args.at / 64) _ (omega (arith, c.requires.here)) c.index-slot.ensures 0 in
-    let from = 4096 * c.index-slot.result.now + 64 * (c.args.at % 64) in
+    let slot = get_or_read slots (c.args.at / 16) _ (omega (arith, c.requires.here)) c.index-slot.ensures 0 in
+    let from = 1024 * c.index-slot.result.now + 64 * (c.args.at % 16) in
     let len = c.min.result in
     let size : from + 64 * len - from ≡ 64 * len = omega arith in
     let inside : i < len = omega (arith, lt, size, length-take (from + 64 * len - from) (drop from c.deref.result.now)) in

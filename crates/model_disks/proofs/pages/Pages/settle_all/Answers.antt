@@ -11,7 +11,7 @@ settling-init c =
     let words = c.args.self.now.words.items in
     let slots = c.args.self.now.slots.items in
     let owners = c.args.self.now.owners.items in
-    let size = 4096 * c.len-count.result in
+    let size = 1024 * c.len-count.result in
     let count = c.len-count.ensures in
     let pages = c.requires.paged in
     record {

@@ -7,7 +7,7 @@ use Rattle.model_disks.proofs.pages.Pages.zeros.Goals as goal
 pub returns-clause-paged : goal.returns-clause-paged
 returns-clause-paged c =
     let count = c.div_ceil-count.result in
-    let many : c.in-Some.words ≡ count * 4096 = search rules in
+    let many : c.in-Some.words ≡ count * 1024 = search rules in
     let none = ap length c.in_ok-with_capacity.ensures.items in
     let slots = ap length c.in_ok-in_turn.ensures ∙ length-range_with_len 0 count in
     record {
