@@ -54,8 +54,8 @@ impl Model for BioSet {
     ghost view = { λ s. s.parts };
 }
 
-// The pool of a set's bios.
-fn bios_of(set: SetId) -> PoolId
+/// The pool of a set's bios.
+pub fn bios_of(set: SetId) -> PoolId
     ensures { result ≡ bios_of set }
 {
     match set {

@@ -15,6 +15,7 @@ use bio_books::{Book, Dropped, Link};
 use bio_records::{
     BioBody, BioElement, BioList, Pad, RescueList, Slip, SlipElement, VecElement, Vector,
 };
+use bioset_pools::bios_of;
 use mempool_core::{Pool, Taken};
 use model_disks::{Disk, Done};
 use stack_base::{DevId, PoolId, SetId, Status};
@@ -51,10 +52,7 @@ fn bios_number(set: SetId) -> u32
     requires { pool_number (bios_of set) < 2 ^ 32 }
     ensures { result ≡ pool_number (bios_of set) }
 {
-    match set {
-        SetId::Fs => PoolId::FsBios.no(),
-        SetId::Of(dev) => PoolId::Bios(dev).no(),
-    }
+    bios_of(set).no()
 }
 
 impl Plain {

@@ -17,6 +17,7 @@ use crate::caller::Caller;
 use crate::calls::or_unmade;
 use bio_books::{Dropped, Link};
 use bio_records::{BioBody, BioElement, BioList, Pad, Slip, SlipElement, VecElement, Vector};
+use bioset_pools::bios_of;
 use mempool_core::Taken;
 use model_disks::Done;
 use object_things::{
@@ -27,16 +28,6 @@ use stack_base::{DevId, PoolId, SetId, Status};
 use std::sync::Wait;
 use task_core::dev_of;
 use task_steps::{Ask, Chooser, Objects, Unmade};
-
-// The pool of a set's bios.
-fn pool_of(set: SetId) -> PoolId
-    ensures { result ≡ bios_of set }
-{
-    match set {
-        SetId::Fs => PoolId::FsBios,
-        SetId::Of(dev) => PoolId::Bios(dev),
-    }
-}
 
 impl<'a, R: Wait> Caller<'a, R> {
     // How many bios wait in a disk.
@@ -81,7 +72,7 @@ impl<'a, R: Wait> Caller<'a, R> {
         ensures same { self.new.locks.now ≡ self.old.locks.now }
         ensures lent { self.new.seats.ghost_name ≡ self.old.seats.ghost_name }
     {
-        let pool = pool_of(set);
+        let pool = bios_of(set);
         match self.ask_bios(pool.no(), PoolAsk::Resize { pool, min }) {
             PoolSaid::Resized(result) => or_unmade(result),
             PoolSaid::Took { .. } | PoolSaid::Gave(_) => unreachable!(),
@@ -138,7 +129,7 @@ impl<'a, R: Wait> Objects for Caller<'a, R> {
 
     #[tactic(auto, using(crate::proofs::Takes::take_named, crate::proofs::Takes::bios_waits, crate::proofs::Takes::set_is_pool, crate::proofs::Takes::bio_served, crate::proofs::Takes::bio_owed, crate::proofs::Takes::bio_clear, crate::proofs::Takes::back_none, crate::proofs::Takes::desk_numbered))]
     fn take_bio(&mut self, set: SetId, waits: bool) -> Result<Taken<BioBody<Pad>>, Unmade> {
-        let pool = pool_of(set);
+        let pool = bios_of(set);
         match self.ask_bios(pool.no(), PoolAsk::Take { pool, waits }) {
             PoolSaid::Took { pool: _, result } => or_unmade(result),
             PoolSaid::Gave(_) | PoolSaid::Resized(_) => unreachable!(),

@@ -10,18 +10,9 @@ use crate::fault::CoreFault;
 use crate::objects::Objects;
 use crate::objects::part::{Hand, Slip};
 use crate::steps::task::Want;
+use bioset_pools::bios_of;
 use stack_base::{DevId, PoolId, SetId};
 use task_core::{Got, What};
-
-// The pool of a set.
-fn bios_of(set: SetId) -> PoolId
-    ensures { result ≡ bios_of set }
-{
-    match set {
-        SetId::Fs => PoolId::FsBios,
-        SetId::Of(dev) => PoolId::Bios(dev),
-    }
-}
 
 /// An attempt at a bio of this set, as the event tells it: the bio, with nothing in it yet, or none where the event tells a miss.
 ///
