@@ -15,14 +15,14 @@ abbrev pub IsVacant : BookState → ℕ → Type 0
 IsVacant book place = slice_get book.nodes place ≡ Some None
 
 -- a node is open at each place of the book
-abbrev pub IsFull : BookState → Type 0
-IsFull book = All IsSome book.nodes
+abbrev pub HasNoVacant : BookState → Type 0
+HasNoVacant book = All IsSome book.nodes
 
 -- a write gets its top node at any vacant place; where there is none, the vector comes back (`bio_alloc_bioset`, block/bio.c, which Linux
 -- lets wait)
 abbrev pub Opens : BookState → ℕ → Option VectorItem → Linked → BookState → Type 0
 Opens old write vector (Made place) new = IsVacant old place × (new ≡ with_node old place (Some (top_node write vector)))
-Opens old write vector (NoRoom back) new = IsFull old × (back ≡ holding_vector vector) × (new ≡ old)
+Opens old write vector (NoRoom back) new = HasNoVacant old × (back ≡ holding_vector vector) × (new ≡ old)
 Opens old write vector (Stray back) new = ⊥
 
 -- an open node gets a child at any vacant place, and waits for it (`bio_chain`, block/bio.c); none where there is no vacant place, or
@@ -31,7 +31,7 @@ abbrev pub ChainsTo : BookState → ℕ → Node → Linked → BookState → Ty
 ChainsTo old parent node (Made place) new =
     (node.count < 2 ^ 64 - 1) × IsVacant old place
     × (new ≡ with_node (with_node old place (Some (child_node node.write parent))) parent (Some (raised node)))
-ChainsTo old parent node (NoRoom back) new = (IsFull old ⊎ (node.count ≡ 2 ^ 64 - 1)) × (back ≡ nothing_held) × (new ≡ old)
+ChainsTo old parent node (NoRoom back) new = (HasNoVacant old ⊎ (node.count ≡ 2 ^ 64 - 1)) × (back ≡ nothing_held) × (new ≡ old)
 ChainsTo old parent node (Stray back) new = ⊥
 
 -- the same by what stands at the parent's place: no node, and the call is stray
@@ -49,7 +49,7 @@ Chains old parent answer new = ChainsAt old parent (node_at old parent) answer n
 abbrev pub MastersTo : BookState → ℕ → Node → Item Pad → SlipItem → ℕ → Linked → BookState → Type 0
 MastersTo old parent node part slip legs (Made place) new =
     IsVacant old place × (new ≡ with_node (with_node old place (Some (master_node node.write parent slip legs))) parent (Some (keeping part node)))
-MastersTo old parent node part slip legs (NoRoom back) new = IsFull old × (back ≡ unmastered part slip) × (new ≡ old)
+MastersTo old parent node part slip legs (NoRoom back) new = HasNoVacant old × (back ≡ unmastered part slip) × (new ≡ old)
 MastersTo old parent node part slip legs (Stray back) new = ⊥
 
 abbrev pub MastersAt : BookState → ℕ → Option Node → Item Pad → SlipItem → ℕ → Linked → BookState → Type 0
@@ -64,7 +64,7 @@ Masters old parent part slip legs answer new = MastersAt old parent (node_at old
 -- an open node gets a leg at any vacant place; a master has counted its legs already, so no node waits for one end more
 abbrev pub LegsTo : BookState → ℕ → Node → Linked → BookState → Type 0
 LegsTo old master node (Made place) new = IsVacant old place × (new ≡ with_node old place (Some (leg_node node.write master)))
-LegsTo old master node (NoRoom back) new = IsFull old × (back ≡ nothing_held) × (new ≡ old)
+LegsTo old master node (NoRoom back) new = HasNoVacant old × (back ≡ nothing_held) × (new ≡ old)
 LegsTo old master node (Stray back) new = ⊥
 
 abbrev pub LegsAt : BookState → ℕ → Option Node → Linked → BookState → Type 0

@@ -60,6 +60,7 @@ IsLinkAlone (link.Made place) = Unit {0}
 IsLinkAlone (link.NoRoom back) = IsAlonePart back.bio
 IsLinkAlone (link.Stray back) = IsAlonePart back.bio
 
+-- what came back of a drop has a bio that stands in no list
 abbrev pub IsDroppedAlone : Dropped → Type 0
 IsDroppedAlone dropped.Left = Unit {0}
 IsDroppedAlone (dropped.Up node) = IsAlonePart node.held.bio

@@ -8,7 +8,7 @@ use Rattle.run_machine.specs.ReadBehind.{IsReadBehind}
 use Rattle.run_machine.specs.Scenario.{scenario_of}
 use Rattle.block_core.specs.Bounded.{waits, most_steps}
 use Rattle.block_core.specs.Breaks.{ElementsAreAllowed}
-use Rattle.block_core.specs.Scenarios.{IsScenario, EveryPoolKeepsSome, AreInOrder}
+use Rattle.block_core.specs.Scenarios.{IsScenario, EveryPoolKeepsSome, AreSorted}
 
 -- 65,536 entries in each of 66 scripts, 1,024 rounds behind the first and 4,096 changes of reserves. A text has no more entries than those of one
 -- script here; the bound is for the number of tickets alone, which it keeps small enough
@@ -23,7 +23,7 @@ pub record IsRunnable (s : Scenario) : Type 0 where
   -- each pool keeps an element, at the start and behind each change
   pub reserves : EveryPoolKeepsSome s
   -- the rounds of the writes do not fall
-  pub ordered : AreInOrder s.rounds
+  pub ordered : AreSorted s.rounds
   -- no two writes of a round have a sector in common, and each goes to a device that is no member
   pub apart : AreApartByRounds s.stack s.writes s.rounds
   -- and there are not too many entries, rounds and changes

@@ -21,9 +21,9 @@ abbrev pub IsNaming : (ℕ → LedgerId) → Type 0
 IsNaming ledger = (number : ℕ) → (ledger number).no ≡ number
 
 -- the rounds of writes do not fall: each is at most any later one
-abbrev pub AreInOrder : List ℕ → Type 0
-AreInOrder [] = Unit {0}
-AreInOrder (round ∷ rounds) = All (λ later. round ≤ later) rounds × AreInOrder rounds
+abbrev pub AreSorted : List ℕ → Type 0
+AreSorted [] = Unit {0}
+AreSorted (round ∷ rounds) = All (λ later. round ≤ later) rounds × AreSorted rounds
 
 -- no pool of a device is without an element
 abbrev pub KeepsSome : Kind → ℕ → Type 0

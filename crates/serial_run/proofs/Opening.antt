@@ -22,7 +22,7 @@ use Rattle.run_machine.specs.Runs.{State}
 use Rattle.run_machine.specs.Scene.{Scene, Setup, is_disk, keeps_data}
 use Rattle.task_steps.specs.TaskViews.{TaskOf}
 use Rattle.run_machine.specs.Tasks.{TaskState}
-use Rattle.block_core.specs.Scenarios.{IsScenario, EveryPoolKeepsSome, AreInOrder}
+use Rattle.block_core.specs.Scenarios.{IsScenario, EveryPoolKeepsSome, AreSorted}
 use Rattle.block_core.proofs.start.PostsAtStart.{start_crew}
 use Rattle.run_machine.specs.Named.{is_disk_kind}
 use Rattle.serial_run.proofs.Disks.{by_kind}
@@ -97,7 +97,7 @@ first_is_disk s good some = by_devices s.stack.devices.items refl
         ∙ ap keeps_data (tree_is s.stack good 0 device found) ∙ by_kind 0 device.kind (map (λ (m : DevId). tree s.stack m.0) device.members.items) ∙ alone
 
 -- so where there is a device there is a task
-pub has_task : (s : Scenario) (ledger : ℕ → LedgerId) → IsScenario s → EveryPoolKeepsSome s → AreInOrder s.rounds → 1 ≤ length s.stack.devices.items → 1 ≤ length (tasks s)
+pub has_task : (s : Scenario) (ledger : ℕ → LedgerId) → IsScenario s → EveryPoolKeepsSome s → AreSorted s.rounds → 1 ≤ length s.stack.devices.items → 1 ≤ length (tasks s)
 has_task s ledger good reserves ordered some =
     let manned = (start_crew s good ledger reserves ordered).disks 0 (first_is_disk s good.stack some) in
     let there = manned.1 in

@@ -24,11 +24,11 @@ use Rattle.work_text.proofs.Fit.{work_is_fit}
 use Rattle.run_machine.specs.Opened.{Change}
 use Rattle.run_machine.specs.Scenario.{change_of}
 use Rattle.block_core.specs.Runnable.{AcceptedTextsAreRunnable, StepsFitIn24Bits}
-use Rattle.block_core.specs.Scenarios.{KeepsSome, AreInOrder}
+use Rattle.block_core.specs.Scenarios.{KeepsSome, AreSorted}
 use Rattle.block_core.proofs.images.PlannedOnce.{all_le}
 
 -- rounds that do not fall, pair by pair, are in order
-in_order : (rounds : List ℕ) → AllPairs (λ round later. round ≤ later) rounds → AreInOrder rounds
+in_order : (rounds : List ℕ) → AllPairs (λ round later. round ≤ later) rounds → AreSorted rounds
 in_order [] pairs = tt
 in_order (round ∷ rounds) pairs = (
   All-from_get_or (λ later. round ≤ later) rounds 0 (λ i lt. pairs 0 (suc i) 0 (omega arith) (omega (arith, lt))),
@@ -44,7 +44,7 @@ last_of_more round next rounds =
 last_above : (round : ℕ) (rounds : List ℕ) → All (λ later. round ≤ later) rounds → 1 ≤ length rounds → round ≤ last_round rounds
 last_above round rounds all some = all (length rounds - 1) 0 (omega (arith, some))
 
-largest : (start : ℕ) (rounds : List ℕ) → AreInOrder rounds → fold max start rounds ≡ max start (last_round rounds)
+largest : (start : ℕ) (rounds : List ℕ) → AreSorted rounds → fold max start rounds ≡ max start (last_round rounds)
 largest start [] ordered = omega arith
 largest start (round ∷ []) ordered = refl
 largest start (round ∷ next ∷ rounds) ordered =

@@ -20,22 +20,17 @@ use Rattle.block_core.proofs.moves.Totals.{part_of}
 use Rattle.std.specs.Prelude.{nat_le}
 use Rattle.std.proofs.lemmas.Bool.Decides.{nat_tests}
 use Rattle.run_machine.specs.Objects.{TallyState}
+use Rattle.run_machine.specs.Opened.{in_round, from_round}
 use Rattle.block_core.specs.Rounds.{round_of, is_of_round, tops_left, all_worth, gathered_worth, unfinished_of, begun_of}
 use Rattle.block_core.proofs.sound.EventStages.{staged, ended_worth, to_come_before, to_come_after}
 use Rattle.block_core.proofs.sound.OrdersKept.{all_at}
 
--- how many writes are of a round, and of a round or later ones
-abbrev pub of_round : List ℕ → ℕ → ℕ
-of_round rounds r = length (filter (λ x. x == r) rounds)
-
-abbrev pub from_round : List ℕ → ℕ → ℕ
-from_round rounds r = length (filter (λ x. nat_le r x) rounds)
-
-pub from_next : (rounds : List ℕ) (r : ℕ) → from_round rounds r ≡ of_round rounds r + from_round rounds (r + 1)
+-- the writes of a round or later ones are those of the round, and those of the next or later ones
+pub from_next : (rounds : List ℕ) (r : ℕ) → from_round rounds r ≡ in_round rounds r + from_round rounds (r + 1)
 from_next [] r = refl
 from_next (x ∷ rounds) r = by_test (nat_le r x) (x == r) (nat_le (r + 1) x) refl refl refl (from_next rounds r)
   where
-    by_test : (a b c : Bool) → nat_le r x ≡ a → (x == r) ≡ b → nat_le (r + 1) x ≡ c → from_round rounds r ≡ of_round rounds r + from_round rounds (r + 1)
+    by_test : (a b c : Bool) → nat_le r x ≡ a → (x == r) ≡ b → nat_le (r + 1) x ≡ c → from_round rounds r ≡ in_round rounds r + from_round rounds (r + 1)
         → length (if a then x ∷ filter (λ x. nat_le r x) rounds else filter (λ x. nat_le r x) rounds)
         ≡ length (if b then x ∷ filter (λ x. x == r) rounds else filter (λ x. x == r) rounds)
         + length (if c then x ∷ filter (λ x. nat_le (r + 1) x) rounds else filter (λ x. nat_le (r + 1) x) rounds)
@@ -76,7 +71,7 @@ pub record TallyFits (rounds : List ℕ) (tally : TallyState) : Type 0 where
   -- no write of an earlier round is unfinished
   pub past : (r : ℕ) → r < tally.round → slice_index_or tally.left r 0 ≡ 0
   -- nothing is done of later rounds
-  pub whole : (r : ℕ) → tally.round < r → r < length tally.left → slice_index_or tally.left r 0 ≡ of_round rounds r
+  pub whole : (r : ℕ) → tally.round < r → r < length tally.left → slice_index_or tally.left r 0 ≡ in_round rounds r
   pub sums : sum tally.left ≡ slice_index_or tally.left tally.round 0 + from_round rounds (tally.round + 1)
   pub present : tally.round < length tally.left
 
@@ -274,7 +269,7 @@ module _ (rounds : List ℕ) (keeper : ℕ) (scene : Scene) (s : State) (i : Tal
       let done : slice_index_or left now 0 ≡ 0 = omega (arith, i.tally.sums, later_is, seen) in
       let more = from_next rounds (now + 1) in
       let lt : now + 1 < length left = c.2 in
-      let next : slice_index_or left (now + 1) 0 ≡ of_round rounds (now + 1) = i.tally.whole (now + 1) (omega arith) lt in
+      let next : slice_index_or left (now + 1) 0 ≡ in_round rounds (now + 1) = i.tally.whole (now + 1) (omega arith) lt in
       record {
         left = λ r. omega (arith, i.left r, staged (λ todos taken. all_worth (is_of_round rounds r) todos) (is_of_round rounds r) scene s m c);
         later = λ r before. omega (arith, i.later r (omega (arith, before)), staged (gathered_worth (is_of_round rounds r)) (is_of_round rounds r) scene s m c);

@@ -29,7 +29,7 @@ use Rattle.std.specs.Option.{option_map_or}
 use Rattle.std.proofs.lemmas.Bool.Decides.{nat_tests}
 use Rattle.stack_base.specs.Tree.{Cuts}
 use Rattle.run_machine.proofs.Frames.{pools_are_numbered}
-use Rattle.block_core.specs.Scenarios.{IsScenario, AreInOrder, KeepsSome, EveryPoolKeepsSome}
+use Rattle.block_core.specs.Scenarios.{IsScenario, AreSorted, KeepsSome, EveryPoolKeepsSome}
 use Rattle.block_core.proofs.stuck.NothingWaits.{IsPool}
 use Rattle.block_core.proofs.moves.Geometry.{at_device}
 use Rattle.block_core.proofs.sound.Posts.{ByRounds, Mins, starts, Manned, Posted}
@@ -91,7 +91,7 @@ later_all r a (suc n) [] ws all = tt
 later_all r a (suc n) (x ∷ rs) [] all = tt
 later_all r a (suc n) (x ∷ rs) (w ∷ ws) all = (All-head (λ later. r ≤ later) x rs all, later_all r (a + 1) n rs ws (All-tail (λ later. r ≤ later) x rs all))
 
-in_order : (a n : ℕ) (rs : List ℕ) (ws : List Write) → AreInOrder rs → ByRounds (map numbered (zip (range_with_len a n) (zip rs ws)))
+in_order : (a n : ℕ) (rs : List ℕ) (ws : List Write) → AreSorted rs → ByRounds (map numbered (zip (range_with_len a n) (zip rs ws)))
 in_order a zero rs ws all = tt
 in_order a (suc n) [] ws all = tt
 in_order a (suc n) (x ∷ rs) [] all = tt
@@ -129,7 +129,7 @@ keepers_id : (ds : List Duty) → id_of (get_or (keepers ds) 0 no_task) ≡ id.K
 keepers_id [] = refl
 keepers_id (duty ∷ ds) = refl
 
-module _ (s : Scenario) (good : IsScenario s) (ledger : ℕ → LedgerId) (reserves : EveryPoolKeepsSome s) (ordered : AreInOrder s.rounds) where
+module _ (s : Scenario) (good : IsScenario s) (ledger : ℕ → LedgerId) (reserves : EveryPoolKeepsSome s) (ordered : AreSorted s.rounds) where
   abbrev count : ℕ
   count = (setup_in s).count
 

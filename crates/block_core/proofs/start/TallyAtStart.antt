@@ -15,10 +15,10 @@ use Rattle.std.proofs.lemmas.Bool.Decides.{nat_tests}
 use Rattle.std.proofs.lemmas.List.FromFn.{get_or-map-range_with_len, length-map-range_with_len}
 use Rattle.layout_model.specs.declared.write.Write.{Write}
 use Rattle.run_machine.specs.Scene.{is_disk}
-use Rattle.run_machine.specs.Opened.{Scenario, Change, scene, start, tasks as opened_tasks, todos, todos_of, is_by, writers, duties, duties_of, keepers, no_task, round_count, writes_in, writes_from, setup as setup_in, at as device_at}
+use Rattle.run_machine.specs.Opened.{Scenario, Change, scene, start, tasks as opened_tasks, todos, todos_of, is_by, writers, duties, duties_of, keepers, no_task, round_count, writes_in, writes_from, setup as setup_in, at as device_at, in_round, from_round}
 use Rattle.block_core.specs.Scenarios.{IsScenario}
 use Rattle.block_core.specs.Rounds.{round_of, is_of_round, all_worth, unfinished_of, begun_of}
-use Rattle.block_core.proofs.sound.Rounds.{of_round, from_round, from_next, TodosFit, DutiesFit, TaskRounds, Tallied}
+use Rattle.block_core.proofs.sound.Rounds.{from_next, TodosFit, DutiesFit, TaskRounds, Tallied}
 use Rattle.block_core.proofs.start.FactsAtStart.{start_opened, total_zero}
 use Rattle.block_core.proofs.start.StartTotals.{writer_tasks, rescuer_tasks, completer_tasks, opened_total}
 
@@ -57,7 +57,7 @@ from_none (x ∷ xs) acc r lt =
     by_test below none false is = none
 
 -- the rounds from one on are so many rounds and those behind them
-sum_from : (rounds : List ℕ) (a n : ℕ) → sum (map (of_round rounds) (range_with_len a n)) + from_round rounds (a + n) ≡ from_round rounds a
+sum_from : (rounds : List ℕ) (a n : ℕ) → sum (map (in_round rounds) (range_with_len a n)) + from_round rounds (a + n) ≡ from_round rounds a
 sum_from rounds a zero = let e : a + 0 ≡ a = omega arith in let q = ap (from_round rounds) e in omega (arith, q)
 sum_from rounds a (suc n) =
     let e : a + suc n ≡ a + 1 + n = omega arith in
@@ -66,7 +66,7 @@ sum_from rounds a (suc n) =
       sum_from rounds (a + 1) n,
       from_next rounds a,
       ap (from_round rounds) e,
-      sum_by-cons (λ (x : ℕ). x) (of_round rounds a) (map (of_round rounds) (range_with_len (a + 1) n)),
+      sum_by-cons (λ (x : ℕ). x) (in_round rounds a) (map (in_round rounds) (range_with_len (a + 1) n)),
     )
 
 -- each write by its number and round
@@ -83,17 +83,17 @@ todos_fit rounds a (suc n) (r ∷ rs) (w ∷ ws) h =
       todos_fit rounds (a + 1) n rs ws (λ i. let q : a + 1 + i ≡ a + suc i = omega arith in ap (round_of rounds) q ∙ h (suc i)),
     )
 
-counted : (x : ℕ) (rs : List ℕ) (r : ℕ) → of_round (x ∷ rs) r ≡ one x r + of_round rs r
+counted : (x : ℕ) (rs : List ℕ) (r : ℕ) → in_round (x ∷ rs) r ≡ one x r + in_round rs r
 unfolding one
 counted x rs r = by_test (x == r)
   where
-    by_test : (v : Bool) → length (if v then x ∷ filter (λ x. x == r) rs else filter (λ x. x == r) rs) ≡ (if v then 1 else 0) + of_round rs r
+    by_test : (v : Bool) → length (if v then x ∷ filter (λ x. x == r) rs else filter (λ x. x == r) rs) ≡ (if v then 1 else 0) + in_round rs r
     by_test true = omega arith
     by_test false = omega arith
 
 -- as many writes are to be begun of a round as are of it
 todos_worth : (rounds : List ℕ) (r a n : ℕ) (rs : List ℕ) (ws : List Write) → n ≡ length rs → length rs ≡ length ws → ((i : ℕ) → round_of rounds (a + i) ≡ get_or rs i 0)
-    → all_worth (is_of_round rounds r) (map numbered (zip (range_with_len a n) (zip rs ws))) ≡ of_round rs r
+    → all_worth (is_of_round rounds r) (map numbered (zip (range_with_len a n) (zip rs ws))) ≡ in_round rs r
 todos_worth rounds r a zero [] ws few same h = refl
 todos_worth rounds r a zero (x ∷ rs) ws few same h = absurd (omega (arith, few))
 todos_worth rounds r a (suc n) [] ws few same h = refl
@@ -164,11 +164,11 @@ module _ (s : Scenario) (good : IsScenario s) (ledger : ℕ → LedgerId) where
   unfinished_at_start f = opened_total s good ledger (unfinished_of f) (λ (todo : Todo). f todo.number) (λ n ts. worth_sum f ts) ∙ sym (worth_sum f (todos s))
 
   -- and how many of it are of a round
-  round_at_start : (r : ℕ) → total (scene s ledger) (unfinished_of (is_of_round s.rounds r)) (start s) ≡ of_round s.rounds r
+  round_at_start : (r : ℕ) → total (scene s ledger) (unfinished_of (is_of_round s.rounds r)) (start s) ≡ in_round s.rounds r
   round_at_start r =
       unfinished_at_start (is_of_round s.rounds r) ∙ todos_worth s.rounds r 0 (length s.writes) s.rounds s.writes (sym good.rounds) good.rounds own_rounds
 
-  left_at_start : (r : ℕ) → get_or (map (writes_in s) (range_with_len 0 (round_count s))) r 0 ≡ of_round s.rounds r
+  left_at_start : (r : ℕ) → get_or (map (writes_in s) (range_with_len 0 (round_count s))) r 0 ≡ in_round s.rounds r
   left_at_start r = elim (below_or r (round_count s)) [
     | inl lt ↦ get_or-map-range_with_len (writes_in s) 0 (round_count s) r r 0 lt (omega arith)
     | inr ge ↦
@@ -187,8 +187,8 @@ module _ (s : Scenario) (good : IsScenario s) (ledger : ℕ → LedgerId) where
       whole = λ r lt few. left_at_start r;
       sums =
           let behind : from_round s.rounds (0 + round_count s) ≡ 0 = (from_none s.rounds 0 (0 + round_count s) (omega arith)).1 in
-          let all : sum (map (of_round s.rounds) (range_with_len 0 (round_count s))) ≡ from_round s.rounds 0 = omega (arith, sum_from s.rounds 0 (round_count s), behind) in
-          let next : from_round s.rounds 0 ≡ of_round s.rounds 0 + from_round s.rounds (0 + 1) = from_next s.rounds 0 in
+          let all : sum (map (in_round s.rounds) (range_with_len 0 (round_count s))) ≡ from_round s.rounds 0 = omega (arith, sum_from s.rounds 0 (round_count s), behind) in
+          let next : from_round s.rounds 0 ≡ in_round s.rounds 0 + from_round s.rounds (0 + 1) = from_next s.rounds 0 in
           all ∙ next ∙ ap (λ n. n + from_round s.rounds (0 + 1)) (sym (left_at_start 0));
       present = omega (arith, length-map-range_with_len (writes_in s) 0 (round_count s));
     };

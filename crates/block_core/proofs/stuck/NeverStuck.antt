@@ -7,9 +7,9 @@ use Rattle.stack_base.specs.Stack.{HasRescuers}
 use Rattle.bio_books.specs.Books.{node_at}
 use Rattle.run_machine.specs.declared.event.Event.{Event}
 use Rattle.run_machine.specs.Scene.{Scene}
-use Rattle.run_machine.specs.Opened.{Scenario, scene, start, round_count, writes_in, setup as setup_in}
+use Rattle.run_machine.specs.Opened.{Scenario, scene, start, round_count, writes_in, setup as setup_in, from_round}
 use Rattle.run_machine.specs.Runs.{State, IsRun, HasFree, HasEnded, unfinished}
-use Rattle.block_core.specs.Scenarios.{IsScenario, IsNaming, EveryPoolKeepsSome, AreInOrder}
+use Rattle.block_core.specs.Scenarios.{IsScenario, IsNaming, EveryPoolKeepsSome, AreSorted}
 use Rattle.block_core.specs.Stuck.{NoStateIsStuck, NoAllowedStateIsStuck, EachRunGoesOnOrHasEnded}
 use Rattle.block_core.specs.Weights.{count_of}
 use Rattle.block_core.proofs.moves.Devices.{ground}
@@ -18,7 +18,6 @@ use Rattle.block_core.proofs.sound.Facts.{Fair}
 use Rattle.block_core.proofs.sound.Orders.{Ground}
 use Rattle.block_core.proofs.sound.Counters.{Counted, stays_counted}
 use Rattle.block_core.proofs.sound.LargestCounts.{no_counter_is_full}
-use Rattle.block_core.proofs.sound.Rounds.{from_round}
 use Rattle.block_core.proofs.sound.Wholes.{Whole, step_whole, runs_whole, runs_tallied, runs_posted, runs_long, runs_leveled, runs_waiting, start_whole, start_leveled}
 use Rattle.block_core.proofs.start.FactsAtStart.{start_opened}
 use Rattle.block_core.proofs.start.PostsAtStart.{ids_of, start_posted, start_crew}
@@ -56,7 +55,7 @@ module _ (s : Scenario) (ledger : ℕ → LedgerId) (good : IsScenario s) (namin
   whole : Whole (scene s ledger) (start s)
   whole = start_whole s ledger good naming
 
-  run_goes_by : HasRescuers s.stack → EveryPoolKeepsSome s → AreInOrder s.rounds → (events : List Event) (state : State) → IsRun (scene s ledger) (start s) events state → HasNumbers state
+  run_goes_by : HasRescuers s.stack → EveryPoolKeepsSome s → AreSorted s.rounds → (events : List Event) (state : State) → IsRun (scene s ledger) (start s) events state → HasNumbers state
       → HasFree (scene s ledger) state ⊎ HasEnded state
   run_goes_by rescuers reserves ordered events state run numbers =
       let places = (setup_in s).places in
@@ -77,7 +76,7 @@ module _ (s : Scenario) (ledger : ℕ → LedgerId) (good : IsScenario s) (namin
       goes_on_or_ended sc state l.0 known ids keeper p (start_crew s good ledger reserves ordered) s.rounds t none (needs_known s.stack good.stack places) r numbers
 
   -- a run that has ended has no unfinished write
-  run_free_by : HasRescuers s.stack → EveryPoolKeepsSome s → AreInOrder s.rounds → (events : List Event) (state : State) → IsRun (scene s ledger) (start s) events state → HasNumbers state → 1 ≤ unfinished state
+  run_free_by : HasRescuers s.stack → EveryPoolKeepsSome s → AreSorted s.rounds → (events : List Event) (state : State) → IsRun (scene s ledger) (start s) events state → HasNumbers state → 1 ≤ unfinished state
       → HasFree (scene s ledger) state
   run_free_by rescuers reserves ordered events state run numbers some =
       elim (run_goes_by rescuers reserves ordered events state run numbers) [
@@ -85,7 +84,7 @@ module _ (s : Scenario) (ledger : ℕ → LedgerId) (good : IsScenario s) (namin
         | inr ended ↦ let none = ended.writes in absurd (omega (arith, some, none))
       ]
 
-  run_free : HasRescuers s.stack → EveryPoolKeepsSome s → AreInOrder s.rounds → (events : List Event) (state : State) → IsRun (scene s ledger) (start s) events state → length events + 9 < 2 ^ 64 → 1 ≤ unfinished state
+  run_free : HasRescuers s.stack → EveryPoolKeepsSome s → AreSorted s.rounds → (events : List Event) (state : State) → IsRun (scene s ledger) (start s) events state → length events + 9 < 2 ^ 64 → 1 ≤ unfinished state
       → HasFree (scene s ledger) state
   run_free rescuers reserves ordered events state run few some =
       let sc = scene s ledger in

@@ -12,6 +12,7 @@ use Rattle.run_machine.specs.Scene.{Setup, Scene}
 use Rattle.run_machine.specs.Submissions.{Doing, Rests, Drives, Copies, Breaks, Submission}
 use Rattle.run_machine.specs.Tasks.{TaskState, Writer, Rescuer, Completer, Keeper, Keeping, Keeps, Stops, Resizes, Starts, Todo, Gathered, NoBio, HasBio, HasBoth, Carried, Empty, Brings, Carries, Fails}
 use Rattle.run_machine.specs.Runs.{State}
+use Rattle.run_machine.specs.Opened.{from_round}
 use Rattle.block_core.specs.Weights.{Weight, Pending, Rescued, sum_at, weigh_option, task_weight, gathered_weight, book_weight}
 use Rattle.block_core.proofs.moves.Moves.{with_pool}
 use Rattle.block_core.proofs.moves.Sums.{one-other, same_or_not}
@@ -29,7 +30,7 @@ use Rattle.block_core.specs.Rooms.{HasRoomInBooks}
 use Rattle.block_core.proofs.sound.OffLevels.{off_levels}
 use Rattle.block_core.specs.Rounds.{round_of, is_of_round, all_worth, unfinished_of}
 use Rattle.block_core.proofs.sound.EventStages.{zeros, submission_zero}
-use Rattle.block_core.proofs.sound.Rounds.{from_round, TodosFit, TaskRounds, Tallied}
+use Rattle.block_core.proofs.sound.Rounds.{TodosFit, TaskRounds, Tallied}
 use Rattle.block_core.proofs.unrefused.NodeNeeds.{Needs}
 use Rattle.block_core.proofs.sound.Posts.{ByRounds, starts, AtPost, Posted}
 use Rattle.block_core.proofs.stuck.NothingWaits.{IsPool, spares, StillDoing, StillTaken, StillWriter, IsStill, AllStill, zero_or, some_place, submission_below}

@@ -12,7 +12,7 @@ use Rattle.bio_records.specs.Items.{Item}
 use Rattle.bio_books.specs.declared.node.Role.{Role}
 use Rattle.bio_books.specs.declared.node.Role.TheVariants as role
 use Rattle.bio_books.specs.Books.{Node, BookState, VectorItem, SlipItem, node_at}
-use Rattle.bio_books.specs.Links.{IsFull, Linked, Made, NoRoom, Stray, ChainsAt, MastersAt, LegsAt}
+use Rattle.bio_books.specs.Links.{HasNoVacant, Linked, Made, NoRoom, Stray, ChainsAt, MastersAt, LegsAt}
 use Rattle.bio_books.specs.Drops.{Ended, DropsAt}
 use Rattle.bio_books.specs.Drops as end
 use Rattle.run_machine.specs.Scene.{Scene, tree_at}
@@ -58,7 +58,7 @@ IsReady objects (requests.Drop writer node status part) = IsOpenAt (objects.book
 IsReady objects request = Unit {0}
 
 -- a book with a vacant place is not full
-not_full : (book : BookState) → HasVacant book → IsFull book → ⊥
+not_full : (book : BookState) → HasVacant book → HasNoVacant book → ⊥
 not_full book (place, vacant) full =
     let at = vacant_at book place vacant in
     let some : IsSome (node_at book place) = All-get_or IsSome book.nodes place None at.1 full in

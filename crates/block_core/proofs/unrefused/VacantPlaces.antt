@@ -3,7 +3,7 @@ use Rattle.std.proofs.Common.{◌≡◌, ◌<◌, ◌≤◌, ◌⊎◌, ℕ, zer
 use Rattle.std.specs.Prelude.{slice_get, All}
 use Rattle.std.proofs.lemmas.List.Elements.{All-nil, All-cons, All-get_or}
 use Rattle.bio_books.specs.Books.{Node, BookState, node_at}
-use Rattle.bio_books.specs.Links.{IsVacant, IsFull}
+use Rattle.bio_books.specs.Links.{IsVacant, HasNoVacant}
 use Rattle.run_machine.specs.Scene.{Setup, Scene}
 use Rattle.run_machine.specs.Tasks.{TaskState}
 use Rattle.run_machine.specs.Runs.{State}
@@ -30,7 +30,7 @@ unfolding sum_at
 all_count w zero f one_each = refl
 all_count w (suc n) f one_each = omega (arith, all_count w n f (λ i lt. one_each i (omega (arith, lt))), one_each n (omega arith))
 
-full_weight : (setup : Setup) (writer : ℕ) (book : BookState) → IsFull book → book_weight (room setup writer) writer book ≡ length book.nodes
+full_weight : (setup : Setup) (writer : ℕ) (book : BookState) → HasNoVacant book → book_weight (room setup writer) writer book ≡ length book.nodes
 full_weight setup writer book full =
     all_count (λ place. weigh_option ((room setup writer).node writer place)) (length book.nodes) (node_at book)
     (λ place lt. counts place (node_at book place) (All-get_or IsSome book.nodes place None lt full))
