@@ -182,8 +182,9 @@ pub fn images_are_of_completed()
     ensures { ImagesAreOfCompleted }
 {}
 
-/// After every event of every run of every scenario all that is at work is of writes of the present round, each open node and each bio that a task
-/// has or that waits for a rescuer or in a disk: nothing of an earlier round is left when a round starts.
+/// After every event of every run of every scenario all that is at work is of writes of the present round: each open node, what completers still
+/// carry of closed ones, and each bio that is submitted or brought or waits for a rescuer or in a disk. So nothing of an earlier round is left when
+/// a round starts. What a writer has gathered for a write that has not begun, and what a task that broke off keeps, is not at work.
 pub fn work_is_of_the_present_round()
     ensures { WorkIsPresent }
 {}

@@ -1,4 +1,4 @@
--- A reply by which nothing has happened: it leaves task and objects as they are, and no other reply is an event there but an ordinary take.
+-- Over objects of one thread: where a step met nothing, the task and its objects stand as they stood, and only an ordinary take could come.
 use Rattle.std.proofs.Common.{◌≡◌, ℕ, Bool, true, false, None, Some, inl, inr, refl, sym, ◌∙◌, subst, arith, true≢false}
 use Rattle.std.specs.Prelude.{IsTrue}
 use Rattle.elem_ledger.specs.Ledger.{LedgerId}

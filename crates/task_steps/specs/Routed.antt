@@ -121,6 +121,7 @@ manner_by (driver.Zoned zoned) = manner.Cuts
 manner_by (driver.Limit limit) = manner.Cuts
 manner_by (driver.Mirror mirror) = manner.Copies
 
+-- how many legs a driver makes of a bio: a mirror one for each member, the others none
 abbrev pub legs_by : Driver → ℕ
 legs_by driver.Disk = 0
 legs_by (driver.Linear sizes) = 0

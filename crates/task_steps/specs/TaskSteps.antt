@@ -28,7 +28,7 @@ pub record TaskTurns {S : Type 0} (words : Ghosts S) (setup : Setup) (task : Tas
   pub held : words.holds new
   pub same : words.stage new ≡ words.stage old
 
--- the same where this is known of the devices
+-- the same of a task by what its routes know of the devices
 abbrev pub TaskDoes : {S : Type 0} → Ghosts S → Routing → TaskState → S → TaskState → S → Step → Type 0
 TaskDoes words routing task old next new step = TaskTurns words (routing_setup routing) task old next new step
 
@@ -42,7 +42,7 @@ pub record TaskAsks {S : Type 0} (words : Ghosts S) (task : TaskState) (old : S)
 abbrev pub CompleterDoes : {S : Type 0} → Ghosts S → DevId → Carried → S → Carried × Step → S → Type 0
 CompleterDoes words disk carried old done new = TaskDoes words (words.stage old).routing (Completer disk carried) old (Completer disk done.0) new done.1
 
--- the step of a completer that told a node of an end
+-- the step of a completer that told a node of an end: the event of that, or that it broke off, as the book answered
 abbrev pub TellsDrop : DevId → ℕ → ℕ → Status → Ended → Step → Type 0
 TellsDrop disk writer node status ended step =
     (part : Option (Item Pad)) → (s : Setup) → step ≡ step_of s (id.Completer disk) (Drop writer node status part) (DroppedTo ended)

@@ -80,10 +80,11 @@ NeedIsMet old (need.Child writer parent) =
 NeedIsMet old (need.End writer place) = (node : Node) × (node_at (core_book_at old writer) place ≡ Some node) × (0 < node.count)
 NeedIsMet old need.Round = old.tally.round + 1 < length old.tally.left
 
--- what a request of a submission needs, and one of a task, whatever is known of the stack
+-- the need of what a submission asks for, whatever is known of the stack
 abbrev pub IsNeedOfDoing : Need → Doing → Type 0
 IsNeedOfDoing need doing = (s : Setup) (lists : TaskLists) → need ≡ need_of (submission_request s doing lists)
 
+-- the need of what a task asks for
 abbrev pub IsNeedOfTask : Need → TaskState → Type 0
 IsNeedOfTask need task = (s : Setup) → need ≡ need_of (request s task)
 

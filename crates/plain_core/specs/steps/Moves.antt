@@ -51,10 +51,11 @@ abbrev pub begun_with : Routing → Writer → Item Pad → TaskState
 begun_with r writer part =
     task.Writer writer.number (drop 1 writer.todo) task.NoBio (submission.settled (routing_setup r) (part ∷ []))
 
--- a writer goes on, in any case or where its next write is so
+-- a writer goes on
 abbrev pub WriterMoves : Routing → CoreObjects → Writer → What → Result (Unit {0}) CoreFault → CoreObjects → Writer → Type 0
 WriterMoves r old before what result new after = TaskMoves r old (writer_of before) what result new (writer_of after)
 
+-- and so it does where its next write is such a one
 abbrev pub WriterMovesFor : (task.Todo → Type 0) → CoreObjects → Writer → What → Result (Unit {0}) CoreFault → CoreObjects → Writer → Type 0
 WriterMovesFor IsSo old before what result new after =
     (r : Routing) (next : task.Todo) (later : List task.Todo) → before.todo ≡ next ∷ later → IsSo next → WriterMoves r old before what result new after

@@ -51,7 +51,7 @@ impl Carried {
         self.fail(breach, held)
     }
 
-    // What is left of a node that was told of an end, and the event of that.
+    // What is left of a node that was told of an end, and the step of that: its event, or, where no such node is open, that the completer breaks off.
     #[inline(always)] // as `Submission::becomes`
     fn told(
         &mut self,
