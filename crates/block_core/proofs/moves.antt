@@ -1,7 +1,7 @@
 pub mod Moves
 pub mod PaidKinds
 pub mod Sums
-pub mod Listed
+pub mod SubmissionWeights
 pub mod Deltas
 pub mod BookMaps
 pub mod StepsTold
@@ -14,6 +14,6 @@ pub mod Devices
 pub mod LegTrees
 pub mod Totals
 pub mod SumsCompared
-pub mod Marked
+pub mod VacantMarks
 pub mod Landings
 pub mod Misfits

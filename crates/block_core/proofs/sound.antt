@@ -18,7 +18,7 @@ pub mod Levels
 pub mod LevelsKept
 pub mod CarriedLevels
 pub mod Posts
-pub mod Wholes
+pub mod EveryRun
 pub mod OfOneWrite
 pub mod Elements
 pub mod LargestCounts

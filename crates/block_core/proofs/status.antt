@@ -3,12 +3,12 @@ pub mod RunEndings
 pub mod NodeValues
 pub mod AtOneNode
 pub mod MarksBehind
-pub mod Tellers
+pub mod ToldEnds
 pub mod EndsAllowed
 pub mod EndsDecided
 pub mod ValuesKept
 pub mod NodeBios
-pub mod Found
+pub mod PartsWeigh
 pub mod Valued
 pub mod Statuses
 pub mod KeptEnds

@@ -3,7 +3,7 @@ pub mod NodesOpened
 pub mod RoomKept
 pub mod VacantPlaces
 pub mod Ready
-pub mod Hands
+pub mod NoneFails
 pub mod Unbroken
 pub mod Resizes
 pub mod Replies

@@ -15,4 +15,4 @@ pub mod Looks
 pub mod Stopping
 pub mod Counting
 pub mod DrewEvents
-pub mod Closes
+pub mod EnoughShown

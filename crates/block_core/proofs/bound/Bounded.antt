@@ -31,7 +31,7 @@ use Rattle.block_core.proofs.bound.EventCharges.{lowers}
 use Rattle.block_core.proofs.bound.SpentCharges.{covers}
 use Rattle.block_core.proofs.bound.ChargesAtStart.{start_charge, start_spent}
 use Rattle.block_core.proofs.bound.PayerCounts.{few_costs}
-use Rattle.block_core.proofs.sound.Wholes.{Whole, runs_whole, start_whole}
+use Rattle.block_core.proofs.sound.EveryRun.{Whole, runs_whole, start_whole}
 
 pool_out : (pools : ℕ → PoolState) (p : ℕ) (move : PoolMove) (q : ℕ) → (upd pools p (after_move (pools p) move) q).facts.out ≤ (pools q).facts.out + 1
 pool_out pools p move q = elim (same_or_not q p) [

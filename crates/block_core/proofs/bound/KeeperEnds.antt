@@ -25,7 +25,7 @@ use Rattle.block_core.proofs.sound.Lasting.{runs_keep}
 use Rattle.block_core.proofs.sound.Orders.{Each}
 use Rattle.block_core.proofs.sound.Rounds.{TaskRounds}
 use Rattle.block_core.proofs.sound.TaskSubmissions.{all-upd}
-use Rattle.block_core.proofs.sound.Wholes.{runs_tallied, start_whole}
+use Rattle.block_core.proofs.sound.EveryRun.{runs_tallied, start_whole}
 use Rattle.block_core.proofs.start.FactsAtStart.{sum_at-zero}
 use Rattle.block_core.proofs.start.TallyAtStart.{keeper_place, start_tallied}
 

@@ -20,7 +20,7 @@ use Rattle.block_core.proofs.moves.Moves.{Move, Can, after, limit_of, filled_of,
 use Rattle.block_core.proofs.moves.Moves as moves
 use Rattle.block_core.proofs.moves.Deltas.{delta}
 use Rattle.block_core.proofs.sound.Facts.{own_part, Kept}
-use Rattle.block_core.proofs.moves.Listed.{IsBlind, first_weight, goes_weight}
+use Rattle.block_core.proofs.moves.SubmissionWeights.{IsBlind, first_weight, goes_weight}
 use Rattle.block_core.proofs.sound.SumParts.{copies_weight, unless_none, is_away}
 use Rattle.block_core.proofs.sound.SumParts as parts
 use Rattle.block_core.proofs.images.MasterRecords.{bare_slip, zeros}

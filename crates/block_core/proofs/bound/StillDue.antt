@@ -26,7 +26,7 @@ use Rattle.block_core.proofs.sound.Facts.{TaskFits, Fair, Kept}
 use Rattle.block_core.proofs.sound.Orders.{AskFits, DoingPlaced, TaskPlaced, Placed, Ground}
 use Rattle.block_core.proofs.sound.OrdersKept.{submission_placed}
 use Rattle.block_core.proofs.sound.TaskSubmissions.{submission_fits}
-use Rattle.block_core.proofs.moves.Listed.{first_weight, goes_weight}
+use Rattle.block_core.proofs.moves.SubmissionWeights.{first_weight, goes_weight}
 use Rattle.block_core.proofs.moves.Landings.{settled_there, goes_there, all_there, none_there, cut_there, leg_there}
 use Rattle.block_core.proofs.sound.SumParts.{cut_weight, copies_weight, unless_none, is_away}
 use Rattle.block_core.proofs.unrefused.NodeNeeds.{Needs, mirror_need, legs_on}

@@ -12,7 +12,7 @@ use Rattle.block_core.proofs.status.Statuses.{statuses_are_given, ended_statuses
 use Rattle.block_core.proofs.images.ImagesLaid.{images_are_laid_out}
 use Rattle.block_core.proofs.stuck.NeverStuck.{no_allowed_state_is_stuck}
 use Rattle.block_core.proofs.claim.Runnable.{accepted_texts_are_runnable, steps_fit_in_24_bits}
-use Rattle.block_core.proofs.sound.Wholes.{each_is_done_once}
+use Rattle.block_core.proofs.sound.EveryRun.{each_is_done_once}
 use Rattle.block_core.proofs.sound.Soundness.{every_run_is_sound}
 
 pub every_run_is_as_claimed : EveryRunIsAsClaimed

@@ -22,7 +22,7 @@ use Rattle.block_core.proofs.moves.Devices.{ground}
 use Rattle.block_core.proofs.start.FactsAtStart.{todos_all}
 use Rattle.block_core.proofs.start.StartTotals.{flat_sum, all_sum, opened_total}
 use Rattle.block_core.proofs.moves.StepMoves.{step_is_move}
-use Rattle.block_core.proofs.sound.Wholes.{Whole, runs_whole, start_whole}
+use Rattle.block_core.proofs.sound.EveryRun.{Whole, runs_whole, start_whole}
 use Rattle.block_core.proofs.images.FragmentCounts.{Divided, divided, numbered_place}
 use Rattle.block_core.proofs.moves.Misfits.{Follows, misfits, no_misfits}
 use Rattle.block_core.proofs.images.StillToCome.{over, comes}

@@ -39,7 +39,7 @@ use Rattle.block_core.proofs.moves.Devices.{ground}
 use Rattle.block_core.proofs.sound.DoneOnce.{to_begin, stage}
 use Rattle.block_core.proofs.sound.EventStages.{top_is}
 use Rattle.block_core.specs.Rounds.{tops}
-use Rattle.block_core.proofs.sound.Wholes.{Whole, runs_whole, start_whole, runs_leveled, start_leveled, runs_done, stage_once}
+use Rattle.block_core.proofs.sound.EveryRun.{Whole, runs_whole, start_whole, runs_leveled, start_leveled, runs_done, stage_once}
 use Rattle.block_core.proofs.sound.OfOneWrite.{runs_of_one_write, start_of_one_write, node_write}
 use Rattle.block_core.proofs.images.Ancestors.{of_node, of_named}
 use Rattle.block_core.proofs.images.FragmentCounts.{divided}

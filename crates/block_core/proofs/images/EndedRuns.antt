@@ -11,7 +11,7 @@ use Rattle.block_core.specs.Rounds.{round_of, is_of_round, unfinished_of}
 use Rattle.block_core.specs.Fragments.{HasBegun, AllIsHome, NothingComesWhereEnded}
 use Rattle.block_core.proofs.moves.Sums.{one-same}
 use Rattle.block_core.proofs.moves.Totals.{part_of}
-use Rattle.block_core.proofs.sound.Wholes.{run_tallied}
+use Rattle.block_core.proofs.sound.EveryRun.{run_tallied}
 use Rattle.block_core.proofs.images.NothingComes.{nothing_comes_where_all_is_home}
 
 pub zero_at : (xs : List ℕ) (r : ℕ) → sum xs ≡ 0 → slice_index_or xs r 0 ≡ 0

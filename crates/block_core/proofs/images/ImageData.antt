@@ -44,7 +44,7 @@ use Rattle.block_core.proofs.sound.Orders.{DoingPlaced, TaskPlaced, Placed, Grou
 use Rattle.block_core.proofs.sound.OrdersKept.{submission_placed, all_at}
 use Rattle.block_core.proofs.sound.Facts.{Fair}
 use Rattle.block_core.proofs.moves.StepMoves.{step_is_move}
-use Rattle.block_core.proofs.sound.Wholes.{Whole, runs_whole, start_whole}
+use Rattle.block_core.proofs.sound.EveryRun.{Whole, runs_whole, start_whole}
 use Rattle.block_core.proofs.moves.Devices.{ground}
 use Rattle.block_core.proofs.start.FactsAtStart.{todos_all}
 use Rattle.block_core.proofs.images.Completed.{small}

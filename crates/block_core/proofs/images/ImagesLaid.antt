@@ -9,7 +9,7 @@ use Rattle.run_machine.specs.Opened.{scene, start, todos, setup as setup_in}
 use Rattle.block_core.specs.Images.{OneFragmentASectorARound, ImagesAreLaidOut}
 use Rattle.block_core.proofs.sound.Facts.{Fair}
 use Rattle.block_core.proofs.moves.Devices.{ground}
-use Rattle.block_core.proofs.sound.Wholes.{start_whole}
+use Rattle.block_core.proofs.sound.EveryRun.{start_whole}
 use Rattle.block_core.proofs.images.BioData.{own_writes}
 use Rattle.block_core.proofs.images.ImageData.{runs_own, start_own}
 use Rattle.block_core.proofs.images.LaidOut.{served, lands_itself, laid_by_rounds}

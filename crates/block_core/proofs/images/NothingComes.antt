@@ -29,7 +29,7 @@ use Rattle.block_core.proofs.sound.Facts.{Fair}
 use Rattle.block_core.proofs.sound.Orders.{Ground}
 use Rattle.block_core.proofs.moves.Devices.{ground}
 use Rattle.block_core.proofs.moves.StepMoves.{step_is_move}
-use Rattle.block_core.proofs.sound.Wholes.{Whole, runs_whole, start_whole}
+use Rattle.block_core.proofs.sound.EveryRun.{Whole, runs_whole, start_whole}
 use Rattle.block_core.proofs.start.StartTotals.{opened_total}
 
 -- no bio is in a list that has an element of no pool

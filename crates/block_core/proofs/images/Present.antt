@@ -19,7 +19,7 @@ use Rattle.block_core.proofs.stuck.Idle.{node_part}
 use Rattle.block_core.proofs.moves.Totals.{task_part}
 use Rattle.block_core.proofs.unrefused.Resizes.{goes_down}
 use Rattle.block_core.proofs.moves.Devices.{ground}
-use Rattle.block_core.proofs.sound.Wholes.{runs_tallied, runs_leveled, start_leveled, runs_whole, start_whole}
+use Rattle.block_core.proofs.sound.EveryRun.{runs_tallied, runs_leveled, start_leveled, runs_whole, start_whole}
 use Rattle.block_core.proofs.sound.OfOneWrite.{all_of_one_write}
 use Rattle.block_core.proofs.images.Ancestors.{all_at_work}
 

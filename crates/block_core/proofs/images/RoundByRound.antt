@@ -24,7 +24,7 @@ use Rattle.block_core.proofs.sound.Orders.{Ground}
 use Rattle.block_core.proofs.moves.Devices.{ground}
 use Rattle.block_core.proofs.start.FactsAtStart.{all_map}
 use Rattle.block_core.proofs.moves.StepMoves.{step_is_move}
-use Rattle.block_core.proofs.sound.Wholes.{Whole, runs_whole, start_whole}
+use Rattle.block_core.proofs.sound.EveryRun.{Whole, runs_whole, start_whole}
 use Rattle.block_core.proofs.images.StillToCome.{ended}
 use Rattle.block_core.proofs.images.Completions.{step_completes}
 use Rattle.block_core.proofs.images.Present.{work_is_present}

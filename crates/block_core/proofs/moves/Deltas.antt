@@ -22,7 +22,7 @@ use Rattle.block_core.specs.Weights.{Weight, Pending, Rescued, Lined, total, sum
 use Rattle.block_core.proofs.moves.Moves.{Move, Can, after, lost, gained, limit_of, with_submission, with_want, gathered_of, filled_of, vector_of, cut_lists}
 use Rattle.block_core.proofs.moves.Moves as moves
 use Rattle.block_core.proofs.moves.Sums.{sum_at-upd, within_book, book_upd}
-use Rattle.block_core.proofs.moves.Listed.{submission_changes, want_changes, punted_weight}
+use Rattle.block_core.proofs.moves.SubmissionWeights.{submission_changes, want_changes, punted_weight}
 
 pub vacant_at : (book : BookState) (key : ℕ) → IsVacant book key → (node_at book key ≡ None) × (key < length book.nodes)
 vacant_at book key v = (get_or_from_slice_get book.nodes key None None v, slice_get_within book.nodes key None v)

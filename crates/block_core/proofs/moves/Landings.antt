@@ -17,7 +17,7 @@ use Rattle.bioset_pools.specs.Sets.{waits_first}
 use Rattle.run_machine.specs.Submissions.{Takes, Links, ToCut, Drives, Copies, settled, goes_on, copies, first_length, landed, legs_of, leg_at}
 use Rattle.block_core.specs.Weights.{Weight, Lined, submission_weight}
 use Rattle.block_core.proofs.moves.Moves.{cut_lists, piece}
-use Rattle.block_core.proofs.moves.Listed.{asks_weight, order_weight}
+use Rattle.block_core.proofs.moves.SubmissionWeights.{asks_weight, order_weight}
 use Rattle.block_core.proofs.sound.SumParts.{unless}
 use Rattle.block_core.proofs.moves.Geometry.{IsThere, is_cut}
 use Rattle.block_core.proofs.sound.Orders.{Each, IsPlaced, IsOwn, AskFits, DoingPlaced, Ground, each_map, each_less, each_append}

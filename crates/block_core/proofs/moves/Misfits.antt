@@ -18,7 +18,7 @@ use Rattle.run_machine.specs.Runs.{State}
 use Rattle.block_core.specs.Weights.{Weight, total, no_weight}
 use Rattle.block_core.proofs.moves.Moves.{Move, Can, after, limit_of, HasSubmission, filled_of, cut_lists, piece}
 use Rattle.block_core.proofs.moves.Moves as moves
-use Rattle.block_core.proofs.moves.Listed.{landed_same, IsBlind, first_weight, goes_weight}
+use Rattle.block_core.proofs.moves.SubmissionWeights.{landed_same, IsBlind, first_weight, goes_weight}
 use Rattle.block_core.proofs.sound.SumParts.{cut_weight, copies_weight, submission_part, unless_less}
 use Rattle.block_core.proofs.moves.Deltas.{delta}
 use Rattle.block_core.proofs.sound.Facts.{TaskFits, Kept}

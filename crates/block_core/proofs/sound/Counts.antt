@@ -18,7 +18,7 @@ use Rattle.run_machine.specs.Runs.{State}
 use Rattle.block_core.specs.Weights.{total, one, task_weight, submission_weight, carried_weight, refs, names_node, under, count_of}
 use Rattle.block_core.proofs.moves.Moves.{Move, Can, after, lost, gained, limit_of, HasSubmission, gathered_of, filled_of, vector_of, cut_lists, Tells}
 use Rattle.block_core.proofs.moves.Moves as moves
-use Rattle.block_core.proofs.moves.Listed.{IsBlind, goes_weight, first_weight, landed_same}
+use Rattle.block_core.proofs.moves.SubmissionWeights.{IsBlind, goes_weight, first_weight, landed_same}
 use Rattle.block_core.proofs.moves.Deltas.{delta}
 use Rattle.block_core.proofs.sound.Facts.{SubmissionFits, TaskFits, Fair, Kept}
 use Rattle.block_core.proofs.sound.SumParts.{cut_weight, copies_weight, unless}

@@ -32,7 +32,7 @@ use Rattle.block_core.proofs.sound.Facts.{Fair}
 use Rattle.block_core.proofs.moves.Devices.{ground}
 use Rattle.block_core.proofs.stuck.NothingWaits.{one-eq}
 use Rattle.block_core.proofs.sound.DoneOnce.{stage, to_begin, asked, asked_by, done_by}
-use Rattle.block_core.proofs.sound.Wholes.{Whole, runs_whole, runs_done, runs_tallied, run_tallied, start_whole, stage_once}
+use Rattle.block_core.proofs.sound.EveryRun.{Whole, runs_whole, runs_done, runs_tallied, run_tallied, start_whole, stage_once}
 use Rattle.block_core.proofs.moves.StepMoves.{step_is_move}
 use Rattle.block_core.proofs.sound.Rounds.{Tallied, TaskRounds, KeepingFits, of_present}
 use Rattle.block_core.proofs.start.TallyAtStart.{keeper_place, start_tallied, unfinished_at_start}

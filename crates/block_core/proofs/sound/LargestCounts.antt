@@ -22,7 +22,7 @@ use Rattle.block_core.proofs.unrefused.NodeNeeds.{Needs, needs_known}
 use Rattle.block_core.proofs.moves.StepMoves.{step_is_move}
 use Rattle.block_core.proofs.bound.ChargesAtStart.{zip_sum}
 use Rattle.block_core.proofs.start.StartTotals.{map_sum, opened_total}
-use Rattle.block_core.proofs.sound.Wholes.{Whole, runs_whole, start_whole}
+use Rattle.block_core.proofs.sound.EveryRun.{Whole, runs_whole, start_whole}
 use Rattle.block_core.proofs.unrefused.RoomKept.{run_roomy}
 use Rattle.block_core.proofs.unrefused.Ready.{ends_few}
 use Rattle.block_core.proofs.unrefused.Unbroken.{small}

@@ -7,7 +7,7 @@ use Rattle.block_core.proofs.moves.Moves.{Move, Can, after}
 use Rattle.block_core.proofs.sound.Facts.{Fair}
 use Rattle.block_core.proofs.sound.Orders.{Ground}
 use Rattle.block_core.proofs.moves.StepMoves.{step_is_move}
-use Rattle.block_core.proofs.sound.Wholes.{Whole, step_whole}
+use Rattle.block_core.proofs.sound.EveryRun.{Whole, step_whole}
 
 pub runs_keep : (scene : Scene) → Fair scene → Ground scene.setup → (P : State → Type 0)
     → ((s : State) (m : Move) → Whole scene s → Whole scene (after scene s m) → Can scene s m → P s → P (after scene s m))

@@ -8,7 +8,7 @@ use Rattle.run_machine.specs.Runs.{State}
 use Rattle.block_core.specs.Weights.{total, under}
 use Rattle.block_core.proofs.sound.OffLevels.{parent_off, held_off, held_level, below_off, off_levels}
 use Rattle.block_core.proofs.sound.Facts.{Kept}
-use Rattle.block_core.proofs.moves.Marked.{with_mark, mark_other, mark_still, IsUnmoved, none_moves}
+use Rattle.block_core.proofs.moves.VacantMarks.{with_mark, mark_other, mark_still, IsUnmoved, none_moves}
 
 module _ (level : ℕ → ℕ → ℕ) (writer key n : ℕ) where
   abbrev new : ℕ → ℕ → ℕ

@@ -27,10 +27,10 @@ use Rattle.block_core.proofs.sound.OrdersKept.{submission_placed}
 use Rattle.block_core.proofs.moves.Deltas.{vacant_at, delta}
 use Rattle.block_core.proofs.sound.SumParts.{copies_weight, unless, unless_none, cut_weight, submission_part}
 use Rattle.block_core.proofs.moves.Totals.{part_of}
-use Rattle.block_core.proofs.moves.Listed.{IsBlind, landed_same, first_weight, goes_weight}
+use Rattle.block_core.proofs.moves.SubmissionWeights.{IsBlind, landed_same, first_weight, goes_weight}
 use Rattle.block_core.specs.Weights.{apart}
 use Rattle.block_core.proofs.sound.OffLevels.{bio_off, parent_off, held_off, first_level, held_level, below_off, closed_off, off_levels, AreLeveled}
-use Rattle.block_core.proofs.moves.Marked.{with_mark, mark_here, mark_other}
+use Rattle.block_core.proofs.moves.VacantMarks.{with_mark, mark_here, mark_other}
 use Rattle.block_core.proofs.sound.Levels.{total_null}
 use Rattle.block_core.proofs.stuck.Idle.{node_part}
 

@@ -23,7 +23,7 @@ use Rattle.block_core.proofs.sound.Facts.{HandFits, DoingFits, TaskFits, Kept}
 use Rattle.block_core.proofs.sound.Orders.{Each, Above, Ordered, IsPlaced, IsOwn, WantFits, AskFits, DoingPlaced, HandHome, TaskPlaced, Placed}
 use Rattle.block_core.proofs.sound.LegLists.{HasLegs, TaskHasLegs, Legged}
 use Rattle.block_core.proofs.sound.CarriedLevels.{TaskOne}
-use Rattle.block_core.proofs.status.Tellers.{HasEnding}
+use Rattle.block_core.proofs.status.ToldEnds.{HasEnding}
 
 all_of : {X : Type 0} (P Q : X → Type 0) → ((x : X) → P x → Q x) → (xs : List X) → Each P xs → All Q xs
 all_of P Q more [] each = All-nil Q

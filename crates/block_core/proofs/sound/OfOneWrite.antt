@@ -28,12 +28,12 @@ use Rattle.block_core.proofs.sound.Orders.{Ground}
 use Rattle.block_core.proofs.moves.Devices.{ground}
 use Rattle.block_core.proofs.moves.Deltas.{vacant_at, delta}
 use Rattle.block_core.proofs.sound.SumParts.{copies_weight, unless, unless_none, cut_weight, submission_part}
-use Rattle.block_core.proofs.moves.Listed.{IsBlind, landed_same, first_weight, goes_weight}
-use Rattle.block_core.proofs.moves.Marked.{with_mark, mark_here, mark_other, mark_still, IsUnmoved, none_moves}
+use Rattle.block_core.proofs.moves.SubmissionWeights.{IsBlind, landed_same, first_weight, goes_weight}
+use Rattle.block_core.proofs.moves.VacantMarks.{with_mark, mark_here, mark_other, mark_still, IsUnmoved, none_moves}
 use Rattle.block_core.proofs.stuck.Idle.{node_part}
 use Rattle.block_core.proofs.moves.StepMoves.{step_is_move}
 use Rattle.block_core.proofs.start.FactsAtStart.{total_zero, start_opened}
-use Rattle.block_core.proofs.sound.Wholes.{Whole, runs_whole, start_whole}
+use Rattle.block_core.proofs.sound.EveryRun.{Whole, runs_whole, start_whole}
 
 blind_strays : (write_of : ℕ → ℕ → ℕ) → IsBlind (strays write_of)
 blind_strays write_of limit item t = landed_same (λ (bio : Bio). apart (write_of bio.writer bio.node) bio.write) (λ to members bio. refl) t item.bio

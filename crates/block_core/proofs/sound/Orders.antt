@@ -23,7 +23,7 @@ use Rattle.run_machine.specs.Tasks.{TaskState, Writer, Rescuer, Completer, Keepe
 use Rattle.run_machine.specs.Runs.{State}
 use Rattle.block_core.proofs.moves.Moves.{Wants, with_want, filled_of, cut_lists, piece}
 use Rattle.block_core.proofs.moves.Geometry.{is_cut, IsThere, IsCopied, Settles, Lands}
-use Rattle.block_core.proofs.moves.Listed.{landed_same}
+use Rattle.block_core.proofs.moves.SubmissionWeights.{landed_same}
 
 abbrev pub Each : {X : Type 0} → (X → Type 0) → List X → Type 0
 Each P [] = Unit {0}

@@ -14,7 +14,7 @@ use Rattle.block_core.specs.Weights.{total, one, weigh_option, elements_of_pool,
 use Rattle.block_core.proofs.moves.Moves.{Move, Can, after, limit_of, cut_lists}
 use Rattle.block_core.proofs.moves.Moves as moves
 use Rattle.block_core.proofs.moves.Sums.{weight-upd}
-use Rattle.block_core.proofs.moves.Listed.{goes_weight, first_weight}
+use Rattle.block_core.proofs.moves.SubmissionWeights.{goes_weight, first_weight}
 use Rattle.block_core.proofs.moves.Deltas.{delta}
 use Rattle.block_core.specs.Roles.{named}
 use Rattle.block_core.proofs.sound.Facts.{Fair, Kept}

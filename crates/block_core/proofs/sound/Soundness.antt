@@ -19,7 +19,7 @@ use Rattle.block_core.specs.Sound.{EveryRunIsSound}
 use Rattle.block_core.proofs.sound.Facts.{own_of, Fair, Kept}
 use Rattle.block_core.proofs.start.FactsAtStart.{Begins, IsOpened, total_zero, start_opened}
 use Rattle.block_core.proofs.moves.Devices.{ground}
-use Rattle.block_core.proofs.sound.Wholes.{runs_whole, run_tallied, start_whole, start_leveled, none_waits_for_itself}
+use Rattle.block_core.proofs.sound.EveryRun.{runs_whole, run_tallied, start_whole, start_leveled, none_waits_for_itself}
 use Rattle.block_core.proofs.sound.Lasting.{runs_keep}
 use Rattle.block_core.proofs.sound.EachBio.{each_bio, each_copied}
 use Rattle.block_core.proofs.stuck.Idle.{node_part}

@@ -22,14 +22,14 @@ use Rattle.block_core.proofs.moves.Moves as moves
 use Rattle.block_core.proofs.moves.Sums.{upd-same, upd-other, same_or_not, one-same, one-other}
 use Rattle.block_core.proofs.sound.Facts.{own_part, own_of, Fair, Kept}
 use Rattle.block_core.proofs.sound.Orders.{Ground}
-use Rattle.block_core.proofs.sound.Wholes.{Whole, step_whole}
+use Rattle.block_core.proofs.sound.EveryRun.{Whole, step_whole}
 use Rattle.block_core.proofs.moves.StepMoves.{step_is_move}
 use Rattle.block_core.proofs.moves.Deltas.{vacant_at, delta}
 use Rattle.block_core.proofs.sound.SumParts.{copies_weight, unless_none, is_away}
 use Rattle.block_core.proofs.moves.BookMaps.{made, became, chained}
-use Rattle.block_core.proofs.moves.Listed.{IsBlind, first_weight, goes_weight}
+use Rattle.block_core.proofs.moves.SubmissionWeights.{IsBlind, first_weight, goes_weight}
 use Rattle.block_core.proofs.sound.Owns.{brought, told_own, own_some}
-use Rattle.block_core.proofs.moves.Marked.{no_ref}
+use Rattle.block_core.proofs.moves.VacantMarks.{no_ref}
 use Rattle.block_core.proofs.sound.Splitting.{IsSumOf, total_sum, IsSameButClosed, total_but}
 use Rattle.block_core.proofs.sound.Misplaced.{ArePlaced, was_after, stays_right}
 use Rattle.block_core.proofs.images.MasterRecords.{zeros}

@@ -25,7 +25,7 @@ use Rattle.block_core.specs.Weights.{Weight, Lined, total, one, doing_weight, ta
 use Rattle.block_core.proofs.moves.Moves.{limit_of, HasSubmission, gathered_of, filled_of, vector_of, cut_lists, IsTake, Tells, Hands, piece}
 use Rattle.block_core.proofs.moves.Sums.{weight-upd, one-same}
 use Rattle.block_core.proofs.moves.Totals.{task_part, submission_part as submission_in_task}
-use Rattle.block_core.proofs.moves.Listed.{IsBlind, goes_weight, first_weight}
+use Rattle.block_core.proofs.moves.SubmissionWeights.{IsBlind, goes_weight, first_weight}
 use Rattle.block_core.specs.Roles.{named}
 use Rattle.block_core.proofs.sound.Facts.{away, own_part, own_of, Kept}
 

@@ -32,19 +32,19 @@ use Rattle.block_core.specs.Roles.{named}
 use Rattle.block_core.proofs.sound.TaskSubmissions.{submission_fits}
 use Rattle.block_core.proofs.moves.Deltas.{delta}
 use Rattle.block_core.proofs.sound.SumParts.{cut_weight, submission_part, named_away, unless_less}
-use Rattle.block_core.proofs.moves.Listed.{landed_same}
+use Rattle.block_core.proofs.moves.SubmissionWeights.{landed_same}
 use Rattle.block_core.proofs.sound.Orders.{Each, IsOwn, DoingPlaced, TaskPlaced, Placed, Ground}
 use Rattle.block_core.proofs.sound.OrdersKept.{submission_placed}
 use Rattle.block_core.proofs.moves.Misfits.{misfits, cut_fits}
 use Rattle.block_core.proofs.images.StillToCome.{over}
 use Rattle.block_core.proofs.images.FragmentCounts.{legs_next}
 use Rattle.block_core.proofs.moves.Landings.{IsLanding, settled_there, goes_there, copies_there, all_there, none_there, cut_there, leg_there}
-use Rattle.block_core.proofs.moves.Marked.{with_mark, mark_here, mark_other, elsewhere, none_moves}
+use Rattle.block_core.proofs.moves.VacantMarks.{with_mark, mark_here, mark_other, elsewhere, none_moves}
 use Rattle.block_core.proofs.status.RunEndings.{few_yes, EndingsByParts, mirror_may}
 use Rattle.block_core.proofs.status.NodeValues.{is_given, own_allowed, well_allowed, failed_allowed, less_allowed, leg_allowed, told_allowed, unallowed_unmoved}
 use Rattle.block_core.proofs.status.AtOneNode.{above_less, range_none, leg_named_by, leg_few}
 use Rattle.block_core.proofs.status.MarksBehind.{new_mark, marks_by}
-use Rattle.block_core.proofs.status.Tellers.{HasEnding, by_role, kept_allowed, told_may, closes}
+use Rattle.block_core.proofs.status.ToldEnds.{HasEnding, by_role, kept_allowed, told_may, closes}
 
 -- a node that a bio names is no master
 not_master : (r : Role) (master : Bool) → own_part r None ≡ 1 → mismatch r master ≡ 0 → master ≡ false

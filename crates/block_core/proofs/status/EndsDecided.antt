@@ -30,19 +30,19 @@ use Rattle.block_core.proofs.sound.TaskSubmissions.{submission_fits}
 use Rattle.block_core.proofs.moves.Deltas.{vacant_at, delta}
 use Rattle.block_core.proofs.moves.BookMaps.{made, chained}
 use Rattle.block_core.proofs.sound.SumParts.{cut_weight}
-use Rattle.block_core.proofs.moves.Listed.{landed_same}
+use Rattle.block_core.proofs.moves.SubmissionWeights.{landed_same}
 use Rattle.block_core.proofs.sound.Orders.{Each, IsOwn, DoingPlaced, TaskPlaced, Placed, Ground}
 use Rattle.block_core.proofs.sound.OrdersKept.{submission_placed}
 use Rattle.block_core.proofs.moves.Misfits.{misfits, cut_fits}
 use Rattle.block_core.proofs.images.StillToCome.{over}
 use Rattle.block_core.proofs.images.FragmentCounts.{legs_next}
 use Rattle.block_core.proofs.moves.Landings.{IsLanding, settled_there, goes_there, copies_there, all_there, none_there, cut_there, leg_there}
-use Rattle.block_core.proofs.moves.Marked.{with_mark, mark_here, mark_other, none_moves}
+use Rattle.block_core.proofs.moves.VacantMarks.{with_mark, mark_here, mark_other, none_moves}
 use Rattle.block_core.proofs.status.RunEndings.{EndingsByParts, mirror_may}
 use Rattle.block_core.proofs.status.NodeValues.{well_is, told_lacks, parts_decide, deciding_unmoved}
 use Rattle.block_core.proofs.status.AtOneNode.{at_key, times_both, times_in, with_nothing, not_here, here_or, place_same, place_other, left_none, leg_named_by, times_less}
 use Rattle.block_core.proofs.status.MarksBehind.{new_mark, marks_by}
-use Rattle.block_core.proofs.status.Tellers.{HasEnding, by_role, told_weight, closes}
+use Rattle.block_core.proofs.status.ToldEnds.{HasEnding, by_role, told_weight, closes}
 
 module _ (scene : Scene) (ends : Fragment → Status) (written : ℕ → Status → ℕ) (v : EndingsByParts scene.setup ends) where
   abbrev setup : Setup

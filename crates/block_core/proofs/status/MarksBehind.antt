@@ -13,7 +13,7 @@ use Rattle.block_core.proofs.moves.Moves.{Move, Can, limit_of, HasSubmission, pi
 use Rattle.block_core.proofs.moves.Moves as moves
 use Rattle.block_core.proofs.sound.Orders.{DoingPlaced, TaskPlaced, Placed}
 use Rattle.block_core.proofs.sound.OrdersKept.{submission_placed}
-use Rattle.block_core.proofs.moves.Marked.{with_mark, mark_here, mark_other}
+use Rattle.block_core.proofs.moves.VacantMarks.{with_mark, mark_here, mark_other}
 use Rattle.block_core.proofs.status.RunEndings.{plan_alone, mirror_may}
 use Rattle.block_core.proofs.status.AtOneNode.{here_or}
 

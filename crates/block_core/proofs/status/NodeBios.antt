@@ -9,7 +9,7 @@ use Rattle.run_machine.specs.Submissions.{Links, ToCut, ToMaster, Doing, Rests, 
 use Rattle.run_machine.specs.Tasks.{Todo, TaskState, Writer, Rescuer, Completer, Keeper, first_bio}
 use Rattle.run_machine.specs.Runs.{State}
 use Rattle.block_core.specs.NodeBios.{first_piece, submission_opens, writer_opens, opened_for, bios_after}
-use Rattle.block_core.proofs.moves.Marked.{with_mark, mark_here, mark_other}
+use Rattle.block_core.proofs.moves.VacantMarks.{with_mark, mark_here, mark_other}
 use Rattle.block_core.proofs.moves.Moves.{Move, place_of, touch_by, Can, HasSubmission, piece}
 use Rattle.block_core.proofs.moves.Moves as moves
 use Rattle.block_core.proofs.sound.TaskSubmissions.{IsBusy}

@@ -13,7 +13,7 @@ use Rattle.run_machine.specs.Scene.{Setup, tree_at}
 use Rattle.block_core.specs.Weights.{under, legs_left}
 use Rattle.block_core.proofs.status.Marks.{is, Mark, IsMark, allowed_by, allowed, decides, mismatch, bio_may, leg_may, above, unallowed, deciding}
 use Rattle.block_core.proofs.status.RunEndings.{few_yes}
-use Rattle.block_core.proofs.moves.Marked.{with_mark, mark_other, mark_still, IsUnmoved}
+use Rattle.block_core.proofs.moves.VacantMarks.{with_mark, mark_other, mark_still, IsUnmoved}
 
 -- facts of statuses
 pub is_itself : (end : Status) → is end end ≡ 1

@@ -50,7 +50,7 @@ use Rattle.block_core.proofs.moves.Devices.{ground}
 use Rattle.block_core.proofs.moves.StepMoves.{step_is_move}
 use Rattle.block_core.proofs.start.FactsAtStart.{Begins, start_opened}
 use Rattle.block_core.proofs.sound.DoneOnce.{done_of, told_done, done_by, asked_by, to_begin, stage, staged}
-use Rattle.block_core.proofs.sound.Wholes.{Whole, runs_whole, start_whole, run_tallied}
+use Rattle.block_core.proofs.sound.EveryRun.{Whole, runs_whole, start_whole, run_tallied}
 use Rattle.block_core.proofs.moves.Totals.{IsWithin, within, task_part}
 use Rattle.block_core.proofs.images.EndedRuns.{zero_at}
 use Rattle.block_core.proofs.moves.Misfits.{misfits, no_misfits}
@@ -63,7 +63,7 @@ use Rattle.block_core.proofs.images.ImageData.{IsOwn, own_stays, completed_waits
 use Rattle.block_core.proofs.status.RunEndings.{EndingsByParts, endings_by_parts, plan_alone}
 use Rattle.block_core.proofs.status.NodeValues.{is_itself}
 use Rattle.block_core.proofs.status.ValuesKept.{stays_marked}
-use Rattle.block_core.proofs.status.Tellers.{HasEnding}
+use Rattle.block_core.proofs.status.ToldEnds.{HasEnding}
 use Rattle.block_core.proofs.status.MarksBehind.{marks_by}
 use Rattle.block_core.proofs.status.NodeBios.{AreOfBios, stays_of_bios}
 use Rattle.block_core.proofs.status.Valued.{may_given, are_valued}

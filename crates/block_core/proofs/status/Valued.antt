@@ -34,7 +34,7 @@ use Rattle.block_core.proofs.moves.Totals.{task_part}
 use Rattle.block_core.proofs.sound.Facts.{Kept}
 use Rattle.block_core.proofs.stuck.Idle.{node_part}
 use Rattle.block_core.proofs.stuck.NothingWaits.{zero_or, both, one-eq}
-use Rattle.block_core.proofs.status.Found.{in_range, some_in_range, in_disk, is_brought, submission_within, at_work, Weighs, IsOfWork, some_weighs}
+use Rattle.block_core.proofs.status.PartsWeigh.{in_range, some_in_range, in_disk, is_brought, submission_within, at_work, Weighs, IsOfWork, some_weighs}
 use Rattle.block_core.proofs.status.Marks.{yes, is, may, bio_may, leg_may, todo_may, write_may, Mark, allowed_by, allowed, decides, lack, mismatch, kind_is, above, unallowed, deciding, IsMarked}
 use Rattle.block_core.proofs.status.NodeBios.{AreOfBios}
 use Rattle.block_core.proofs.status.NodeValues.{is_itself}

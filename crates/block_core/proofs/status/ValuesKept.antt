@@ -13,7 +13,7 @@ use Rattle.block_core.proofs.moves.Misfits.{misfits}
 use Rattle.block_core.proofs.images.StillToCome.{over}
 use Rattle.block_core.proofs.status.RunEndings.{EndingsByParts}
 use Rattle.block_core.proofs.status.MarksBehind.{marks_by, fair_after}
-use Rattle.block_core.proofs.status.Tellers.{HasEnding}
+use Rattle.block_core.proofs.status.ToldEnds.{HasEnding}
 use Rattle.block_core.proofs.status.EndsAllowed.{off_after}
 use Rattle.block_core.proofs.status.EndsDecided.{decided_after}
 

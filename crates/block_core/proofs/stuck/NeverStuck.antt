@@ -18,7 +18,7 @@ use Rattle.block_core.proofs.sound.Facts.{Fair}
 use Rattle.block_core.proofs.sound.Orders.{Ground}
 use Rattle.block_core.proofs.sound.Counters.{Counted, stays_counted}
 use Rattle.block_core.proofs.sound.LargestCounts.{no_counter_is_full}
-use Rattle.block_core.proofs.sound.Wholes.{Whole, step_whole, runs_whole, runs_tallied, runs_posted, runs_long, runs_leveled, runs_waiting, start_whole, start_leveled}
+use Rattle.block_core.proofs.sound.EveryRun.{Whole, step_whole, runs_whole, runs_tallied, runs_posted, runs_long, runs_leveled, runs_waiting, start_whole, start_leveled}
 use Rattle.block_core.proofs.start.FactsAtStart.{start_opened}
 use Rattle.block_core.proofs.start.PostsAtStart.{ids_of, start_posted, start_crew}
 use Rattle.block_core.proofs.start.TallyAtStart.{keeper_place, start_tallied, from_none}

@@ -8,7 +8,7 @@ use Rattle.run_machine.specs.Tasks.{Keeper, Keeps, Starts, Duty}
 use Rattle.block_core.specs.Ending.{RunsEndWithTheirWrites, StartedRoundsAreThere}
 use Rattle.block_core.proofs.images.EndedRuns.{zero_at}
 use Rattle.block_core.proofs.moves.Devices.{ground}
-use Rattle.block_core.proofs.unrefused.Hands.{runs_on, begins_on}
+use Rattle.block_core.proofs.unrefused.NoneFails.{runs_on, begins_on}
 use Rattle.block_core.proofs.sound.Facts.{Fair}
 use Rattle.block_core.proofs.start.FactsAtStart.{start_opened}
 use Rattle.block_core.proofs.sound.Posts.{AtPost, Posted}
@@ -16,7 +16,7 @@ use Rattle.block_core.proofs.start.PostsAtStart.{ids_of, start_posted}
 use Rattle.block_core.proofs.unrefused.Resizes.{home_between}
 use Rattle.block_core.proofs.sound.Rounds.{Tallied, TaskRounds}
 use Rattle.block_core.proofs.start.TallyAtStart.{keeper_place, start_tallied}
-use Rattle.block_core.proofs.sound.Wholes.{runs_leveled, runs_posted, runs_tallied, runs_whole, start_leveled, start_whole}
+use Rattle.block_core.proofs.sound.EveryRun.{runs_leveled, runs_posted, runs_tallied, runs_whole, start_leveled, start_whole}
 
 pub runs_end_with_their_writes : RunsEndWithTheirWrites
 runs_end_with_their_writes s ledger events state good naming run none =

@@ -4,7 +4,7 @@ use Rattle.run_machine.specs.Opened.{scene, start, setup as setup_in}
 use Rattle.block_core.specs.Replies.{RepliesAreEvents}
 use Rattle.block_core.proofs.moves.Devices.{ground}
 use Rattle.block_core.proofs.unrefused.NodeNeeds.{needs_known}
-use Rattle.block_core.proofs.sound.Wholes.{runs_whole, start_whole}
+use Rattle.block_core.proofs.sound.EveryRun.{runs_whole, start_whole}
 use Rattle.block_core.proofs.unrefused.RoomKept.{run_roomy}
 use Rattle.block_core.proofs.unrefused.Ready.{ready}
 use Rattle.block_core.proofs.unrefused.Unbroken.{small, no_task_breaks}

@@ -21,7 +21,7 @@ use Rattle.block_core.specs.Rooms.{need_at, todo_need, legs_need, room, HasRoomI
 use Rattle.block_core.proofs.moves.Moves.{Move, Can, after, lost, gained, limit_of, HasSubmission, touch_by, gathered_of, filled_of, cut_lists}
 use Rattle.block_core.proofs.moves.Moves as moves
 use Rattle.block_core.proofs.moves.Sums.{upd-same, upd-other, same_or_not}
-use Rattle.block_core.proofs.moves.Listed.{landed_same}
+use Rattle.block_core.proofs.moves.SubmissionWeights.{landed_same}
 use Rattle.block_core.proofs.sound.Facts.{TaskFits, Kept}
 use Rattle.block_core.proofs.moves.Geometry.{IsThere}
 use Rattle.block_core.proofs.sound.Orders.{Each, IsOwn, DoingPlaced, TodoThere, TaskPlaced, Placed, Ground}

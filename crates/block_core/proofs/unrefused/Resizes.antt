@@ -19,7 +19,7 @@ use Rattle.block_core.proofs.sound.Facts.{Kept}
 use Rattle.block_core.proofs.moves.Totals.{task_part}
 use Rattle.block_core.proofs.sound.Rounds.{Tallied, TaskRounds}
 use Rattle.block_core.proofs.stuck.Idle.{GoesDown, NoneBegun, node_part, all_home}
-use Rattle.block_core.proofs.unrefused.Hands.{GoesOnCarrying}
+use Rattle.block_core.proofs.unrefused.NoneFails.{GoesOnCarrying}
 
 -- levels go down from each node to those under it
 module _ (scene : Scene) (s : State) (i : Kept scene s) where

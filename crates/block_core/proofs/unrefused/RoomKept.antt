@@ -14,7 +14,7 @@ use Rattle.block_core.proofs.unrefused.NodeNeeds.{Needs, needs_known}
 use Rattle.block_core.proofs.moves.StepMoves.{step_is_move}
 use Rattle.block_core.proofs.unrefused.NodesOpened.{stays_roomy}
 use Rattle.block_core.proofs.start.RoomAtStart.{start_roomy}
-use Rattle.block_core.proofs.sound.Wholes.{Whole, runs_whole, start_whole}
+use Rattle.block_core.proofs.sound.EveryRun.{Whole, runs_whole, start_whole}
 
 module _ (scene : Scene) (f : Fair scene) (g : Ground scene.setup) (n : Needs scene.setup) where
   step_roomy : (s : State) (place : ℕ) (event : Event) (new : State) → Whole scene s → HasRoomInBooks scene s → Steps scene s place event new → HasRoomInBooks scene new

@@ -26,12 +26,12 @@ use Rattle.block_core.proofs.unrefused.NodeNeeds.{needs_known}
 use Rattle.block_core.proofs.start.FactsAtStart.{start_opened}
 use Rattle.block_core.proofs.bound.ChargesAtStart.{zip_sum}
 use Rattle.block_core.proofs.start.StartTotals.{map_sum, filter_sum}
-use Rattle.block_core.proofs.sound.Wholes.{runs_tallied, runs_leveled, start_leveled, runs_whole, start_whole}
+use Rattle.block_core.proofs.sound.EveryRun.{runs_tallied, runs_leveled, start_leveled, runs_whole, start_whole}
 use Rattle.block_core.proofs.unrefused.RoomKept.{run_roomy}
 use Rattle.block_core.proofs.unrefused.Ready.{IsSmall, ready, not_refused}
 use Rattle.block_core.proofs.start.TallyAtStart.{keeper_place, start_tallied}
 use Rattle.block_core.proofs.unrefused.Resizes.{nothing_out}
-use Rattle.block_core.proofs.unrefused.Hands.{GoesOnCarrying, runs_on, begins_on}
+use Rattle.block_core.proofs.unrefused.NoneFails.{GoesOnCarrying, runs_on, begins_on}
 
 -- what fits did not break off
 unbroken_submission : (scene : Scene) (doing : Doing) (lists : TaskLists) → DoingFits scene.setup doing lists → doing_breach doing ≡ None

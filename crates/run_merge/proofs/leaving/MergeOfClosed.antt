@@ -37,7 +37,7 @@ use Rattle.run_merge.specs.Merging.{Ticketed, all_of, done_by, sorted}
 use Rattle.run_merge.specs.ObjectsByName.{made_of}
 use Rattle.run_merge.specs.Outcomes.{shared_scenario, shared_ledger, histories_in, histories_by, state_in, IsOutcomeOf}
 use Rattle.run_merge.specs.SharedObjects.{DrewAsEvent, entry_histories, seen_at, state_left, ticketed}
-use Rattle.run_merge.proofs.closes.Closes.{closes_are_runs}
+use Rattle.run_merge.proofs.closes.EnoughShown.{closes_are_runs}
 use Rattle.run_merge.proofs.closes.Events.{histories_are}
 use Rattle.run_merge.proofs.closes.Sorting.{picks_mine}
 use Rattle.run_merge.proofs.closing.Counts.{merge_length}

@@ -18,7 +18,7 @@ use Rattle.block_core.proofs.sound.Orders.{Ground}
 use Rattle.block_core.proofs.sound.Rounds.{DutiesFit, TaskRounds, Tallied}
 use Rattle.block_core.proofs.start.TallyAtStart.{keeper_place, start_tallied}
 use Rattle.block_core.proofs.moves.Sums.{one-same, one-other, same_or_not, below_or}
-use Rattle.block_core.proofs.sound.Wholes.{Whole, runs_whole, runs_done, runs_tallied, start_whole, stage_once}
+use Rattle.block_core.proofs.sound.EveryRun.{Whole, runs_whole, runs_done, runs_tallied, start_whole, stage_once}
 use Rattle.run_merge.specs.Entries.{Entry}
 use Rattle.run_merge.specs.Products.{AreDone, AreOfRun}
 use Rattle.run_merge.proofs.products.Ends.{ends, ended_is_told, told_is_ended}

@@ -15,7 +15,7 @@ use Rattle.run_machine.specs.Submissions.{Doing, Rests, Drives, Copies, Breaks, 
 use Rattle.run_machine.specs.Tasks.{Carried, Empty, Brings, Carries, Fails, TaskState, Writer, Rescuer, Completer, Keeper}
 use Rattle.run_machine.specs.Runs.{State}
 use Rattle.block_core.specs.Weights.{Weight, Rescued, Pending, total, one, names_node as refers, under, refs, legs_left, doing_weight, submission_weight, carried_weight, task_weight}
-use Rattle.block_core.proofs.moves.Marked.{with_mark, mark_still, mark_other, no_ref, elsewhere}
+use Rattle.block_core.proofs.moves.VacantMarks.{with_mark, mark_still, mark_other, no_ref, elsewhere}
 use Rattle.block_core.proofs.moves.Totals.{part_of}
 use Rattle.block_core.proofs.stuck.Idle.{node_part}
 use Rattle.block_core.proofs.sound.Facts.{Kept}

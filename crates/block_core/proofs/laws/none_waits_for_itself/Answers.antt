@@ -1,4 +1,4 @@
-use Rattle.block_core.proofs.sound.Wholes.{none_waits_for_itself}
+use Rattle.block_core.proofs.sound.EveryRun.{none_waits_for_itself}
 use Rattle.block_core.proofs.laws.none_waits_for_itself.Goals as goal
 
 -- src/laws.rt

@@ -15,7 +15,7 @@ use Rattle.block_core.proofs.sound.Orders.{Ground}
 use Rattle.block_core.proofs.sound.TaskSubmissions.{all-upd}
 use Rattle.block_core.proofs.moves.StepMoves.{step_is_move}
 use Rattle.block_core.proofs.start.FactsAtStart.{Begins}
-use Rattle.block_core.proofs.sound.Wholes.{Whole, runs_whole}
+use Rattle.block_core.proofs.sound.EveryRun.{Whole, runs_whole}
 
 -- something is taken for a write alone
 abbrev pub IsForOne : List Todo → Gathered → Type 0
