@@ -1,5 +1,5 @@
 pub mod Counted
-pub mod Seated
+pub mod Entered
 pub mod Opened
 pub mod Readable
 pub mod Seen

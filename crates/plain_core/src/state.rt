@@ -12,9 +12,9 @@ ghost use Rattle.plain_core.specs.Cores.{scene_of_core, state_of_core, task_at, 
 use crate::fault::CoreFault;
 use crate::objects::{Objects, pool_place};
 use crate::opening::objects::open_objects;
-use crate::opening::seats::slot_of;
 use crate::opening::seen_objects::objects_seen;
 use crate::opening::seen_tasks::tasks_seen;
+use crate::opening::slots::slot_of;
 use crate::steps::free::task_is_free;
 use crate::steps::task::Task;
 use crate::steps::task_step;

@@ -143,5 +143,5 @@ module _ (plain : Plain) (holds : Holds plain) where
       sym (
       sym (map-map (objects_of plain).disk (λ (dev : DevId). dev.0) (disks_of stack))
       ∙ ap (map (objects_of plain).disk) (sym (numbers is_disk_at 0 stack.devices.items kinds))
-      ∙ found_all disk_number (no_disk stack) is_disk_at (length stack.devices.items) 0 plain.disks.items holds.seated.order
+      ∙ found_all disk_number (no_disk stack) is_disk_at (length stack.devices.items) 0 plain.disks.items holds.entered.order
       )

@@ -79,21 +79,21 @@ module _ (locks : Locks) (can : CanShare locks.common.value.opened) (round : Are
   hold = record {
     opened = can.holds;
     bios = row_locked set_key pool_mark OfPool (λ (p : LedgerPool). p.ledger.no) common (λ o. refl) plain.bios.items locks.bios.items round.bios
-        (is_bios (stage_of plain)) locks.index.bios (tables (λ i. AreAt set_number (is_bios (stage_of plain)) i.bios plain.bios.items) can.holds.seated.bios) (λ k d lt. (can.bios k d lt).1);
+        (is_bios (stage_of plain)) locks.index.bios (tables (λ i. AreAt set_number (is_bios (stage_of plain)) i.bios plain.bios.items) can.holds.entered.bios) (λ k d lt. (can.bios k d lt).1);
     vecs = ap pool_mark round.vecs ∙ ap (λ n. record { common = common; name = OfPool n }) can.vecs.1;
     records = row_locked slip_key pool_mark OfPool (λ (p : LedgerPool). p.ledger.no) common (λ o. refl) plain.records.items locks.records.items round.records
-        (is_slips (stage_of plain)) locks.index.records (tables (λ i. AreAt records_number (is_slips (stage_of plain)) i.records plain.records.items) can.holds.seated.records) (λ k d lt. (can.records k d lt).1);
+        (is_slips (stage_of plain)) locks.index.records (tables (λ i. AreAt records_number (is_slips (stage_of plain)) i.records plain.records.items) can.holds.entered.records) (λ k d lt. (can.records k d lt).1);
     lists = row_locked dev_key list_mark OfRescuer (λ (r : Rescue). r.dev.0) common (λ o. refl) plain.lists.items locks.lists.items round.lists
         (λ dev. has_rescuer (stage_of plain) (at dev)) locks.index.lists
-        (tables (λ i. AreAt list_number (λ dev. has_rescuer (stage_of plain) (at dev)) i.lists plain.lists.items) can.holds.seated.lists) (λ k d lt. (can.lists k d lt).1);
+        (tables (λ i. AreAt list_number (λ dev. has_rescuer (stage_of plain) (at dev)) i.lists plain.lists.items) can.holds.entered.lists) (λ k d lt. (can.lists k d lt).1);
     disks = are_locked dev_key disk_mark OfDisk (λ (disk : DiskState). disk.dev.0) common (λ o. refl) (disks_by_device plain.disks.items) locks.disks.items round.disks
         disk_number (λ dev. has_disk (stage_of plain) (at dev)) locks.index.disks plain.disks.items
         (weaker_two _ (λ (disk : DiskState) (lock : DevId × LockId (Held DiskState)). dev_key lock.0 ≡ disk_number disk) (λ disk lock is. ap dev_key is.0) plain.disks.items locks.disks.items
         (of_made (λ (disk : DiskState). (disk.dev, disk)) _ plain.disks.items locks.disks.items round.disks))
-        (tables (λ i. AreAt disk_number (λ dev. has_disk (stage_of plain) (at dev)) i.disks plain.disks.items) can.holds.seated.disks)
+        (tables (λ i. AreAt disk_number (λ dev. has_disk (stage_of plain) (at dev)) i.disks plain.disks.items) can.holds.entered.disks)
         (All-map (λ (entry : DevId × DiskState). entry.1.dev.0 ≡ dev_key entry.0) (λ (disk : DiskState). (disk.dev, disk)) plain.disks.items (λ k d lt. refl));
     books = row_locked writer_key book_mark OfBook (λ (b : BookState). b.writer) common (λ o. refl) plain.books.items locks.books.items round.books
-        (has_book (stage_of plain)) locks.index.books (tables (λ i. AreAt book_number (has_book (stage_of plain)) i.books plain.books.items) can.holds.seated.books) (λ k d lt. (can.books k d lt).1);
+        (has_book (stage_of plain)) locks.index.books (tables (λ i. AreAt book_number (has_book (stage_of plain)) i.books plain.books.items) can.holds.entered.books) (λ k d lt. (can.books k d lt).1);
     tally = ap tally_mark round.tally;
   }
 

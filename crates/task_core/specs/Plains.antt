@@ -97,7 +97,7 @@ stage_of plain = record {
 }
 
 -- Each object that a stack has stands where the tables say, and the disks stand in the order of the devices.
-pub record AreSeated (plain : Plain) : Type 0 where
+pub record AreEntered (plain : Plain) : Type 0 where
   pub bios : AreAt set_number (is_bios (stage_of plain)) plain.index.bios plain.bios.items
   pub records : AreAt records_number (is_slips (stage_of plain)) plain.index.records plain.records.items
   pub lists : AreAt list_number (λ dev. has_rescuer (stage_of plain) (at dev)) plain.index.lists plain.lists.items
@@ -109,7 +109,7 @@ pub record AreSeated (plain : Plain) : Type 0 where
 pub record Holds (plain : Plain) : Type 0 where
   pub stack_is : IsStack plain.stage.value.stack
   pub numbered : AreNumbered (stage_of plain)
-  pub seated : AreSeated plain
+  pub entered : AreEntered plain
   pub objects : AreObjectsOf (stage_of plain) (objects_of plain)
 
 -- the round behind the present one becomes the present one, where there is one

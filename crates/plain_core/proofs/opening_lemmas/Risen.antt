@@ -21,11 +21,11 @@ use Rattle.task_steps.specs.TaskViews.{TaskOf}
 use Rattle.run_machine.specs.Tasks.{TaskState, Duty, Resizes, Starts, NoBio, Empty, Keeps, Writer, Rescuer, Completer, Keeper}
 use Rattle.plain_core.specs.declared.steps.task.Task.{Task}
 use Rattle.plain_core.specs.Cores.{slot_of}
-use Rattle.plain_core.specs.opening.Opening.{AreTasksSeated, CanOpen, Seats, scenario_by}
+use Rattle.plain_core.specs.opening.Opening.{AreTasksEntered, CanOpen, Enters, scenario_by}
 use Rattle.plain_core.specs.opening.Seen.{HasNotBegun, Rises}
 use Rattle.plain_core.specs.steps.Duties.{IsOfPool}
 use Rattle.plain_core.specs.steps.Views.{task_of_plain}
-use Rattle.plain_core.proofs.opening_lemmas.Seated.{seated_on}
+use Rattle.plain_core.proofs.opening_lemmas.Entered.{entered_on}
 use Rattle.task_core.proofs.opened.ScriptsBehind.{all_flat}
 use Rattle.task_core.proofs.opened.Setups.{states_are}
 use Rattle.plain_core.proofs.opening_lemmas.Opened.{shared}
@@ -130,11 +130,11 @@ module _ (tasks : List TaskOf) (count : ℕ) (task : TaskOf) (lt : count < lengt
   pub first_at : All HasNotBegun (states tasks) → HasNotBegun task.state
   first_at all = subst HasNotBegun (sym state_at) (all count no_task (omega (arith, lt, length-map tasks (λ (t : TaskOf). t.state))))
 
--- one task more is seated
+-- one task more is entered
 pub record AreSeen (all : List TaskState) (count : ℕ) (seen : List Task) (places : List ℕ) : Type 0 where
   pub told : map task_of_plain seen ≡ take count all
   pub low : ℕ
-  pub seated : AreTasksSeated (map task_of_plain seen) places low
+  pub entered : AreTasksEntered (map task_of_plain seen) places low
   pub rest : Rises low (drop count all) 73
 
 module _ (tasks : List TaskOf) (count : ℕ) (seen : List Task) (places : List ℕ) (so_far : AreSeen (states tasks) count seen places) (lt : count < length tasks) where
@@ -148,22 +148,22 @@ module _ (tasks : List TaskOf) (count : ℕ) (seen : List Task) (places : List �
   rest_rises = subst (λ ts. Rises so_far.low ts 73) (at_drop_more (λ ts. ts) (states tasks) count no_task here) so_far.rest
 
   module _ (task : TaskState) (is : task ≡ next) where
-    pub seat_small : slot_of (id_of task) < 73
-    seat_small =
+    pub enter_small : slot_of (id_of task) < 73
+    enter_small =
         let past = rises_to (slot_of (id_of next) + 1) (drop (count + 1) (states tasks)) 73 rest_rises.1 in
         let same = ap (λ t. slot_of (id_of t)) is in
         omega (arith, past, same)
 
-    pub seat_ready : AreTasksSeated (map task_of_plain seen) places (slot_of (id_of task))
-    seat_ready =
+    pub enter_ready : AreTasksEntered (map task_of_plain seen) places (slot_of (id_of task))
+    enter_ready =
         let first = rest_rises.0 in
         let same = ap (λ t. slot_of (id_of t)) is in
-        seated_on (map task_of_plain seen) places so_far.low (slot_of (id_of task)) (omega (arith, first, same)) so_far.seated
+        entered_on (map task_of_plain seen) places so_far.low (slot_of (id_of task)) (omega (arith, first, same)) so_far.entered
 
-    pub one_seen : (after : List Task) (table : List ℕ) → Seats seen (task ∷ []) after table (slot_of (id_of task) + 1) → AreSeen (states tasks) (count + 1) after table
-    one_seen after table seats = record {
-      told = seats.0 ∙ ap (λ ts. ts ++ task ∷ []) so_far.told ∙ ap (λ t. take count (states tasks) ++ t ∷ []) is ∙ sym (take_more (states tasks) count no_task here);
+    pub one_seen : (after : List Task) (table : List ℕ) → Enters seen (task ∷ []) after table (slot_of (id_of task) + 1) → AreSeen (states tasks) (count + 1) after table
+    one_seen after table enters = record {
+      told = enters.0 ∙ ap (λ ts. ts ++ task ∷ []) so_far.told ∙ ap (λ t. take count (states tasks) ++ t ∷ []) is ∙ sym (take_more (states tasks) count no_task here);
       low = slot_of (id_of task) + 1;
-      seated = seats.1;
+      entered = enters.1;
       rest = subst (λ (t : TaskState). Rises (slot_of (id_of t) + 1) (drop (count + 1) (states tasks)) 73) (sym is) rest_rises.1;
     }

@@ -13,7 +13,7 @@ use Rattle.plain_core.specs.objects.Plain.{CoreObjects}
 use Rattle.plain_core.specs.steps.Views.{task_of_plain}
 use Rattle.plain_core.specs.Cores.{CoreState, scene_of_core, state_of_core, task_at}
 use Rattle.plain_core.specs.steps.Free.{IsFirstFree, IsFreeAt, TaskIsFree}
-use Rattle.plain_core.proofs.opening_lemmas.Seated.{last_or}
+use Rattle.plain_core.proofs.opening_lemmas.Entered.{last_or}
 
 pub free_at : (c : CoreState) (place : ℕ) → place < length c.tasks → TaskIsFree c.routing c.objects (task_at c.tasks place) → IsFreeAt c place
 free_at c place here f = record {

@@ -98,7 +98,7 @@ abbrev pub core_objects_of : Scenario → List ℕ → CoreObjects
 core_objects_of s places = new_core_objects s.stack s.scripts places (objects s).tally
 
 -- each task is found, and the slots of those still to come are this one and higher ones
-pub record AreTasksSeated (tasks : List TaskState) (places : List ℕ) (slot : ℕ) : Type 0 where
+pub record AreTasksEntered (tasks : List TaskState) (places : List ℕ) (slot : ℕ) : Type 0 where
   pub found : AreFound places tasks
   pub below : All (λ task. slot_of (id_of task) < slot) tasks
   pub few : length tasks ≤ slot
@@ -108,10 +108,10 @@ pub record AreTasksSeated (tasks : List TaskState) (places : List ℕ) (slot : �
 abbrev pub task_slot : Task → ℕ
 task_slot task = slot_of (id_of (task_of_plain task))
 
--- these tasks were seated behind the others
-abbrev pub Seats : List Task → List TaskState → List Task → List ℕ → ℕ → Type 0
-Seats old more new places slot = (map task_of_plain new ≡ map task_of_plain old ++ more) × AreTasksSeated (map task_of_plain new) places slot
+-- these tasks were entered behind the others
+abbrev pub Enters : List Task → List TaskState → List Task → List ℕ → ℕ → Type 0
+Enters old more new places slot = (map task_of_plain new ≡ map task_of_plain old ++ more) × AreTasksEntered (map task_of_plain new) places slot
 
 -- these tasks are those, and each is found
-abbrev pub IsSeating : List Task → List ℕ → List TaskState → Type 0
-IsSeating tasks places all = (map task_of_plain tasks ≡ all) × AreFound places (map task_of_plain tasks)
+abbrev pub IsEntering : List Task → List ℕ → List TaskState → Type 0
+IsEntering tasks places all = (map task_of_plain tasks ≡ all) × AreFound places (map task_of_plain tasks)

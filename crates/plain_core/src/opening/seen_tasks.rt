@@ -5,9 +5,9 @@ ghost use Rattle.run_machine.specs.Tasks.{Keeper as Keeping};
 ghost use Rattle.task_steps.specs.WriterViews.{writer_task};
 ghost use Rattle.plain_core.specs.opening.Seen.{HasNotBegun, Rises};
 ghost use Rattle.plain_core.specs.steps.Views.{keeper_of, task_of_plain, writer_of};
-ghost use Rattle.plain_core.specs.opening.Opening.{IsSeating};
+ghost use Rattle.plain_core.specs.opening.Opening.{IsEntering};
 
-use crate::opening::seats::{open_slots, resting, seat};
+use crate::opening::slots::{enter, open_slots, resting};
 use crate::steps::task::{Carried, Completer, Gathered, Keeper, Rescuer, Task, Writer};
 use std::alloc::{AllocError, Global};
 use task_core as opened;
@@ -63,13 +63,13 @@ pub fn tasks_seen(
 ) -> Result<(Vec<Task>, Vec<u32>), AllocError>
     requires first { All HasNotBegun (states tasks.now) }
     requires rising { Rises 0 (states tasks.now) 73 }
-    ensures { IfOk result (λ seen. IsSeating seen.0.items seen.1.items (states tasks.now)) }
+    ensures { IfOk result (λ seen. IsEntering seen.0.items seen.1.items (states tasks.now)) }
 {
     let mut seen = Vec::with_capacity(alloc, tasks.len())?;
     let mut places = open_slots(alloc)?;
     'seeing: for i in 0..tasks.len() {
         let task = task_seen(alloc, &tasks[i])?;
-        seat(&mut seen, &mut places, task)?;
+        enter(&mut seen, &mut places, task)?;
     }
     Ok((seen, places))
 }

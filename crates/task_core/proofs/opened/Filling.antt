@@ -82,8 +82,8 @@ module _ {E : Type 0} (key : E → ℕ) (number : ℕ → ℕ) (is_used : ℕ �
           | inl before ↦ all.made i before used
           | inr last ↦ absurd (clash i last used)
         ];
-        seated = λ i lt used. elim (below_or_last i n lt) [
-          | inl before ↦ all.seated i before used
+        entered = λ i lt used. elim (below_or_last i n lt) [
+          | inl before ↦ all.entered i before used
           | inr last ↦ absurd (clash i last used)
         ];
         no_other = λ k none. all.no_other k (λ i lt used. none i (omega (arith, lt)) used);
@@ -113,7 +113,7 @@ module _ {E : Type 0} (key : E → ℕ) (number : ℕ → ℕ) (is_used : ℕ �
 
     old_at : (i : ℕ) → i < n → is_used i ≡ true → IsAt key (set table (number n) (length entries)) (entries ++ entry ∷ []) (number i)
     old_at i lt is =
-        let old : IsAt key table entries (number i) = all.seated i lt is in
+        let old : IsAt key table entries (number i) = all.entered i lt is in
         let stays : get_or (set table (number n) (length entries)) (number i) 0 ≡ get_or table (number i) 0 =
         get_or-set_other table (number n) (number i) (length entries) 0 (apart i lt) in
         let there = old.there in
@@ -140,7 +140,7 @@ module _ {E : Type 0} (key : E → ℕ) (number : ℕ → ℕ) (is_used : ℕ �
         record {
           few = omega (arith, few, long);
           made = made_at;
-          seated = λ i lt is. elim (below_or_last i n lt) [
+          entered = λ i lt is. elim (below_or_last i n lt) [
             | inl before ↦ old_at i before is
             | inr last ↦ subst (λ j. IsAt key (set table (number n) (length entries)) (entries ++ entry ∷ []) (number j)) (sym last) new_at
           ];
@@ -153,15 +153,15 @@ module _ {E : Type 0} (key : E → ℕ) (number : ℕ → ℕ) (is_used : ℕ �
   pub one_more : (more : List E) (after : List ℕ) → ((i : ℕ) → i < n → number i ≢ number n) → number n < length table
       → IsNext key number is_used IsMade n entries table more after
       → AreMade key number is_used IsMade (n + 1) more after × (length after ≡ length table)
-  one_more more after apart inside (inl (used, entry, made, keyed, items, seats)) = (
+  one_more more after apart inside (inl (used, entry, made, keyed, items, enters)) = (
     subst (λ xs. AreMade key number is_used IsMade (n + 1) xs after) (sym items)
-        (subst (AreMade key number is_used IsMade (n + 1) (entries ++ entry ∷ [])) (sym seats) (added entry made keyed used apart inside)),
-    ap length seats ∙ length-set table (number n) (length entries),
+        (subst (AreMade key number is_used IsMade (n + 1) (entries ++ entry ∷ [])) (sym enters) (added entry made keyed used apart inside)),
+    ap length enters ∙ length-set table (number n) (length entries),
   )
-  one_more more after apart inside (inr (not_used, items, seats)) = (
+  one_more more after apart inside (inr (not_used, items, enters)) = (
     subst (λ xs. AreMade key number is_used IsMade (n + 1) xs after) (sym items)
-        (subst (AreMade key number is_used IsMade (n + 1) entries) (sym seats) (passed not_used)),
-    ap length seats,
+        (subst (AreMade key number is_used IsMade (n + 1) entries) (sym enters) (passed not_used)),
+    ap length enters,
   )
 
 -- none is made yet
@@ -170,7 +170,7 @@ pub none_made : {E : Type 0} (key : E → ℕ) (number : ℕ → ℕ) (is_used :
 none_made key number is_used IsMade table = record {
   few = omega arith;
   made = λ index lt used. absurd (omega (arith, lt));
-  seated = λ index lt used. absurd (omega (arith, lt));
+  entered = λ index lt used. absurd (omega (arith, lt));
   no_other = λ other none. refl;
   order = refl;
 }

@@ -32,7 +32,7 @@ use Rattle.run_machine.specs.Objects.{Objects, TallyState}
 use Rattle.task_core.specs.ObjectsOf.{AreObjectsOf, IsNodeOf}
 use Rattle.run_machine.specs.Opened.{at, reserve_of, script_at}
 use Rattle.task_core.specs.opened.Openings.{has_pool, opened_objects, widest, AreOpened, IsNewPool, set_at, set_index, uses_set, IsNewSet, AreSets, slip_index, uses_slips, IsNewRecords, AreRecords, itself, uses_disk, IsNewDisk, AreDisks, uses_list, IsNewList, AreLists, uses_book, IsNewBook, AreBooks}
-use Rattle.task_core.specs.Plains.{set_number, records_number, no_pool, list_number, disk_number, book_number, no_disk, no_book, by_kind, pool_at, tally_of, objects_of, stage_of, AreSeated}
+use Rattle.task_core.specs.Plains.{set_number, records_number, no_pool, list_number, disk_number, book_number, no_disk, no_book, by_kind, pool_at, tally_of, objects_of, stage_of, AreEntered}
 use Rattle.task_steps.specs.Routed.{Routing, places_at, routing_setup}
 use Rattle.run_machine.specs.Scene.{has_set}
 use Rattle.task_steps.specs.Stage.{Stage, IsServed}
@@ -73,8 +73,8 @@ module _ {E : Type 0} (key : E → ℕ) (is_used : ℕ → Bool) (IsMade : ℕ �
           clash : (i n : ℕ) → i ≡ n → is_used i ≡ true → is_used n ≡ false → ⊥
           clash i n e used q = let p : is_used n ≡ true = ap is_used (sym e) ∙ used in cc
 
-  pub seats_made : AreAt key is_used table entries
-  seats_made = λ n used. all.seated n (below n used) used
+  pub enters_made : AreAt key is_used table entries
+  enters_made = λ n used. all.entered n (below n used) used
 
   pub order_made : map key entries ≡ filter is_used (range_with_len 0 bound)
   order_made = all.order ∙ map-id (filter is_used (range_with_len 0 bound))
@@ -179,15 +179,15 @@ module _ (routing : Routing) (good : IsStack routing.stack) (scripts : List (Poo
             let half : number / 2 ≡ dev = omega (arith, e) in
             let is : has_set (routing_setup routing) (number / 2) ≡ true = ap (has_set (routing_setup routing)) half ∙ used in cc
 
-    sets_seated : (number : ℕ) (fs even : Bool) → (number == 65) ≡ fs → (number % 2 == 0) ≡ even
+    sets_entered : (number : ℕ) (fs even : Bool) → (number == 65) ≡ fs → (number % 2 == 0) ≡ even
         → (fs || even && has_set (routing_setup routing) (number / 2)) ≡ true → IsAt set_number table bios number
-    sets_seated number true even q r is = subst (IsAt set_number table bios) (sym (same_by number 65 q)) (all.seated 0 (omega arith) refl)
-    sets_seated number false true q r is =
+    sets_entered number true even q r is = subst (IsAt set_number table bios) (sym (same_by number 65 q)) (all.entered 0 (omega arith) refl)
+    sets_entered number false true q r is =
         let zero_left = same_by (number % 2) 0 r in
         let lt = set_below (number / 2) is in
         let whole : 2 * (number / 2) ≡ number = omega (arith, zero_left) in
-        subst (IsAt set_number table bios) whole (all.seated (suc (number / 2)) (omega (arith, lt)) is)
-    sets_seated number false false q r is = absurd (cc_false is)
+        subst (IsAt set_number table bios) whole (all.entered (suc (number / 2)) (omega (arith, lt)) is)
+    sets_entered number false false q r is = absurd (cc_false is)
       where
         cc_false : false ≡ true → ⊥
         cc_false e = cc
@@ -214,13 +214,13 @@ module _ (routing : Routing) (good : IsStack routing.stack) (scripts : List (Poo
             let half : number / 2 ≡ dev = omega (arith, e) in
             let is : uses_slips routing (number / 2) ≡ true = ap (uses_slips routing) half ∙ used in cc
 
-    slips_seated : (number : ℕ) (odd : Bool) → (number % 2 == 1) ≡ odd → (odd && uses_slips routing (number / 2)) ≡ true
+    slips_entered : (number : ℕ) (odd : Bool) → (number % 2 == 1) ≡ odd → (odd && uses_slips routing (number / 2)) ≡ true
         → IsAt records_number table records number
-    slips_seated number true r is =
+    slips_entered number true r is =
         let one_left = same_by (number % 2) 1 r in
         let whole : 2 * (number / 2) + 1 ≡ number = omega (arith, one_left) in
-        subst (IsAt records_number table records) whole (all.seated (number / 2) (slips_below (number / 2) is) is)
-    slips_seated number false r is = absurd (cc_false is)
+        subst (IsAt records_number table records) whole (all.entered (number / 2) (slips_below (number / 2) is) is)
+    slips_entered number false r is = absurd (cc_false is)
       where
         cc_false : false ≡ true → ⊥
         cc_false e = cc
@@ -314,13 +314,13 @@ module _ (plain : Plain) (good : IsStack plain.stage.value.stack) (scripts : Lis
       ∙ ap (λ disk. objects_with (opened_objects routing scripts tally).pool (λ dev. []) disk given.book tally) (disks_are routing plain.disks.items plain.index.disks disks)
       ∙ ap (λ book. objects_with (opened_objects routing scripts tally).pool (λ dev. []) (no_disk routing.stack) book tally) (books_are routing plain.books.items plain.index.books books book_below)
 
-  seated : AreSeated plain
-  seated = record {
-    bios = λ number is. sets_seated routing good scripts reserves no_other plain.vecs.ledger plain.bios.items plain.index.bios bios number (number == 65) (number % 2 == 0) refl refl is;
-    records = λ number is. slips_seated routing good scripts reserves no_other plain.vecs.ledger plain.records.items plain.index.records records number (number % 2 == 1) refl is;
-    lists = seats_made list_number (uses_list routing) IsNewList (length routing.stack.devices.items) plain.lists.items plain.index.lists lists (list_below routing);
-    disks = seats_made disk_number (uses_disk routing) (IsNewDisk routing) (length routing.stack.devices.items) plain.disks.items plain.index.disks disks (disk_below routing);
-    books = seats_made book_number (uses_book routing) (IsNewBook routing) 8 plain.books.items plain.index.books books book_below;
+  entered : AreEntered plain
+  entered = record {
+    bios = λ number is. sets_entered routing good scripts reserves no_other plain.vecs.ledger plain.bios.items plain.index.bios bios number (number == 65) (number % 2 == 0) refl refl is;
+    records = λ number is. slips_entered routing good scripts reserves no_other plain.vecs.ledger plain.records.items plain.index.records records number (number % 2 == 1) refl is;
+    lists = enters_made list_number (uses_list routing) IsNewList (length routing.stack.devices.items) plain.lists.items plain.index.lists lists (list_below routing);
+    disks = enters_made disk_number (uses_disk routing) (IsNewDisk routing) (length routing.stack.devices.items) plain.disks.items plain.index.disks disks (disk_below routing);
+    books = enters_made book_number (uses_book routing) (IsNewBook routing) 8 plain.books.items plain.index.books books book_below;
     order = order_made disk_number (uses_disk routing) (IsNewDisk routing) (length routing.stack.devices.items) plain.disks.items plain.index.disks disks (disk_below routing);
   }
 
@@ -346,7 +346,7 @@ module _ (plain : Plain) (good : IsStack plain.stage.value.stack) (scripts : Lis
     holds = record {
       stack_is = good;
       numbered = λ number. (each_pool number).numbered;
-      seated = seated;
+      entered = entered;
       objects = subst (AreObjectsOf stage) (sym objects_are) new_objects;
     };
     routing_is = refl;

@@ -22,7 +22,7 @@ use Rattle.task_steps.specs.Stage.{has_rescuer, has_disk, has_book, IsServed, Ar
 use Rattle.task_steps.specs.Views.{popped_reply}
 use Rattle.task_core.specs.Plains.{objects_of, stage_of, Holds}
 use Rattle.run_machine.proofs.Frames.{upd_own}
-use Rattle.task_core.proofs.own.PlainLemmas.{kept_by, owed_by, with_lists, with_disks, with_books, list_there, list_changes, list_now, lists_seated, disk_there, disk_changes, disk_now, disks_seated, book_there, book_changes, book_now, books_seated}
+use Rattle.task_core.proofs.own.PlainLemmas.{kept_by, owed_by, with_lists, with_disks, with_books, list_there, list_changes, list_now, lists_entered, disk_there, disk_changes, disk_now, disks_entered, book_there, book_changes, book_now, books_entered}
 
 -- lists of rescuers
 module _ (plain : Plain) (holds : Holds plain) (dev : DevId) (is : IsTrue (has_rescuer (stage_of plain) dev)) (i : ℕ)
@@ -36,7 +36,7 @@ module _ (plain : Plain) (holds : Holds plain) (dev : DevId) (is : IsTrue (has_r
 
     pub punted_kept : Holds (with_lists plain i entry.0 x) × (stage_of (with_lists plain i entry.0 x) ≡ stage_of plain)
     punted_kept =
-        kept_by plain (with_lists plain i entry.0 x) (Punt dev moved) Did holds (is, fits) refl (lists_seated plain holds dev.0 i is place entry value x) punted
+        kept_by plain (with_lists plain i entry.0 x) (Punt dev moved) Did holds (is, fits) refl (lists_entered plain holds dev.0 i is place entry value x) punted
 
   pops : (result : Option (Element (BioBody Pad)))
       → MatchOption result ((entry.1.bios ≡ []) × (x.bios ≡ [])) (λ element. (entry.1.bios ≡ item_of element ∷ x.bios) × IsAlone element)
@@ -66,7 +66,7 @@ module _ (plain : Plain) (holds : Holds plain) (dev : DevId) (is : IsTrue (has_r
     pub popped_kept : Holds (with_lists plain i entry.0 x) × (stage_of (with_lists plain i entry.0 x) ≡ stage_of plain)
     popped_kept =
         kept_by plain (with_lists plain i entry.0 x) (Pop dev) (popped_reply (Ok result)) holds is refl
-        (lists_seated plain holds dev.0 i is place entry value x) popped_served
+        (lists_entered plain holds dev.0 i is place entry value x) popped_served
 
 -- disks
 module _ (plain : Plain) (holds : Holds plain) (bio : Item Pad) (fits : IsServed (stage_of plain) bio × IsTrue (has_disk (stage_of plain) bio.bio.dev)) (i : ℕ)
@@ -90,7 +90,7 @@ module _ (plain : Plain) (holds : Holds plain) (bio : Item Pad) (fits : IsServed
     pub push_kept : Holds (with_disks plain i x) × (stage_of (with_disks plain i x) ≡ stage_of plain)
     push_kept =
         kept_by plain (with_disks plain i x) (Push bio) Did holds fits refl
-        (disks_seated plain holds bio.bio.dev.0 i fits.1 place entry value x (ap (λ (d : DiskState). d.dev) push)) push_served
+        (disks_entered plain holds bio.bio.dev.0 i fits.1 place entry value x (ap (λ (d : DiskState). d.dev) push)) push_served
 
 no_least : (n : ℕ) → min n (2 ^ 64 - 1) ≡ 0 → n ≡ 0
 no_least n e = omega (arith, e)
@@ -128,7 +128,7 @@ module _ (plain : Plain) (holds : Holds plain) (disk : DevId) (is : IsTrue (has_
     pub complete_kept : Holds (with_disks plain i x) × (stage_of (with_disks plain i x) ≡ stage_of plain)
     complete_kept =
         kept_by plain (with_disks plain i x) (Complete disk) (Completed index bio status) holds is refl
-        (disks_seated plain holds disk.0 i is place entry value x same_disk) complete_served
+        (disks_entered plain holds disk.0 i is place entry value x same_disk) complete_served
 
 -- books
 module _ (plain : Plain) (holds : Holds plain) (writer : ℕ) (is : IsTrue (has_book (stage_of plain) writer)) (i : ℕ)
@@ -158,7 +158,7 @@ module _ (plain : Plain) (holds : Holds plain) (writer : ℕ) (is : IsTrue (has_
     pub link_kept : Holds (with_books plain i entry.0 x) × (stage_of (with_books plain i entry.0 x) ≡ stage_of plain)
     link_kept =
         kept_by plain (with_books plain i entry.0 x) (Link writer opening) (LinkedTo answer) holds (is, fits) refl
-        (books_seated plain holds writer i is place entry value x) link_served
+        (books_entered plain holds writer i is place entry value x) link_served
 
   module _ (node : ℕ) (status : Status) (part : Option (Item Pad)) (fits : IsBioHome (stage_of plain) part) (ended : Ended)
       (drops : Drops entry.1 node status part ended x) where
@@ -175,4 +175,4 @@ module _ (plain : Plain) (holds : Holds plain) (writer : ℕ) (is : IsTrue (has_
     pub drop_kept : Holds (with_books plain i entry.0 x) × (stage_of (with_books plain i entry.0 x) ≡ stage_of plain)
     drop_kept =
         kept_by plain (with_books plain i entry.0 x) (Drop writer node status part) (DroppedTo ended) holds (is, fits) refl
-        (books_seated plain holds writer i is place entry value x) drop_served
+        (books_entered plain holds writer i is place entry value x) drop_served

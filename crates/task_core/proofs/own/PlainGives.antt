@@ -15,7 +15,7 @@ use Rattle.run_machine.specs.Requests.{GiveBio, GiveVec, GiveSlip, Did}
 use Rattle.run_machine.specs.Objects.{PoolMoves, Serves}
 use Rattle.task_steps.specs.Stage.{is_bios, is_vecs, is_slips, IsHome}
 use Rattle.task_core.specs.Plains.{pool_at, objects_of, stage_of, Holds}
-use Rattle.task_core.proofs.own.PlainLemmas.{kept_by, with_bios, with_records, with_vecs, bios_there, bios_seated, bios_move, bios_stage, records_there, records_seated, records_move, records_stage, vecs_seated, vecs_move, vecs_stage}
+use Rattle.task_core.proofs.own.PlainLemmas.{kept_by, with_bios, with_records, with_vecs, bios_there, bios_entered, bios_move, bios_stage, records_there, records_entered, records_move, records_stage, vecs_entered, vecs_move, vecs_stage}
 
 module _ (plain : Plain) (holds : Holds plain) (bio : Item Pad) (fits : IsHome (stage_of plain) is_bios bio.share) (i : ℕ)
     (place : i ≡ slice_index_or plain.index.bios bio.share.no 0) (entry : SetId × LedgerPool) (value : entry ≡ get_or plain.bios.items i entry) where
@@ -31,7 +31,7 @@ module _ (plain : Plain) (holds : Holds plain) (bio : Item Pad) (fits : IsHome (
     bio_given_kept =
         kept_by plain (with_bios plain i entry.0 x) (GiveBio bio) Did holds fits
         (bios_stage plain holds bio.share.no i fits.kind place entry value x gives moves)
-        (bios_seated plain holds bio.share.no i fits.kind place entry value x) bio_given
+        (bios_entered plain holds bio.share.no i fits.kind place entry value x) bio_given
 
 module _ (plain : Plain) (holds : Holds plain) (slip : SlipItem) (fits : IsHome (stage_of plain) is_slips slip.share) (i : ℕ)
     (place : i ≡ slice_index_or plain.index.records slip.share.no 0) (entry : DevId × LedgerPool) (value : entry ≡ get_or plain.records.items i entry) where
@@ -46,7 +46,7 @@ module _ (plain : Plain) (holds : Holds plain) (slip : SlipItem) (fits : IsHome 
     slip_given_kept =
         kept_by plain (with_records plain i entry.0 x) (GiveSlip slip) Did holds fits
         (records_stage plain holds slip.share.no i fits.kind place entry value x gives moves)
-        (records_seated plain holds slip.share.no i fits.kind place entry value x) slip_given
+        (records_entered plain holds slip.share.no i fits.kind place entry value x) slip_given
 
 is_64 : (n : ℕ) → (n == 64) ≡ true → n ≡ 64
 is_64 n e = grind (arith, nat_tests)
@@ -64,4 +64,4 @@ module _ (plain : Plain) (holds : Holds plain) (vector : VectorItem) (fits : IsH
 
     pub vec_given_kept : Holds (with_vecs plain x) × (stage_of (with_vecs plain x) ≡ stage_of plain)
     vec_given_kept =
-        kept_by plain (with_vecs plain x) (GiveVec vector) Did holds fits (vecs_stage plain x gives moves) (vecs_seated plain x gives moves holds) vec_given
+        kept_by plain (with_vecs plain x) (GiveVec vector) Did holds fits (vecs_stage plain x gives moves) (vecs_entered plain x gives moves holds) vec_given

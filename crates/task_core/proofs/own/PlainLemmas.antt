@@ -23,7 +23,7 @@ use Rattle.run_machine.specs.Objects.{Objects, PoolMoves, Serves}
 use Rattle.run_machine.specs.Opened.{at}
 use Rattle.task_steps.specs.Stage.{Stage, has_rescuer, has_disk, has_book, is_bios, is_slips, RequestFits, Owes}
 use Rattle.task_core.specs.ObjectsOf.{AreObjectsOf, AreNumbered}
-use Rattle.task_core.specs.Plains.{set_number, records_number, list_number, disk_number, book_number, no_pool, no_disk, no_book, by_kind, bios_at, records_at, pool_at, objects_of, stage_of, AreSeated, Holds}
+use Rattle.task_core.specs.Plains.{set_number, records_number, list_number, disk_number, book_number, no_pool, no_disk, no_book, by_kind, bios_at, records_at, pool_at, objects_of, stage_of, AreEntered, Holds}
 use Rattle.run_machine.proofs.Frames.{upd_same}
 use Rattle.task_core.proofs.Keeping.{objects_stay, objects_owe}
 use Rattle.task_core.proofs.TableLemmas.{looked, changed, places_stay, numbers_stay}
@@ -50,12 +50,12 @@ with_books plain i writer x = record plain { books = with_item plain.books i (wr
 
 -- what holds of the objects holds behind a call that is served, and what is owed for it
 pub kept_by : (old new : Plain) (request : Request) (reply : Reply) → Holds old → RequestFits (stage_of old) request → stage_of new ≡ stage_of old
-    → AreSeated new → Serves (stage_of old).ledger (objects_of old) request reply (objects_of new) → Holds new × (stage_of new ≡ stage_of old)
-kept_by old new request reply holds fits stage seated serves = (
+    → AreEntered new → Serves (stage_of old).ledger (objects_of old) request reply (objects_of new) → Holds new × (stage_of new ≡ stage_of old)
+kept_by old new request reply holds fits stage entered serves = (
   record {
     stack_is = subst (λ (s : Stage). IsStack s.routing.stack) (sym stage) holds.stack_is;
     numbered = subst AreNumbered (sym stage) holds.numbered;
-    seated = seated;
+    entered = entered;
     objects = subst (λ s. AreObjectsOf s (objects_of new)) (sym stage)
         (objects_stay (stage_of old) (objects_of old) (objects_of new) request reply fits holds.objects serves);
   },
@@ -82,26 +82,26 @@ module _ (plain : Plain) (holds : Holds plain) (n i : ℕ) (is : IsTrue (is_bios
       let none : ℕ → LedgerPool = no_pool plain.stage.value.stack plain.vecs.ledger in
       sym (
       stands_for_bios plain.vecs (bios_at plain) (records_at plain) n (bios_not_64 plain n holds is) (bios_of_set plain n is)
-      ∙ looked set_number plain.index.bios plain.bios.items n i (holds.seated.bios n is) place entry value (λ e. e.1) none
+      ∙ looked set_number plain.index.bios plain.bios.items n i (holds.entered.bios n is) place entry value (λ e. e.1) none
       )
 
   module _ (x : LedgerPool) where
     bios_are : pool_at (with_bios plain i entry.0 x) ≡ upd (pool_at plain) n x
     bios_are =
         ap (λ f. by_kind plain.vecs f (records_at plain))
-        (changed set_number plain.index.bios plain.bios.items n i (holds.seated.bios n is) place entry value (entry.0, x) refl (λ e. e.1)
+        (changed set_number plain.index.bios plain.bios.items n i (holds.entered.bios n is) place entry value (entry.0, x) refl (λ e. e.1)
         (no_pool plain.stage.value.stack plain.vecs.ledger))
         ∙ bios_change plain.vecs (bios_at plain) (records_at plain) n x (bios_not_64 plain n holds is) (bios_of_set plain n is)
 
-    pub bios_seated : AreSeated (with_bios plain i entry.0 x)
-    bios_seated = record {
-      bios = places_stay set_number plain.index.bios plain.bios.items n i (holds.seated.bios n is) place entry value (entry.0, x) refl
-          (is_bios (stage_of plain)) holds.seated.bios;
-      records = holds.seated.records;
-      lists = holds.seated.lists;
-      disks = holds.seated.disks;
-      books = holds.seated.books;
-      order = holds.seated.order;
+    pub bios_entered : AreEntered (with_bios plain i entry.0 x)
+    bios_entered = record {
+      bios = places_stay set_number plain.index.bios plain.bios.items n i (holds.entered.bios n is) place entry value (entry.0, x) refl
+          (is_bios (stage_of plain)) holds.entered.bios;
+      records = holds.entered.records;
+      lists = holds.entered.lists;
+      disks = holds.entered.disks;
+      books = holds.entered.books;
+      order = holds.entered.order;
     }
 
     module _ (move : Move) (moves : pool.PoolMoves entry.1 move x) where
@@ -122,26 +122,26 @@ module _ (plain : Plain) (holds : Holds plain) (n i : ℕ) (is : IsTrue (is_slip
       let none : ℕ → LedgerPool = no_pool plain.stage.value.stack plain.vecs.ledger in
       sym (
       stands_for_records plain.vecs (bios_at plain) (records_at plain) n (slips_not_64 plain n is) (slips_of_set plain n holds is)
-      ∙ looked records_number plain.index.records plain.records.items n i (holds.seated.records n is) place entry value (λ e. e.1) none
+      ∙ looked records_number plain.index.records plain.records.items n i (holds.entered.records n is) place entry value (λ e. e.1) none
       )
 
   module _ (x : LedgerPool) where
     records_are : pool_at (with_records plain i entry.0 x) ≡ upd (pool_at plain) n x
     records_are =
         ap (by_kind plain.vecs (bios_at plain))
-        (changed records_number plain.index.records plain.records.items n i (holds.seated.records n is) place entry value (entry.0, x) refl (λ e. e.1)
+        (changed records_number plain.index.records plain.records.items n i (holds.entered.records n is) place entry value (entry.0, x) refl (λ e. e.1)
         (no_pool plain.stage.value.stack plain.vecs.ledger))
         ∙ records_change plain.vecs (bios_at plain) (records_at plain) n x (slips_not_64 plain n is) (slips_of_set plain n holds is)
 
-    pub records_seated : AreSeated (with_records plain i entry.0 x)
-    records_seated = record {
-      bios = holds.seated.bios;
-      records = places_stay records_number plain.index.records plain.records.items n i (holds.seated.records n is) place entry value (entry.0, x) refl
-          (is_slips (stage_of plain)) holds.seated.records;
-      lists = holds.seated.lists;
-      disks = holds.seated.disks;
-      books = holds.seated.books;
-      order = holds.seated.order;
+    pub records_entered : AreEntered (with_records plain i entry.0 x)
+    records_entered = record {
+      bios = holds.entered.bios;
+      records = places_stay records_number plain.index.records plain.records.items n i (holds.entered.records n is) place entry value (entry.0, x) refl
+          (is_slips (stage_of plain)) holds.entered.records;
+      lists = holds.entered.lists;
+      disks = holds.entered.disks;
+      books = holds.entered.books;
+      order = holds.entered.order;
     }
 
     module _ (move : Move) (moves : pool.PoolMoves entry.1 move x) where
@@ -168,40 +168,40 @@ module _ (plain : Plain) (x : LedgerPool) (move : Move) (moves : pool.PoolMoves 
   pub vecs_stage : stage_of (with_vecs plain x) ≡ stage_of plain
   vecs_stage = stage_kept plain (with_vecs plain x) 64 x vecs_are refl refl move moves
 
-  pub vecs_seated : Holds plain → AreSeated (with_vecs plain x)
-  vecs_seated holds = record {
-    bios = holds.seated.bios;
-    records = holds.seated.records;
-    lists = holds.seated.lists;
-    disks = holds.seated.disks;
-    books = holds.seated.books;
-    order = holds.seated.order;
+  pub vecs_entered : Holds plain → AreEntered (with_vecs plain x)
+  vecs_entered holds = record {
+    bios = holds.entered.bios;
+    records = holds.entered.records;
+    lists = holds.entered.lists;
+    disks = holds.entered.disks;
+    books = holds.entered.books;
+    order = holds.entered.order;
   }
 
 -- one list of a rescuer
 module _ (plain : Plain) (holds : Holds plain) (d i : ℕ) (is : IsTrue (has_rescuer (stage_of plain) (at d))) (place : i ≡ slice_index_or plain.index.lists d 0)
     (entry : DevId × Rescue) (value : entry ≡ get_or plain.lists.items i entry) where
   pub list_there : (objects_of plain).rescue d ≡ entry.1.bios
-  list_there = looked list_number plain.index.lists plain.lists.items d i (holds.seated.lists d is) place entry value (λ e. e.1.bios) (λ m. [])
+  list_there = looked list_number plain.index.lists plain.lists.items d i (holds.entered.lists d is) place entry value (λ e. e.1.bios) (λ m. [])
 
   module _ (x : Rescue) where
     pub list_changes : objects_of (with_lists plain i entry.0 x) ≡ record (objects_of plain) { rescue = upd (objects_of plain).rescue d x.bios }
     list_changes =
         ap (λ f. record (objects_of plain) { rescue = f })
-        (changed list_number plain.index.lists plain.lists.items d i (holds.seated.lists d is) place entry value (entry.0, x) refl (λ e. e.1.bios) (λ m. []))
+        (changed list_number plain.index.lists plain.lists.items d i (holds.entered.lists d is) place entry value (entry.0, x) refl (λ e. e.1.bios) (λ m. []))
 
     pub list_now : (objects_of (with_lists plain i entry.0 x)).rescue d ≡ x.bios
     list_now = ap (λ (o : Objects). o.rescue d) list_changes ∙ upd_same (objects_of plain).rescue d x.bios
 
-    pub lists_seated : AreSeated (with_lists plain i entry.0 x)
-    lists_seated = record {
-      bios = holds.seated.bios;
-      records = holds.seated.records;
-      lists = places_stay list_number plain.index.lists plain.lists.items d i (holds.seated.lists d is) place entry value (entry.0, x) refl
-          (λ m. has_rescuer (stage_of plain) (at m)) holds.seated.lists;
-      disks = holds.seated.disks;
-      books = holds.seated.books;
-      order = holds.seated.order;
+    pub lists_entered : AreEntered (with_lists plain i entry.0 x)
+    lists_entered = record {
+      bios = holds.entered.bios;
+      records = holds.entered.records;
+      lists = places_stay list_number plain.index.lists plain.lists.items d i (holds.entered.lists d is) place entry value (entry.0, x) refl
+          (λ m. has_rescuer (stage_of plain) (at m)) holds.entered.lists;
+      disks = holds.entered.disks;
+      books = holds.entered.books;
+      order = holds.entered.order;
     }
 
 -- one disk
@@ -209,52 +209,52 @@ module _ (plain : Plain) (holds : Holds plain) (d i : ℕ) (is : IsTrue (has_dis
     (entry : DiskState) (value : entry ≡ get_or plain.disks.items i entry) where
   pub disk_there : (objects_of plain).disk d ≡ entry
   disk_there =
-      looked disk_number plain.index.disks plain.disks.items d i (holds.seated.disks d is) place entry value (λ e. e) (no_disk plain.stage.value.stack)
+      looked disk_number plain.index.disks plain.disks.items d i (holds.entered.disks d is) place entry value (λ e. e) (no_disk plain.stage.value.stack)
 
   module _ (x : DiskState) (same : x.dev ≡ entry.dev) where
     pub disk_changes : objects_of (with_disks plain i x) ≡ record (objects_of plain) { disk = upd (objects_of plain).disk d x }
     disk_changes =
         ap (λ f. record (objects_of plain) { disk = f })
-        (changed disk_number plain.index.disks plain.disks.items d i (holds.seated.disks d is) place entry value x (ap (λ (dev : DevId). dev.0) same) (λ e. e)
+        (changed disk_number plain.index.disks plain.disks.items d i (holds.entered.disks d is) place entry value x (ap (λ (dev : DevId). dev.0) same) (λ e. e)
         (no_disk plain.stage.value.stack))
 
     pub disk_now : (objects_of (with_disks plain i x)).disk d ≡ x
     disk_now = ap (λ (o : Objects). o.disk d) disk_changes ∙ upd_same (objects_of plain).disk d x
 
-    pub disks_seated : AreSeated (with_disks plain i x)
-    disks_seated = record {
-      bios = holds.seated.bios;
-      records = holds.seated.records;
-      lists = holds.seated.lists;
-      disks = places_stay disk_number plain.index.disks plain.disks.items d i (holds.seated.disks d is) place entry value x (ap (λ (dev : DevId). dev.0) same)
-          (λ m. has_disk (stage_of plain) (at m)) holds.seated.disks;
-      books = holds.seated.books;
-      order = numbers_stay disk_number plain.index.disks plain.disks.items d i (holds.seated.disks d is) place entry value x (ap (λ (dev : DevId). dev.0) same)
-          ∙ holds.seated.order;
+    pub disks_entered : AreEntered (with_disks plain i x)
+    disks_entered = record {
+      bios = holds.entered.bios;
+      records = holds.entered.records;
+      lists = holds.entered.lists;
+      disks = places_stay disk_number plain.index.disks plain.disks.items d i (holds.entered.disks d is) place entry value x (ap (λ (dev : DevId). dev.0) same)
+          (λ m. has_disk (stage_of plain) (at m)) holds.entered.disks;
+      books = holds.entered.books;
+      order = numbers_stay disk_number plain.index.disks plain.disks.items d i (holds.entered.disks d is) place entry value x (ap (λ (dev : DevId). dev.0) same)
+          ∙ holds.entered.order;
     }
 
 -- one book
 module _ (plain : Plain) (holds : Holds plain) (w i : ℕ) (is : IsTrue (has_book (stage_of plain) w)) (place : i ≡ slice_index_or plain.index.books w 0)
     (entry : ℕ × BookState) (value : entry ≡ get_or plain.books.items i entry) where
   pub book_there : (objects_of plain).book w ≡ entry.1
-  book_there = looked book_number plain.index.books plain.books.items w i (holds.seated.books w is) place entry value (λ e. e.1) no_book
+  book_there = looked book_number plain.index.books plain.books.items w i (holds.entered.books w is) place entry value (λ e. e.1) no_book
 
   module _ (x : BookState) where
     pub book_changes : objects_of (with_books plain i entry.0 x) ≡ record (objects_of plain) { book = upd (objects_of plain).book w x }
     book_changes =
         ap (λ f. record (objects_of plain) { book = f })
-        (changed book_number plain.index.books plain.books.items w i (holds.seated.books w is) place entry value (entry.0, x) refl (λ e. e.1) no_book)
+        (changed book_number plain.index.books plain.books.items w i (holds.entered.books w is) place entry value (entry.0, x) refl (λ e. e.1) no_book)
 
     pub book_now : (objects_of (with_books plain i entry.0 x)).book w ≡ x
     book_now = ap (λ (o : Objects). o.book w) book_changes ∙ upd_same (objects_of plain).book w x
 
-    pub books_seated : AreSeated (with_books plain i entry.0 x)
-    books_seated = record {
-      bios = holds.seated.bios;
-      records = holds.seated.records;
-      lists = holds.seated.lists;
-      disks = holds.seated.disks;
-      books = places_stay book_number plain.index.books plain.books.items w i (holds.seated.books w is) place entry value (entry.0, x) refl
-          (has_book (stage_of plain)) holds.seated.books;
-      order = holds.seated.order;
+    pub books_entered : AreEntered (with_books plain i entry.0 x)
+    books_entered = record {
+      bios = holds.entered.bios;
+      records = holds.entered.records;
+      lists = holds.entered.lists;
+      disks = holds.entered.disks;
+      books = places_stay book_number plain.index.books plain.books.items w i (holds.entered.books w is) place entry value (entry.0, x) refl
+          (has_book (stage_of plain)) holds.entered.books;
+      order = holds.entered.order;
     }

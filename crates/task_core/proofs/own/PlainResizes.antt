@@ -21,7 +21,7 @@ use Rattle.task_steps.specs.Stage.{Stage, is_bios, is_slips, RequestFits}
 use Rattle.task_core.specs.Resizing.{Resizes}
 use Rattle.task_core.specs.Plains.{set_number, records_number, no_pool, by_kind, bios_at, records_at, pool_at, objects_of, stage_of, Holds}
 use Rattle.task_core.proofs.Keeping.{set_is_bios, mirror_is_slips}
-use Rattle.task_core.proofs.own.PlainLemmas.{kept_by, with_bios, with_records, with_vecs, bios_there, bios_seated, bios_move, bios_stage, records_there, records_seated, records_move, records_stage, vecs_seated, vecs_move, vecs_stage}
+use Rattle.task_core.proofs.own.PlainLemmas.{kept_by, with_bios, with_records, with_vecs, bios_there, bios_entered, bios_move, bios_stage, records_there, records_entered, records_move, records_stage, vecs_entered, vecs_move, vecs_stage}
 use Rattle.task_core.proofs.own.PlainFacts.{set_is}
 
 is_zero : (out : ℕ) → out ≡ 0 → (out == 0) ≡ true
@@ -97,10 +97,10 @@ module _ (plain : Plain) (holds : Holds plain) (of : SetId) (min : ℕ) (fits : 
         → Holds (with_bios plain i entry.0 x) × (stage_of (with_bios plain i entry.0 x) ≡ stage_of plain)
     kept_so (inl (zero, moves)) =
         kept_by plain (with_bios plain i entry.0 x) (Resize (bios_of of) min) (OutIs out) holds fits
-        (bios_stage plain holds number i is place entry value x (resizes min) moves) (bios_seated plain holds number i is place entry value x) bios_resized
+        (bios_stage plain holds number i is place entry value x (resizes min) moves) (bios_entered plain holds number i is place entry value x) bios_resized
     kept_so (inr (some, same)) =
         kept_by plain (with_bios plain i entry.0 x) (Resize (bios_of of) min) (OutIs out) holds fits
-        (bios_setting x same) (bios_seated plain holds number i is place entry value x) bios_resized
+        (bios_setting x same) (bios_entered plain holds number i is place entry value x) bios_resized
 
     pub bios_resized_kept : Holds (with_bios plain i entry.0 x) × (stage_of (with_bios plain i entry.0 x) ≡ stage_of plain)
     bios_resized_kept = kept_so did.1
@@ -154,10 +154,10 @@ module _ (plain : Plain) (holds : Holds plain) (dev : DevId) (min : ℕ) (fits :
     slips_keep (inl (zero, moves)) =
         kept_by plain (with_records plain i entry.0 x) (Resize (Records dev) min) (OutIs out) holds fits
         (records_stage plain holds slip_number i is_slip place entry value x (resizes min) moves)
-        (records_seated plain holds slip_number i is_slip place entry value x) records_resized
+        (records_entered plain holds slip_number i is_slip place entry value x) records_resized
     slips_keep (inr (some, same)) =
         kept_by plain (with_records plain i entry.0 x) (Resize (Records dev) min) (OutIs out) holds fits
-        (records_setting x same) (records_seated plain holds slip_number i is_slip place entry value x) records_resized
+        (records_setting x same) (records_entered plain holds slip_number i is_slip place entry value x) records_resized
 
     pub records_resized_kept : Holds (with_records plain i entry.0 x) × (stage_of (with_records plain i entry.0 x) ≡ stage_of plain)
     records_resized_kept = slips_keep did.1
@@ -176,7 +176,7 @@ module _ (plain : Plain) (holds : Holds plain) (min : ℕ) (fits : RequestFits (
       → Holds (with_vecs plain x) × (stage_of (with_vecs plain x) ≡ stage_of plain)
   vecs_keep (inl (zero, moves)) =
       kept_by plain (with_vecs plain x) (Resize FsVecs min) (OutIs out) holds fits (vecs_stage plain x (resizes min) moves)
-      (vecs_seated plain x (resizes min) moves holds) vecs_resized
+      (vecs_entered plain x (resizes min) moves holds) vecs_resized
   vecs_keep (inr (some, same)) =
       subst (λ p. Holds (with_vecs plain p) × (stage_of (with_vecs plain p) ≡ stage_of plain)) (sym same) (holds, refl)
 

@@ -27,7 +27,7 @@ use Rattle.task_steps.specs.Stage.{is_set, has_mirror, is_bios, is_slips, Owes}
 use Rattle.task_steps.specs.Views.{took_bio, took_vec, took_slip, vec_item}
 use Rattle.task_core.specs.Plains.{objects_of, stage_of, Holds}
 use Rattle.task_core.proofs.Keeping.{set_is_bios, mirror_is_slips}
-use Rattle.task_core.proofs.own.PlainLemmas.{kept_by, owed_by, take_moves, with_bios, with_records, with_vecs, bios_there, bios_seated, bios_move, bios_stage, records_there, records_seated, records_move, records_stage, vecs_seated, vecs_move, vecs_stage}
+use Rattle.task_core.proofs.own.PlainLemmas.{kept_by, owed_by, take_moves, with_bios, with_records, with_vecs, bios_there, bios_entered, bios_move, bios_stage, records_there, records_entered, records_move, records_stage, vecs_entered, vecs_move, vecs_stage}
 
 abbrev IsClearSlip : Slip → Type 0
 IsClearSlip slip = slip ≡ record { legs = 0 }
@@ -70,7 +70,7 @@ module _ (plain : Plain) (holds : Holds plain) (set : SetId) (waits : Bool) (fit
     bio_kept =
         let move = take_moves IsClearBody entry.1 x result takes in
         kept_by plain (with_bios plain i entry.0 x) (TakeBio set waits) (took_bio (Ok result)) holds fits
-        (bios_stage plain holds number i is place entry value x move.0 move.1) (bios_seated plain holds number i is place entry value x) bio_served
+        (bios_stage plain holds number i is place entry value x move.0 move.1) (bios_entered plain holds number i is place entry value x) bio_served
 
 pub clear_slip_is : (ledger : LedgerId) (element : Element Slip) → IsHandedOut IsClearSlip ledger element → slip_item element ≡ clear_slip ledger
 clear_slip_is ledger element out = λ k. record { legs = (out.clear k).legs; share = out.share k }
@@ -108,7 +108,7 @@ module _ (plain : Plain) (holds : Holds plain) (dev : DevId) (fits : IsTrue (has
         let move = take_moves IsClearSlip entry.1 x result takes in
         kept_by plain (with_records plain i entry.0 x) (TakeSlip dev) (took_slip (Ok result)) holds fits
         (records_stage plain holds slip_number i is_slip place entry value x move.0 move.1)
-        (records_seated plain holds slip_number i is_slip place entry value x) slip_served
+        (records_entered plain holds slip_number i is_slip place entry value x) slip_served
 
 pub clear_vector_is : (ledger : LedgerId) (element : Element Vector) → IsHandedOut IsClearVector ledger element → vec_item element ≡ clear_vector ledger
 clear_vector_is ledger element out = λ k. record { segments = out.clear k; share = out.share k }
@@ -131,4 +131,4 @@ module _ (plain : Plain) (holds : Holds plain) where
     vec_kept =
         let move = take_moves IsClearVector plain.vecs x result takes in
         kept_by plain (with_vecs plain x) TakeVec (took_vec (Ok result)) holds tt (vecs_stage plain x move.0 move.1)
-        (vecs_seated plain x move.0 move.1 holds) vec_served
+        (vecs_entered plain x move.0 move.1 holds) vec_served

@@ -10,14 +10,14 @@ pub record AreMade {E : Type 0} (key : E → ℕ) (number : ℕ → ℕ) (is_use
   pub few : length entries ≤ bound
   pub made : (index : ℕ) → index < bound → is_used index ≡ true
       → (entry : E) × (find (is_entry_of key (number index)) entries ≡ Some entry) × IsMade index entry
-  pub seated : (index : ℕ) → index < bound → is_used index ≡ true → IsAt key table entries (number index)
+  pub entered : (index : ℕ) → index < bound → is_used index ≡ true → IsAt key table entries (number index)
   pub no_other : (other : ℕ) → ((index : ℕ) → index < bound → is_used index ≡ true → number index ≢ other)
       → find (is_entry_of key other) entries ≡ None
   pub order : map key entries ≡ map number (filter is_used (range_with_len 0 bound))
 
 -- an entry was put behind the others, and its place into the table
-abbrev pub IsSeated : {E : Type 0} → List E → List ℕ → ℕ → E → List E → List ℕ → Type 0
-IsSeated entries table number entry more after = (more ≡ entries ++ entry ∷ []) × (after ≡ slice_set table number (length entries))
+abbrev pub IsEntered : {E : Type 0} → List E → List ℕ → ℕ → E → List E → List ℕ → Type 0
+IsEntered entries table number entry more after = (more ≡ entries ++ entry ∷ []) × (after ≡ slice_set table number (length entries))
 
 -- the next index has its entry, where it is used
 abbrev pub IsNext : {E : Type 0} → (E → ℕ) → (ℕ → ℕ) → (ℕ → Bool) → (ℕ → E → Type 0) → ℕ → List E → List ℕ → List E → List ℕ → Type 0

@@ -9,7 +9,7 @@ ghost use Rattle.stack_base.specs.declared.ids.PoolId.TheVariants.{Bios, Records
 ghost use Rattle.run_machine.specs.Opened.{at, reserve_of, script_at};
 ghost use Rattle.fail_script.specs.Script.{only_tail};
 ghost use Rattle.task_core.specs.Plains.{tally_of};
-ghost use Rattle.task_core.specs.opened.Filled.{IsSeated};
+ghost use Rattle.task_core.specs.opened.Filled.{IsEntered};
 ghost use Rattle.task_core.specs.opened.Openings.{has_pool, AreOpened, uses_set, uses_slips, AreDisks, NextDisk, AreLists, NextList, AreBooks, NextBook};
 ghost use Rattle.task_steps.specs.Routed.{routing_setup};
 ghost use Rattle.run_machine.specs.Scene.{keeps_data};
@@ -28,7 +28,7 @@ use std::snapshot::Snapshot;
 use task_steps::{Manner, Routes};
 
 // Puts an entry behind the others, and its place into the table.
-pub(crate) fn seat<T: Drop>(
+pub(crate) fn enter<T: Drop>(
     entries: &mut Vec<T>,
     table: &mut [u32],
     number: u32,
@@ -36,7 +36,7 @@ pub(crate) fn seat<T: Drop>(
 ) -> Result<(), AllocError>
     requires inside { number < length table.old }
     requires few { length entries.old.items < 2 ^ 32 }
-    ensures { OnOk result (IsSeated entries.old.items table.old number entry entries.new.items table.new) }
+    ensures { OnOk result (IsEntered entries.old.items table.old number entry entries.new.items table.new) }
 {
     table[number as usize] = entries.len() as u32;
     entries.push(entry)?;
@@ -89,7 +89,7 @@ fn open_disk(
 {
     if is_disk(routes, dev) {
         let disk = Disk::open(alloc, dev, stack.size(dev), bads_of(stack, dev))?;
-        seat(disks, table, dev.0, disk)?;
+        enter(disks, table, dev.0, disk)?;
     }
     Ok(())
 }
@@ -133,7 +133,7 @@ fn open_list(
     ensures { OnOk result (NextList routes.now dev.0 lists.old.items table.old lists.new.items table.new) }
 {
     if routes.rescuer(dev) {
-        seat(lists, table, dev.0, (dev, RescueList::new(dev)))?;
+        enter(lists, table, dev.0, (dev, RescueList::new(dev)))?;
     }
     Ok(())
 }
@@ -171,7 +171,7 @@ fn open_book(
     let places = routes.places(writer);
     if places > 0 {
         let book = Book::open(alloc, writer, places)?;
-        seat(books, table, writer, (writer, book))?;
+        enter(books, table, writer, (writer, book))?;
     }
     Ok(())
 }

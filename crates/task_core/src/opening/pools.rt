@@ -9,7 +9,7 @@ ghost use Rattle.task_core.specs.opened.Openings.{device_count, widest, IsOpenPo
 ghost use Rattle.task_steps.specs.Routed.{routing_setup};
 ghost use Rattle.run_machine.specs.Scene.{is_mirror};
 
-use crate::opening::objects::{is_disk, seat};
+use crate::opening::objects::{enter, is_disk};
 use bio_records::{BioBody, Pad, Slip};
 use elem_ledger::Fresh;
 use fail_script::Script;
@@ -110,7 +110,7 @@ fn open_set(
     if !is_disk(routes, dev) {
         let id = PoolId::Bios(dev);
         let pool = open_pool(alloc, id, stack.device(dev).reserve, scripts, reserves)?;
-        seat(bios, table, id.no(), (SetId::Of(dev), pool))?;
+        enter(bios, table, id.no(), (SetId::Of(dev), pool))?;
     }
     Ok(())
 }
@@ -134,7 +134,7 @@ pub(crate) fn open_sets(
 {
     let mut bios = Vec::with_capacity(alloc, stack.devices.len() + 1)?;
     let pool = open_pool(alloc, PoolId::FsBios, stack.fs_bios, scripts, reserves)?;
-    seat(&mut bios, table, PoolId::FsBios.no(), (SetId::Fs, pool))?;
+    enter(&mut bios, table, PoolId::FsBios.no(), (SetId::Fs, pool))?;
     'opening: for number in 0..stack.devices.len() {
         open_set(
             alloc,
@@ -201,7 +201,7 @@ fn open_slips(
     if is_mirror(routes, dev) {
         let id = PoolId::Records(dev);
         let pool = open_pool(alloc, id, records_of(stack, dev), scripts, reserves)?;
-        seat(records, table, id.no(), (dev, pool))?;
+        enter(records, table, id.no(), (dev, pool))?;
     }
     Ok(())
 }

@@ -9,8 +9,8 @@ use Rattle.run_machine.specs.Scene.{keeps_data}
 use Rattle.task_core.proofs.opened.NewPools.{set_used, reserve_is}
 use Rattle.task_core.proofs.opening.pools.open_set.Goals as goal
 
-pub returns-in_ok-seat : goal.returns-in_ok-seat
-returns-in_ok-seat c =
+pub returns-in_ok-enter : goal.returns-in_ok-enter
+returns-in_ok-enter c =
     let routing = c.args.routes.now in
     let dev = c.args.dev in
     let keeps : keeps_data ((routing_setup routing).tree dev.0) ≡ false = sym c.is_disk.ensures ∙ c.if-not-is_disk.true in
@@ -20,6 +20,6 @@ returns-in_ok-seat c =
       (Of dev, c.in_ok-pool.pool),
       subst (λ min. IsOpenPool c.args.scripts.now c.args.reserves.now (Bios dev) min c.in_ok-pool.pool) reserve c.in_ok-pool.ensures,
       refl,
-      c.in_ok-seat.ensures.0,
-      c.in_ok-seat.ensures.1 ∙ ap (λ n. slice_set c.args.table.now n (length c.args.bios.now.items)) c.no.ensures,
+      c.in_ok-enter.ensures.0,
+      c.in_ok-enter.ensures.1 ∙ ap (λ n. slice_set c.args.table.now n (length c.args.bios.now.items)) c.no.ensures,
     )

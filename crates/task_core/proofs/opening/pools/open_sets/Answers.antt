@@ -21,18 +21,18 @@ opening-init c =
     let inside : 65 < length table = omega (long, arith) in
     let reserve = ap (λ (s : Stack). s.fs_bios) (sym c.requires.same) in
     let empty = c.in_ok-bios.ensures.items in
-    let next : NextSet routing scripts reserves 0 [] table c.seat.new.entries.items c.seat.new.table = inl (
+    let next : NextSet routing scripts reserves 0 [] table c.enter.new.entries.items c.enter.new.table = inl (
       refl,
       (Fs, c.in_ok-pool.pool),
       subst (λ min. IsOpenPool scripts reserves FsBios min c.in_ok-pool.pool) reserve c.in_ok-pool.ensures,
       refl,
-      c.in_ok-seat.ensures.0 ∙ ap (λ items. items ++ (Fs, c.in_ok-pool.pool) ∷ []) empty,
-      c.in_ok-seat.ensures.1 ∙ ap (λ n. slice_set table n (length c.in_ok-bios.bios.items)) c.no.ensures
+      c.in_ok-enter.ensures.0 ∙ ap (λ items. items ++ (Fs, c.in_ok-pool.pool) ∷ []) empty,
+      c.in_ok-enter.ensures.1 ∙ ap (λ n. slice_set table n (length c.in_ok-bios.bios.items)) c.no.ensures
           ∙ ap (λ (items : List (SetId × LedgerPool)). slice_set table 65 (length items)) empty,
     ) in
     let first =
     one_more set_number set_index (uses_set routing) (IsNewSet routing scripts reserves) 0 [] table
-    (none_made set_number set_index (uses_set routing) (IsNewSet routing scripts reserves) table) c.seat.new.entries.items c.seat.new.table
+    (none_made set_number set_index (uses_set routing) (IsNewSet routing scripts reserves) table) c.enter.new.entries.items c.enter.new.table
     (λ i lt. sets_apart i 0 lt) inside next in
     record { opened = first.0; long = first.1 ∙ long }
 

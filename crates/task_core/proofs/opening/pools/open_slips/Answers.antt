@@ -8,8 +8,8 @@ use Rattle.run_machine.specs.Scene.{is_mirror}
 use Rattle.task_core.proofs.opened.NewPools.{slips_used}
 use Rattle.task_core.proofs.opening.pools.open_slips.Goals as goal
 
-pub returns-in_ok-seat : goal.returns-in_ok-seat
-returns-in_ok-seat c =
+pub returns-in_ok-enter : goal.returns-in_ok-enter
+returns-in_ok-enter c =
     let routing = c.args.routes.now in
     let dev = c.args.dev in
     let mirror : is_mirror ((routing_setup routing).tree dev.0) ≡ true = sym c.is_mirror.ensures ∙ c.if-is_mirror.true in
@@ -19,6 +19,6 @@ returns-in_ok-seat c =
       (dev, c.in_ok-pool.pool),
       subst (λ min. IsOpenPool c.args.scripts.now c.args.reserves.now (Records dev) min c.in_ok-pool.pool) reserve c.in_ok-pool.ensures,
       refl,
-      c.in_ok-seat.ensures.0,
-      c.in_ok-seat.ensures.1 ∙ ap (λ n. slice_set c.args.table.now n (length c.args.records.now.items)) c.no.ensures,
+      c.in_ok-enter.ensures.0,
+      c.in_ok-enter.ensures.1 ∙ ap (λ n. slice_set c.args.table.now n (length c.args.records.now.items)) c.no.ensures,
     )

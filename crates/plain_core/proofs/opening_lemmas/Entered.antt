@@ -10,7 +10,7 @@ use Rattle.run_machine.specs.Opened.{no_task}
 use Rattle.run_machine.specs.Tasks.{TaskState}
 use Rattle.plain_core.specs.declared.steps.task.Task.{Task}
 use Rattle.plain_core.specs.Cores.{AreFound, slot_of, task_at}
-use Rattle.plain_core.specs.opening.Opening.{AreTasksSeated, Seats}
+use Rattle.plain_core.specs.opening.Opening.{AreTasksEntered, Enters}
 use Rattle.plain_core.specs.steps.Views.{task_of_plain}
 
 -- what stands at a place of a changed table
@@ -27,7 +27,7 @@ get_set_other xs i j x y ne is =
 pub last_or : (k n : ℕ) → k < n + 1 → (k < n) ⊎ (k ≡ n)
 last_or k n lt = search (lt, arith)
 
-module _ (tasks : List TaskState) (task : TaskState) (places : List ℕ) (so_far : AreTasksSeated tasks places (slot_of (id_of task))) (small : slot_of (id_of task) < 73) where
+module _ (tasks : List TaskState) (task : TaskState) (places : List ℕ) (so_far : AreTasksEntered tasks places (slot_of (id_of task))) (small : slot_of (id_of task) < 73) where
   found_with : AreFound (slice_set places (slot_of (id_of task)) (length tasks)) (tasks ++ task ∷ [])
   found_with k lt =
       elim (last_or k (length tasks) (omega (arith, lt, length-append tasks (task ∷ [])))) [
@@ -42,8 +42,8 @@ module _ (tasks : List TaskState) (task : TaskState) (places : List ℕ) (so_far
             (get_set_same places (slot_of (id_of task)) (length tasks) (omega (arith, small, so_far.long)) ∙ ap Some (sym last))
       ]
 
-  pub seated_with : AreTasksSeated (tasks ++ task ∷ []) (slice_set places (slot_of (id_of task)) (length tasks)) (slot_of (id_of task) + 1)
-  seated_with = record {
+  pub entered_with : AreTasksEntered (tasks ++ task ∷ []) (slice_set places (slot_of (id_of task)) (length tasks)) (slot_of (id_of task) + 1)
+  entered_with = record {
     found = found_with;
     below = All-push (λ t. slot_of (id_of t) < slot_of (id_of task) + 1) tasks task
         (All-weaker (λ t. slot_of (id_of t) < slot_of (id_of task)) (λ t. slot_of (id_of t) < slot_of (id_of task) + 1) (λ t lt. omega (arith, lt)) tasks so_far.below)
@@ -52,25 +52,25 @@ module _ (tasks : List TaskState) (task : TaskState) (places : List ℕ) (so_far
     long = length-set places (slot_of (id_of task)) (length tasks) ∙ so_far.long;
   }
 
--- a task was seated
-pub seats_one : (old new : List Task) (task : Task) (places after : List ℕ) → AreTasksSeated (map task_of_plain old) places (slot_of (id_of (task_of_plain task)))
+-- a task was entered
+pub enters_one : (old new : List Task) (task : Task) (places after : List ℕ) → AreTasksEntered (map task_of_plain old) places (slot_of (id_of (task_of_plain task)))
     → slot_of (id_of (task_of_plain task)) < 73 → new ≡ old ++ task ∷ [] → after ≡ slice_set places (slot_of (id_of (task_of_plain task))) (length old)
-    → Seats old (task_of_plain task ∷ []) new after (slot_of (id_of (task_of_plain task)) + 1)
-seats_one old new task places after so_far small is_new is_after =
+    → Enters old (task_of_plain task ∷ []) new after (slot_of (id_of (task_of_plain task)) + 1)
+enters_one old new task places after so_far small is_new is_after =
     let tasks : map task_of_plain new ≡ map task_of_plain old ++ task_of_plain task ∷ [] = ap (map task_of_plain) is_new ∙ map-append task_of_plain old (task ∷ []) in
     let table : after ≡ slice_set places (slot_of (id_of (task_of_plain task))) (length (map task_of_plain old)) =
     is_after ∙ ap (slice_set places (slot_of (id_of (task_of_plain task)))) (sym (length-map old task_of_plain)) in (
       tasks,
-      subst (λ ts. AreTasksSeated ts after (slot_of (id_of (task_of_plain task)) + 1)) (sym tasks)
-          (subst (λ ps. AreTasksSeated (map task_of_plain old ++ task_of_plain task ∷ []) ps (slot_of (id_of (task_of_plain task)) + 1)) (sym table)
-          (seated_with (map task_of_plain old) (task_of_plain task) places so_far small)),
+      subst (λ ts. AreTasksEntered ts after (slot_of (id_of (task_of_plain task)) + 1)) (sym tasks)
+          (subst (λ ps. AreTasksEntered (map task_of_plain old ++ task_of_plain task ∷ []) ps (slot_of (id_of (task_of_plain task)) + 1)) (sym table)
+          (entered_with (map task_of_plain old) (task_of_plain task) places so_far small)),
     )
 
 -- a slot higher, nothing changes
-pub seated_on : (tasks : List TaskState) (places : List ℕ) (slot more : ℕ) → slot ≤ more → AreTasksSeated tasks places slot → AreTasksSeated tasks places more
-seated_on tasks places slot more le seated = record {
-  found = seated.found;
-  below = All-weaker (λ t. slot_of (id_of t) < slot) (λ t. slot_of (id_of t) < more) (λ t lt. omega (arith, lt, le)) tasks seated.below;
-  few = omega (arith, le, seated.few);
-  long = seated.long;
+pub entered_on : (tasks : List TaskState) (places : List ℕ) (slot more : ℕ) → slot ≤ more → AreTasksEntered tasks places slot → AreTasksEntered tasks places more
+entered_on tasks places slot more le entered = record {
+  found = entered.found;
+  below = All-weaker (λ t. slot_of (id_of t) < slot) (λ t. slot_of (id_of t) < more) (λ t lt. omega (arith, lt, le)) tasks entered.below;
+  few = omega (arith, le, entered.few);
+  long = entered.long;
 }
