@@ -109,6 +109,7 @@ impl<T: Drop> Places<T> {
     }
 
     /// Changes the value at a place where it stands, if there is one.
+    #[inline(always)] // a change is then made of what its caller has at hand
     pub fn alter<C: Change<T> + Drop>(&mut self, place: u32, change: C)
         requires { MatchOption (slice_index_or self.old place None) (Unit {0}) (C.applies change) }
         ensures { MatchOption (slice_index_or self.old place None) (self.new ≡ self.old)
