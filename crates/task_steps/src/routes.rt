@@ -152,6 +152,7 @@ impl Routes {
     }
 
     // The first piece of a bio, where its device is one that cuts.
+    #[inline(always)] // its caller takes the cut apart at once
     fn first(&self, bio: &Bio) -> Option<Cut>
         requires { IsWithinDevice self.now.stack bio.now }
         ensures { MatchOption result (HasNoFirst self.now.stack bio.now) (IsFirstCut self.now.stack bio.now) }

@@ -185,6 +185,7 @@ impl Submission {
     }
 
     /// The bio is submitted, and none waits.
+    #[inline(always)] // as `becomes`
     pub fn begin(routes: &Routes, bio: BioElement) -> Submission
         requires within { IsWithinDevice routes.now.stack (item_of bio).bio }
         requires alone { IsAlone bio }
