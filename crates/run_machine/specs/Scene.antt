@@ -8,7 +8,7 @@ use Rattle.stack_base.specs.Tree.{Tree, Leaf, Split, Mirrored, tree}
 pub use Rattle.layout_model.specs.Shown.{keeps_data}
 
 -- what tasks know: how many devices there are, each of them with all that is below it, whether its set has a rescuer, and how many places
--- the book of each writer has
+-- the book of each writer has, since a task that finds no room has to tell it
 pub record Setup : Type 0 where
   pub count : ℕ
   pub tree : ℕ → Tree

@@ -24,7 +24,7 @@ use Rattle.run_machine.specs.Kept.{Kept, KeptBio, KeptSlip, holding_kept}
 use Rattle.run_machine.specs.Requests.{Request, Reply, TakeBio, TakeSlip, Punt, Push, Link, Rest, Chain, Master, Leg, HadBio, HadSlip, Missed, Did, LinkedTo, Spent}
 
 -- what a driver does for a bio of its device's set: it takes one, waiting or not; where an attempt that did not wait missed, it punts; and
--- with the bio that it had it links a node
+-- with the bio that it had it links a node. A type of its own, for a cut and for a leg alike, so that a copy can ask for nothing else
 pub data Want : Type 0 where
   Takes : (waits : Bool) → Want
   Punts : Want

@@ -30,7 +30,8 @@ use std::sync::Arc;
 use task_steps::{Kind, Routes, Task};
 use work_text::{Resize, Work};
 
-/// The objects and the tasks of an accepted text, as a run begins with them, and room for what it leaves.
+/// The objects and the tasks of an accepted text, as a run begins with them, and room for what it leaves. It keeps the text's meaning as a ghost,
+/// so that what runs it can say of which scenario it is, and costs no bytes.
 #[derive(Drop)]
 pub struct Opened {
     pub objects: Plain,

@@ -36,7 +36,7 @@ pub struct Plain {
     pub records: Vec<(DevId, Pool<Slip>)>,
     /// The lists of the bios that wait for rescuers.
     pub lists: Vec<(DevId, RescueList)>,
-    /// The disks, in the order of devices.
+    /// The disks, in the order of devices, so that what a run leaves is moved out and not sought.
     pub disks: Vec<Disk>,
     /// The books of writers.
     pub books: Vec<(u32, Book)>,

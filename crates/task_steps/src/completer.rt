@@ -38,6 +38,9 @@ pub enum Load {
 }
 
 /// What a completer carries, seen without its boxes. Round the enum, which anyone may match, it keeps that a bio in it is in no list.
+///
+/// A closed node stays in it while what the node holds goes back: a completer takes one element out of it a step, and moves the rest only where
+/// a call had no ticket.
 #[derive(Drop)]
 pub struct Carried {
     load: Load,

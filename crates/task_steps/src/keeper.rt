@@ -27,6 +27,9 @@ pub enum Duty {
 }
 
 /// The keeper, with what it has still to do.
+///
+/// It counts the writes that are left, against how many there are of later rounds: one number, which it knows from the start. In every run they
+/// are as many exactly where no earlier round has an unfinished write.
 #[derive(Drop)]
 pub struct Keeper {
     duties: Vec<Duty>,

@@ -18,7 +18,8 @@ use crate::steps::task::{
 use stack_base::{DevId, PoolId};
 use task_core::{Duty, needs_vector};
 
-/// What a request needs so that it can be answered, and told as an event that needs no ordinary memory.
+/// What a request needs so that it can be answered, and told as an event that needs no ordinary memory: a plain value, with one question to one
+/// object for each, so that nothing is copied to ask which task is free.
 #[derive(Clone, Copy)]
 pub enum Need {
     Nothing,
