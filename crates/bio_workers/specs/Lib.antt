@@ -5,3 +5,4 @@ pub mod Progress
 pub mod Room
 pub mod Somes
 pub mod Steps
+pub mod Visits

@@ -1,5 +1,6 @@
 //! Lists of a fixed room.
 ghost use Rattle.std.specs.Prelude.{◌≡◌, ◌++◌, ◌+◌, ◌<◌, ◌≤◌, ◌↔◌, [], ◌∷◌, All, IsNone, length, map, option_to_list, take};
+ghost use Rattle.bio_workers.specs.Visits.{IsVisitAt};
 ghost use Rattle.bio_workers.specs.declared.work.Progress.TheVariants.{Over};
 
 use crate::bell::Bell;
@@ -79,6 +80,7 @@ impl<T: Drop> Few<T> {
         requires can { All (W.can work.now) (map W.key self.old) }
         ensures keys { map W.key self.new ≡ map W.key self.old }
         ensures over { result ≡ Over → All W.is_over (take at self.old) → All W.is_over (take (at + 1) self.new) }
+        ensures visit { IsVisitAt W.goes at result self.old self.new }
     {
         let Some(slot) = self.slots.get_mut(at) else {
             unreachable!()

@@ -8,8 +8,8 @@ use task_steps::TaskId;
 
 /// Who looks on while tasks are stepped, and is shown what they leave. All workers share it.
 ///
-/// So a run by workers can be told from one that a single thread made and put in its place: the report is that of the merge of the histories
-/// that the gate was shown.
+/// So a run over shared objects can be told from one over plain objects that was put in its place: the report is that of the merge of the
+/// histories that the gate was shown.
 pub trait Gate {
     ghost use Rattle.std.specs.Prelude.{◌≡◌, Option, Some};
     ghost use Rattle.shared_objects.specs.Left.{HasClosed};

@@ -1,6 +1,7 @@
 //! Workers at their tasks.
 ghost use Rattle.std.specs.Prelude.{◌≡◌, ◌≤◌, ◌<◌, ◌+◌, All, IsPermutation, map};
 ghost use Rattle.bio_workers.specs.Room.{TasksFitInMemory};
+ghost use Rattle.bio_workers.specs.Visits.{AreVisited};
 ghost use Rattle.bio_workers.specs.declared.work.Progress.TheVariants.{Over};
 
 use crate::bell::Bell;
@@ -31,6 +32,7 @@ impl<'a, W> Shift<'a, W> {
         requires { All (W.can self.now.work.now) (map W.key tasks.old) }
         ensures keys { map W.key tasks.new ≡ map W.key tasks.old }
         ensures over { result ≡ Over → All W.is_over tasks.new }
+        ensures visits { AreVisited W.goes result tasks.old tasks.new }
     {
         let mut came = Progress::Over;
         for at in 0..tasks.len() {
@@ -106,7 +108,7 @@ impl<'a, T: Drop, W: Work<T>> Job<Hand<T>> for Shift<'a, W> {
 /// Steps tasks by so many workers, of which the caller is one, until none of them goes on. Task number `k` falls to worker `k` modulo their
 /// number, and to the caller where that worker's thread could not be started.
 ///
-/// It takes no memory but for threads.
+/// It takes no memory but for threads, and what steps take.
 pub fn run_tasks<R: Threads + Wait + Sync, T: Send + Drop, W: Work<T> + Sync>(
     rt: &R,
     work: &W,

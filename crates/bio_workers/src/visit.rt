@@ -1,5 +1,6 @@
 //! A worker's visit of a task.
 ghost use Rattle.std.specs.Prelude.{◌≡◌};
+ghost use Rattle.bio_workers.specs.Visits.{IsVisit};
 ghost use Rattle.bio_workers.specs.declared.work.Progress.TheVariants.{Over};
 
 use crate::bell::Bell;
@@ -16,6 +17,7 @@ fn step<T, R: Wait, W: Work<T>>(rt: &R, work: &W, bell: &Bell, task: &mut T) -> 
     requires { W.can work.now (W.key task.old) }
     ensures key { W.key task.new ≡ W.key task.old }
     ensures over { result ≡ Over → W.is_over task.new }
+    ensures goes { W.goes result task.old task.new }
 {
     let came = work.step(rt, task);
     if came == Progress::Event {
@@ -42,6 +44,7 @@ pub(crate) fn visit<T, R: Wait, W: Work<T>>(rt: &R, work: &W, bell: &Bell, task:
     requires { W.can work.now (W.key task.old) }
     ensures key { W.key task.new ≡ W.key task.old }
     ensures over { result ≡ Over → W.is_over task.new }
+    ensures visit { IsVisit W.goes result task.old task.new }
 {
     let came = step(rt, work, bell, task);
     if came == Progress::Event {

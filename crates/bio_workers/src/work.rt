@@ -31,6 +31,7 @@ impl Progress {
 /// What workers step tasks at. All of them share it.
 pub trait Work<T> {
     ghost use Rattle.std.specs.Prelude.{◌≡◌, ℕ};
+    ghost use Rattle.bio_workers.specs.declared.work.Progress.{Progress};
     ghost use Rattle.bio_workers.specs.declared.work.Progress.TheVariants.{Over};
 
     /// What stays of a task, whatever steps it makes. No value of it is made.
@@ -47,6 +48,9 @@ pub trait Work<T> {
     /// Whether a task goes on no more.
     ghost is_over: { T → Type 0 };
 
+    /// Whether a step that made the second of the first came to this.
+    ghost goes: { Progress → T → T → Type 0 };
+
     /// The number of a task, by which it falls to a worker.
     fn number(&self, task: &T) -> u32
         ensures { result ≡ number (key task.now) };
@@ -55,5 +59,6 @@ pub trait Work<T> {
     fn step<R: Wait>(&self, rt: &R, task: &mut T) -> Progress
         requires { can self.now (key task.old) }
         ensures key { key task.new ≡ key task.old }
-        ensures over { result ≡ Over → is_over task.new };
+        ensures over { result ≡ Over → is_over task.new }
+        ensures goes { goes result task.old task.new };
 }

@@ -5,6 +5,7 @@ ghost use Rattle.bio_workers.specs.Steps.{came_of};
 ghost use Rattle.shared_objects.specs.Left.{HasClosed};
 ghost use Rattle.shared_objects.specs.Rans.{ran_key};
 ghost use Rattle.shared_objects.specs.Shared.{HaveStopped, SameShared, SharedHolds};
+ghost use Rattle.shared_objects.specs.Tickets.{ShowsItsTickets};
 
 use crate::few::Few;
 use crate::gate::Gate;
@@ -44,6 +45,7 @@ pub(crate) struct Crew<'a, G> {
 impl<'a, G: Gate> Work<Ran> for Crew<'a, G> {
     ghost use Rattle.std.specs.Prelude.{◌≡◌, true};
     ghost use Rattle.shared_objects.specs.Rans.{ran_key};
+    ghost use Rattle.bio_workers.specs.Steps.{HasStepped};
 
     type Key = Identity;
 
@@ -54,6 +56,8 @@ impl<'a, G: Gate> Work<Ran> for Crew<'a, G> {
     ghost can = { λ crew key. key.home ≡ crew.locks.now };
 
     ghost is_over = { λ ran. ran.stopped ≡ true };
+
+    ghost goes = { HasStepped };
 
     fn number(&self, task: &Ran) -> u32 {
         task.number()
@@ -125,6 +129,7 @@ pub fn run_workers<R: Threads + Wait + Sync, G: Gate + Sync>(
     requires untaken { shared.next ≡ 0 }
     requires workers { (1 ≤ n) × (n ≤ 16) }
     ensures closed { HasClosed result }
+    ensures tickets { ShowsItsTickets result }
     ensures told { result.told.value ≡ shared.told.value }
     ensures trace { result.trace ≡ shared.locks.trace }
 {

@@ -23,7 +23,8 @@ pub struct Relay {
 }
 
 impl Work<Runner> for Relay {
-    ghost use Rattle.std.specs.Prelude.{◌≡◌};
+    ghost use Rattle.std.specs.Prelude.{◌≡◌, ◌≢◌, ◌+◌};
+    ghost use Rattle.bio_workers.specs.declared.work.Progress.TheVariants.{Event};
 
     type Key = u32;
 
@@ -34,6 +35,8 @@ impl Work<Runner> for Relay {
     ghost can = { λ _ _. Unit {0} };
 
     ghost is_over = { λ runner. runner.left ≡ 0 };
+
+    ghost goes = { λ came old new. (came ≡ Event → new.left + 1 ≡ old.left) × (came ≢ Event → new ≡ old) };
 
     fn number(&self, task: &Runner) -> u32 {
         task.number
