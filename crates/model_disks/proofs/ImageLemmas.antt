@@ -37,12 +37,6 @@ pub sum_more : (words slots : List ℕ) (place : ℕ)
     → sum_of_words (paged (place + 1) words slots) ≡ (sum_of_words (paged place words slots) + sum_mod (sector_words words slots place)) % 2 ^ 64
 sum_more words slots place = omega (arith, sum_on words slots place)
 
--- which is nothing where it is not written
-pub sum_of_zeros : (words slots : List ℕ) (flags : List Bool) (place : ℕ) → FlagsAreRight words slots flags → place < length flags
-    → get_or flags place false ≡ false → sum_of_words (paged (place + 1) words slots) ≡ sum_of_words (paged place words slots)
-sum_of_zeros words slots flags place noted lt unset =
-    omega (arith, sum_on words slots place, sum_of_unwritten (sector_words words slots place) (sym (noted place lt) ∙ unset))
-
 -- the sum of sectors of which those behind the first are not written
 sum_of_rest : (words slots : List ℕ) (n more : ℕ) → ((x : ℕ) → n ≤ x → x < n + more → is_written (sector_words words slots x) ≡ false)
     → sum_by sum (paged (n + more) words slots) ≡ sum_by sum (paged n words slots)
@@ -56,6 +50,15 @@ sum_of_rest words slots n (suc more) none =
       sum_of_unwritten (sector_words words slots (n + more)) (none (n + more) (omega arith) (omega arith)),
       sum_of_rest words slots n more (λ x le lt. none x le (omega (arith, lt))),
     )
+
+-- which are those that have flags that are not set
+pub sum_of_unset : (words slots : List ℕ) (flags : List Bool) (n stop : ℕ) → FlagsAreRight words slots flags → n ≤ stop → stop ≤ length flags
+    → ((x : ℕ) → n ≤ x → x < stop → get_or flags x false ≡ false) → sum_of_words (paged stop words slots) ≡ sum_of_words (paged n words slots)
+sum_of_unset words slots flags n stop noted ordered within unset =
+    let all : n + (stop - n) ≡ stop = omega (arith, ordered) in
+    ap (λ (k : ℕ). sum_of_words (paged k words slots)) (sym all)
+    ∙ ap (λ (s : ℕ). s % 2 ^ 64) (sum_of_rest words slots n (stop - n)
+    (λ x le lt. sym (noted x (omega (arith, lt, all, within))) ∙ unset x le (omega (arith, lt, all))))
 
 module _ (count room flags_room : ℕ) (words slots owners : List ℕ) (flags : List Bool) (image : IsImage count room flags_room words slots owners flags) where
   -- behind the flags no sector is written

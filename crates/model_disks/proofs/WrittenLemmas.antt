@@ -1,8 +1,8 @@
 -- The runs of written sectors, from one to the next.
-use Rattle.std.proofs.Common.{◌≡◌, ◌+◌, ◌-◌, ◌<◌, ◌≤◌, inl, inr, ℕ, zero, suc, Bool, true, false, List, [], ◌∷◌, ◌++◌, map, filter, length, drop, zero-add, add-zero, refl, sym, ap, ◌∙◌, subst, arith}
+use Rattle.std.proofs.Common.{◌≡◌, ◌+◌, ◌-◌, ◌<◌, ◌≤◌, inl, inr, ℕ, zero, suc, Bool, true, false, List, [], ◌∷◌, ◌++◌, map, filter, length, take, drop, zero-add, add-zero, refl, sym, ap, ◌∙◌, subst, arith, length-drop}
 use Rattle.std.specs.Bool.{beq}
-use Rattle.std.specs.List.{range_with_len, prefix_len}
-use Rattle.std.proofs.lemmas.List.{get_or-drop, get_or_past}
+use Rattle.std.specs.List.{range_with_len, prefix_len, AllWithin}
+use Rattle.std.proofs.lemmas.List.{get_or-drop, get_or-take, get_or_past, length-take-le}
 use Rattle.std.proofs.lemmas.List.Elements.{filter-append}
 use Rattle.std.proofs.lemmas.Bool.{cases_eq}
 use Rattle.std.proofs.lemmas.Bool.Decides.{nat_tests}
@@ -124,6 +124,33 @@ agrees true true same = refl
 agrees true false same = cc
 agrees false true same = cc
 agrees false false same = refl
+
+-- a flag that is not set
+not_true : (a : Bool) → beq a true ≡ false → a ≡ false
+not_true true same = cc
+not_true false same = refl
+
+-- nor is one of a part of the flags in which none is
+pub unset_span : (flags : List Bool) (place size n : ℕ) → place + size ≤ length flags → n ≡ size
+    → AllWithin (λ f. beq f true ≡ false) (take n (drop place flags)) 0 (length (take n (drop place flags)))
+    → (x : ℕ) → place ≤ x → x < place + size → flag flags x ≡ false
+unset_span flags place size n within is none x le lt =
+    let there : place + (x - place) ≡ x = omega (arith, le) in
+    let inside : x - place < n = omega (arith, le, lt, is) in
+    let long : length (take n (drop place flags)) ≡ n = length-take-le n (drop place flags) (omega (arith, within, is, length-drop place flags)) in
+    sym (ap (flag flags) there)
+    ∙ sym (get_or-drop place flags (x - place) false)
+    ∙ sym (get_or-take n (drop place flags) (x - place) false inside)
+    ∙ not_true (flag (take n (drop place flags)) (x - place)) (none (x - place) false (omega arith) (omega (arith, inside, long)))
+
+-- a sector that is not written is not the first that is
+pub unset_before : (flags : List Bool) (from place : ℕ) → IsFirst flags from true place → from < length flags → flag flags from ≡ false → from < place
+unset_before flags from place found within unset = elim (cases_eq from place) [
+  | inl same ↦
+      let set = found.here (omega (arith, same, within)) in
+      cc (set, ap (flag flags) same, unset)
+  | inr other ↦ omega (arith, other, found.behind)
+]
 
 -- a written sector is not the first that is not written
 pub run_has_sectors : (flags : List Bool) (from start stop : ℕ) → IsFirst flags from true start → IsFirst flags start false stop

@@ -1,7 +1,7 @@
 //! Whether each sector of a disk is written, up to the last one that ever was.
-ghost use Rattle.std.specs.Prelude.{◌≡◌, ◌+◌, ◌≤◌, false, length, vec_capacity, MatchOption};
+ghost use Rattle.std.specs.Prelude.{◌≡◌, ◌+◌, ◌<◌, ◌≤◌, ℕ, false, true, length, vec_capacity, MatchOption};
 ghost use Rattle.model_disks.specs.Kept.{grown, marked};
-ghost use Rattle.model_disks.specs.Runs.{EndsInWord, IsApart, IsFirst, IsNextRun};
+ghost use Rattle.model_disks.specs.Runs.{flag, EndsInWord, IsApart, IsFirst, IsNextRun};
 
 use stack_base::Range;
 
@@ -52,6 +52,31 @@ fn first_place(flags: &[bool], from: usize, written: bool) -> usize
     flags.len()
 }
 
+// A place with no written sector between `from` and it. It passes over 64 sectors at a time, of which none is written.
+fn behind_unwritten(flags: &[bool], from: usize) -> usize
+    requires { from ≤ length flags.now }
+    ensures behind { from ≤ result }
+    ensures within { result ≤ length flags.now }
+    ensures none { (x : ℕ) → from ≤ x → x < result → flag flags.now x ≡ false }
+{
+    let mut place = from;
+    'passing: while 64 <= flags.len() - place {
+        if flags[place..place + 64].contains(&true) {
+            return place;
+        }
+        place += 64;
+    }
+    place
+}
+
+/// The first place at or behind `from` that is written, or the number of flags where there is none.
+pub fn first_written(flags: &[bool], from: usize) -> usize
+    requires { from ≤ length flags.now }
+    ensures { IsFirst flags.now from true result }
+{
+    first_place(flags, behind_unwritten(flags, from), true)
+}
+
 /// The first run of written sectors that starts at or behind `from`, which is not inside a run.
 pub fn next_run(flags: &[bool], from: u64) -> Option<Range>
     requires { IsApart flags.now from }
@@ -62,7 +87,7 @@ pub fn next_run(flags: &[bool], from: u64) -> Option<Range>
     if from >= flags.len() as u64 {
         return None;
     }
-    let start = first_place(flags, from as usize, true);
+    let start = first_written(flags, from as usize);
     if start == flags.len() {
         return None;
     }

@@ -4,7 +4,7 @@ ghost use Rattle.image_lanes.specs.Lanes.{sum_mod};
 ghost use Rattle.model_disks.specs.Disks.{sum_of_words};
 ghost use Rattle.model_disks.specs.Paged.{FlagsAreRight, ArePagesKept, in_pages, sector_in_pages};
 
-use crate::flags;
+use crate::flags::{self, first_written};
 use crate::pages::Pages;
 use bio_records::Bio;
 use image_lanes::sum_words;
@@ -67,9 +67,13 @@ fn sum_of_written(pages: &Pages, flags: &[bool]) -> u64
     ensures { result ≡ sum_of_words (in_pages (length flags.now) pages.now) }
 {
     let mut all = 0u64;
-    'adding: for place in 0..flags.len() {
+    let mut place = 0;
+    'adding: while place < flags.len() {
         if flags[place] {
             all = all.wrapping_add(sum_of_sector(pages, place as u64));
+            place += 1;
+        } else {
+            place = first_written(flags, place);
         }
     }
     all

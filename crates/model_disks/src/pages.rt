@@ -20,14 +20,22 @@ const WORDS: usize = 1024;
 ///
 /// A page that was never written has a slot too, behind those that have words: its words are zeros, of which those that are not written are set
 /// where it is first written. Then it changes places with the page in the first slot that has no words.
+///
+/// The pages stand in the order of their first writes, within room that is reserved when a disk is opened: memory is not handed out as
+/// zeros, and what is lent through a `&` must be set. So only pages that are written are set: a write to the end of the largest disk sets
+/// 8 KiB of words, and the flags up to there (256 KiB). An opening sets the two tables, 8 bytes a page (128 KiB). All words in the order
+/// of their sectors want a `&mut`: the other pages are set then, and each page is swapped into its place.
+///
+/// Each page has a slot, also one without words: so the tables are inverse to each other at any time, and one move (`exchange`: the pages
+/// in two slots change places) serves a first write and the putting in order alike.
 #[derive(Drop)]
 pub struct Pages {
     // The words of the pages that were written, in the order of their first writes. There is room for those of all pages.
     words: Vec<u64>,
     // The slot of each page.
-    slots: Vec<usize>,
+    slots: Vec<u32>,
     // The page in each slot.
-    owners: Vec<usize>,
+    owners: Vec<u32>,
 }
 
 // A sector in which nothing was written.
@@ -87,10 +95,10 @@ fn put_behind(words: &mut Vec<u64>, slot: usize, start: usize, sectors: usize, f
 }
 
 // Numbers from 0 on.
-fn in_turn(alloc: Global, count: usize) -> Result<Vec<usize>, AllocError>
+fn in_turn(alloc: Global, count: u32) -> Result<Vec<u32>, AllocError>
     ensures { IfOk result (λ numbers. numbers.items ≡ range_with_len 0 count) }
 {
-    let mut numbers = Vec::with_capacity(alloc, count)?;
+    let mut numbers = Vec::with_capacity(alloc, count as usize)?;
     'numbering: for number in 0..count {
         numbers.push_reserved(number);
     }
@@ -114,8 +122,10 @@ impl Pages {
     {
         let page = self.owners[one];
         let behind = self.owners[other];
-        self.slots[page] = other;
-        self.slots[behind] = one;
+        let low = self.slots[page as usize];
+        let high = self.slots[behind as usize];
+        self.slots[page as usize] = high;
+        self.slots[behind as usize] = low;
         self.owners[one] = behind;
         self.owners[other] = page;
     }
@@ -131,7 +141,7 @@ impl Pages {
         ensures settled { AreInOrder self.new.slots.items (page + 1) }
         ensures same { StaysSame self.old self.new }
     {
-        let slot = self.slots[page];
+        let slot = self.slots[page] as usize;
         if slot > page {
             swap(&mut self.words, page, slot);
             self.exchange(page, slot);
@@ -163,7 +173,7 @@ impl Pages {
         ensures filled { IsFilled range.start range.len first self.old self.new }
     {
         let used = self.words.len() / WORDS;
-        let slot = self.slots[(range.start / SECTORS) as usize];
+        let slot = self.slots[(range.start / SECTORS) as usize] as usize;
         self.exchange(slot, used);
         let start = (range.start % SECTORS) as usize;
         put_behind(&mut self.words, used, start, range.len as usize, first);
@@ -178,7 +188,7 @@ impl Pages {
         ensures filled { IsFilled range.start range.len first self.old self.new }
     {
         let used = self.words.len() / WORDS;
-        let slot = self.slots[(range.start / SECTORS) as usize];
+        let slot = self.slots[(range.start / SECTORS) as usize] as usize;
         if slot >= used {
             self.write_new(range, first);
             return;
@@ -214,7 +224,7 @@ impl Pages {
         ensures short { length result.now ≤ 64 * most }
         ensures zeros { length result.now ≡ 0 → sector_in_pages self.now at ≡ zero_sector }
     {
-        let slot = self.slots[(at / SECTORS) as usize];
+        let slot = self.slots[(at / SECTORS) as usize] as usize;
         if slot >= self.words.len() / WORDS {
             return &[];
         }
@@ -233,12 +243,11 @@ impl Pages {
         ensures all { IfOk result (λ pages. sectors ≤ 16 * length pages.slots.items) }
         ensures none { IfOk result (λ pages. pages.words.items ≡ []) }
     {
-        let count = sectors.div_ceil(SECTORS) as usize;
-        let Some(words) = count.checked_mul(WORDS) else {
+        let Ok(count) = u32::try_from(sectors.div_ceil(SECTORS)) else {
             return Err(AllocError);
         };
         Ok(Pages {
-            words: Vec::with_capacity(alloc, words)?,
+            words: Vec::with_capacity(alloc, WORDS * count as usize)?,
             slots: in_turn(alloc, count)?,
             owners: in_turn(alloc, count)?,
         })

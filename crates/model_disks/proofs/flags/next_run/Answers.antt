@@ -9,16 +9,16 @@ returns-then-from-flags-clause-runs c = no_runs_past c.args.flags.now c.args.fro
 
 pub returns-then-start-flags-clause-runs : goal.returns-then-start-flags-clause-runs
 returns-then-start-flags-clause-runs c =
-    no_runs c.args.flags.now c.args.from (omega arith) (λ x le lt. c.first_place-start.ensures.others x le (omega arith))
+    no_runs c.args.flags.now c.args.from (omega arith) (λ x le lt. c.first_written-start.ensures.others x le (omega arith))
 
 pub returns-clause-runs : goal.returns-clause-runs
 returns-clause-runs c =
     let flags = c.args.flags.now in
-    let start = c.first_place-start.result in
+    let start = c.first_written-start.result in
     let stop = c.first_place-end.result in
     let past : stop ≡ start + (stop - start) = omega arith in
     let within : start < length flags = omega (arith, c.if-start-flags.false) in
-    let some = run_has_sectors flags c.args.from start stop c.first_place-start.ensures c.first_place-end.ensures within in
-    next_run_is flags c.args.from start stop c.first_place-start.ensures.behind some c.first_place-end.ensures.within c.requires
-    c.first_place-start.ensures.others c.first_place-end.ensures.others (unset_at flags start stop c.first_place-end.ensures)
+    let some = run_has_sectors flags c.args.from start stop c.first_written-start.ensures c.first_place-end.ensures within in
+    next_run_is flags c.args.from start stop c.first_written-start.ensures.behind some c.first_place-end.ensures.within c.requires
+    c.first_written-start.ensures.others c.first_place-end.ensures.others (unset_at flags start stop c.first_place-end.ensures)
     ∙ ap (λ x. record { start = start; len = stop - start } ∷ runs_from flags x) past

@@ -18,10 +18,10 @@ returns-clause-paged c =
     let own = 64 * c.args.range.len in
     let zeros = grown 0 (1024 * (used + 1)) words in
     let within : c.args.range.start / 16 < length is.slots.items = omega (arith, c.requires.within) in
-    let slot = get_or_read is.slots.items (c.args.range.start / 16) _ within c.index-slot.ensures 0 in
+    let slot = get_or_read is.slots.items (c.args.range.start / 16) _ within c.index.ensures 0 in
     let in_slots = c.requires.paged.inverse.slot (c.args.range.start / 16) within in
     let count : c.len-used.result ≡ length words = omega (arith, c.len-used.ensures, is.words.ok.0) in
-    let far : used ≤ c.index-slot.result.now = omega (arith, slot, count, c.requires.behind, c.requires.paged.whole) in
+    let far : used ≤ c.index.result.now = omega (arith, slot, count, c.requires.behind, c.requires.paged.whole) in
     let paged = paged_grown (vec_capacity is.words) (vec_capacity c.put_behind.new.words) words is.slots.items is.owners.items c.exchange.new.self.slots.items
     c.exchange.new.self.owners.items (used + 1) c.requires.paged c.exchange.ensures.inverse c.exchange.ensures.slots.size (omega (arith, count))
     (omega (arith, in_slots, slot, far)) (omega (arith, c.put_behind.ensures.room, ap (λ w. vec_capacity w) c.exchange.ensures.words)) in
@@ -48,15 +48,15 @@ returns-clause-filled c =
     let from = 1024 * used + 64 * (start % 16) in
     let zeros = grown 0 (1024 * (used + 1)) words in
     let within : start / 16 < length is.slots.items = omega (arith, c.requires.within) in
-    let slot = get_or_read is.slots.items (start / 16) _ within c.index-slot.ensures 0 in
+    let slot = get_or_read is.slots.items (start / 16) _ within c.index.ensures 0 in
     let count : c.len-used.result ≡ length words = omega (arith, c.len-used.ensures, is.words.ok.0) in
-    let far : used ≤ c.index-slot.result.now = omega (arith, slot, count, c.requires.behind, c.requires.paged.whole) in
+    let far : used ≤ c.index.result.now = omega (arith, slot, count, c.requires.behind, c.requires.paged.whole) in
     let end : length words ≤ 1024 * used = omega (arith, count, c.requires.paged.whole) in
     let same : AreSame words is.slots.items zeros slots =
-    same_behind words is.slots.items _ used c.index-slot.result.now (1024 * (used + 1)) end far c.exchange.ensures.slots in
+    same_behind words is.slots.items _ used c.index.result.now (1024 * (used + 1)) end far c.exchange.ensures.slots in
     let long = length_grown 0 (1024 * (used + 1)) words in
     let here : number_at slots (start / 16) ≡ used =
-    c.exchange.ensures.slots.slot (start / 16) within ∙ ap (swapped_slot c.index-slot.result.now used) (sym slot) ∙ turned_one c.index-slot.result.now used in
+    c.exchange.ensures.slots.slot (start / 16) within ∙ ap (swapped_slot c.index.result.now used) (sym slot) ∙ turned_one c.index.result.now used in
     let made : c.put_behind.new.words.items ≡ put_words from (64 * len) c.args.first zeros =
     c.put_behind.ensures.words ∙ ap (λ w. put_words from (64 * len) c.args.first (grown 0 (1024 * (used + 1)) w.items)) c.exchange.ensures.words in
     filled_same start len c.args.first words is.slots.items zeros slots _ slots (omega (arith, within, c.requires.page)) same

@@ -11,9 +11,9 @@ returns-clause-filled c =
     let is = c.args.self.now in
     let start = c.args.range.start in
     let len = c.args.range.len in
-    let slot = c.index-slot.result.now in
+    let slot = c.index.result.now in
     let from = 1024 * slot + 64 * (start % 16) in
-    let here = get_or_read is.slots.items (start / 16) _ (omega (arith, c.requires.within)) c.index-slot.ensures 0 in
+    let here = get_or_read is.slots.items (start / 16) _ (omega (arith, c.requires.within)) c.index.ensures 0 in
     let kept : 1024 * slot + 1024 ≤ length is.words.items = omega (arith, c.if-slot-used.false, c.len-used.ensures, is.words.ok.0) in
     let made : c.put_words.new.words ≡ put_words from (64 * len) c.args.first is.words.items =
     c.put_words.ensures ∙ ap (put_words from (64 * len) c.args.first) c.deref_mut.ensures.value in
