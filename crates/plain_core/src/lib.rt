@@ -12,7 +12,7 @@ mod steps;
 
 pub use fault::CoreFault;
 pub use objects::Objects;
-pub use objects::book::{Book, Ended};
+pub use objects::book::{Book, NodeOutcome};
 pub use objects::disk::Disk;
 pub use objects::lists::{Lists, Rescue};
 pub use objects::node::{Closed, Holding, Node};
@@ -20,6 +20,6 @@ pub use objects::part::{Data, Hand, Part, Slip, Vector};
 pub use objects::pool::Pool;
 pub use state::Core;
 pub use steps::task::{
-    Ask, Carried, Completer, Copying, Doing, Gathered, Keeper, Rescuer, Submission, Task, Want,
-    Writer,
+    Carried, Completer, Copying, Doing, DriverAsk, Gathered, Keeper, Rescuer, Submission, Task,
+    Want, Writer,
 };

@@ -27,8 +27,8 @@ use Rattle.run_machine.specs.Events.{pool_of, how_of, drop_of, resize_of}
 use Rattle.run_machine.specs.Maps.{upd}
 use Rattle.run_machine.specs.Objects.{Opened}
 use Rattle.plain_core.specs.objects.Books.{ended_of_plain, end_of, IsToldBy}
-use Rattle.plain_core.specs.declared.objects.book.Ended.{Ended}
-use Rattle.plain_core.specs.declared.objects.book.Ended.TheVariants as ended
+use Rattle.plain_core.specs.declared.objects.book.NodeOutcome.{NodeOutcome}
+use Rattle.plain_core.specs.declared.objects.book.NodeOutcome.TheVariants as ended
 use Rattle.plain_core.specs.objects.Plain.{CoreObjects, core_pool_at, core_rescue_at, kept_disk, core_disk_at, disk_or, opened_disk, core_book_at, objects_of_core}
 use Rattle.plain_core.specs.objects.Told.{MovesAs, IsPunt, Punts, Pops, IsPush, PushesIn, Pushes, CompletesIn, CompletesBio, Links, Joins, IsDrop, Finishes, StartsRound}
 use Rattle.plain_core.specs.steps.Answers.{IsAnswer, Refuses, HasAnswer, AnswersRequest, Lacks}
@@ -252,12 +252,12 @@ not_dropped old writer place status part what never (DroppedTo (drop.Top closed)
 not_dropped old writer place status part what never (DroppedTo (drop.Stray back)) new is serves = absurd cc
 not_dropped old writer place status part what never _ new is serves = absurd serves
 
-told_drop : (writer place : ℕ) (status : Status) (e : Ended) → drop_of writer place status (ended_of_plain e) ≡ Some (told.Drop writer place status (end_of e))
+told_drop : (writer place : ℕ) (status : Status) (e : NodeOutcome) → drop_of writer place status (ended_of_plain e) ≡ Some (told.Drop writer place status (end_of e))
 told_drop writer place status ended.Left = refl
 told_drop writer place status (ended.Up closed) = refl
 told_drop writer place status (ended.Top closed) = refl
 
-pub tell : (old new : CoreObjects) (writer place : ℕ) (status : Status) (part : Option (Item Pad)) (what : What) (result : Result Ended CoreFault)
+pub tell : (old new : CoreObjects) (writer place : ℕ) (status : Status) (part : Option (Item Pad)) (what : What) (result : Result NodeOutcome CoreFault)
     → IsDrop old writer place status part what result new → AnswersRequest old (Drop writer place status part) what (λ e. DroppedTo (ended_of_plain e)) result new
 tell old new writer place status part what (Ok e) t = record {
   stack = ap (λ (o : CoreObjects). o.stack) t.2;

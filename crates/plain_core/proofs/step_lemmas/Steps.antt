@@ -15,12 +15,12 @@ use Rattle.run_machine.specs.declared.event.What.{What}
 use Rattle.run_machine.specs.Requests.{Chain, Master, Leg, Punt, TakeSlip, HadSlip, Missed, Did, LinkedTo}
 use Rattle.run_machine.specs.Submissions as submission
 use Rattle.task_steps.specs.Routed.{Routing, routing_setup}
-use Rattle.plain_core.specs.declared.steps.task.Ask.{Ask}
-use Rattle.plain_core.specs.declared.steps.task.Ask.TheVariants as ask
+use Rattle.plain_core.specs.declared.steps.task.DriverAsk.{DriverAsk}
+use Rattle.plain_core.specs.declared.steps.task.DriverAsk.TheVariants as ask
 use Rattle.plain_core.specs.declared.steps.task.Want.{Want}
 use Rattle.plain_core.specs.declared.steps.task.Want.TheVariants as want
-use Rattle.plain_core.specs.declared.steps.submission.Next.{Next}
-use Rattle.plain_core.specs.declared.steps.submission.Next.TheVariants as next
+use Rattle.plain_core.specs.declared.steps.submission.Continuation.{Continuation}
+use Rattle.plain_core.specs.declared.steps.submission.Continuation.TheVariants as next
 use Rattle.plain_core.specs.declared.steps.task.Copying.{Copying}
 use Rattle.plain_core.specs.objects.Plain.{CoreObjects}
 use Rattle.plain_core.specs.objects.Told.{Punts, Pushes, Joins}
@@ -45,7 +45,7 @@ punted_to old new lists rest dev other what is p =
     let q = subst (λ d. Punts old lists d what (Ok (tt {0})) new rest) is p in
     (punt_answer old new other lists what q.0 q.1 q.2, q.3)
 
-pub cut_punted : (r : Routing) (old new : CoreObjects) (part : Item Pad) (w : Want) (lists rest : TaskLists) (what : What) (dev : DevId) (n : Next) (after : submission.Want)
+pub cut_punted : (r : Routing) (old new : CoreObjects) (part : Item Pad) (w : Want) (lists rest : TaskLists) (what : What) (dev : DevId) (n : Continuation) (after : submission.Want)
     → w ≡ want.Punts → dev ≡ part.bio.dev → Punts old lists dev what (Ok (tt {0})) new rest → n ≡ next.Stays → after ≡ submission.Takes true
     → SubmissionSteps r old (cuts_for part (want_of_plain w)) lists what (Ok n) new (cuts_for part after) rest
 cut_punted r old new part w lists rest what dev n after is_want is_dev p stays takes =
@@ -70,7 +70,7 @@ copy_not_punted r old new copying w lists rest what e is_want p =
     subst (λ v. SubmissionSteps r old (copies_for copying (want_of_plain v)) lists what (Err e) new (copies_for copying (want_of_plain v)) rest) (sym is_want)
     (failed r old new (copies_for copying submission.Punts) lists rest what e q.1 q.0)
 
-pub copy_punted : (r : Routing) (old new : CoreObjects) (copying : Copying) (w : Want) (lists rest : TaskLists) (what : What) (n : Next) (after : submission.Want)
+pub copy_punted : (r : Routing) (old new : CoreObjects) (copying : Copying) (w : Want) (lists rest : TaskLists) (what : What) (n : Continuation) (after : submission.Want)
     → w ≡ want.Punts → Punts old lists copying.bio.dev what (Ok (tt {0})) new rest → n ≡ next.Stays → after ≡ submission.Takes true
     → SubmissionSteps r old (copies_for copying (want_of_plain w)) lists what (Ok n) new (copies_for copying after) rest
 copy_punted r old new copying w lists rest what n after is_want p stays takes =
@@ -101,7 +101,7 @@ cut_not_linked r old new part hand w lists rest what bio e is_want is_bio same l
     subst (λ v. SubmissionSteps r old (cuts_for part (want_of_plain v)) lists what (Err e) new (cuts_for part (submission.Links hand)) rest) (sym is_want)
     (failed r old new (cuts_for part (submission.Links hand)) lists rest what e same (join_failed old new part.bio.writer (Chain part.bio.node) what e m))
 
-pub copy_linked : (r : Routing) (old new : CoreObjects) (copying : Copying) (hand : Item Pad) (w : Want) (lists wide rest : TaskLists) (what : What) (n : Next) (after : submission.Doing) (node : ℕ)
+pub copy_linked : (r : Routing) (old new : CoreObjects) (copying : Copying) (hand : Item Pad) (w : Want) (lists wide rest : TaskLists) (what : What) (n : Continuation) (after : submission.Doing) (node : ℕ)
     → w ≡ want.Links hand → wide ≡ lists → rest ≡ submitted (submission.leg_at copying.bio hand copying.leg node (tree r.stack copying.bio.dev.0)) wide
     → submission.copies (routing_setup r) rest copying.bio copying.master (copying.leg + 1) ≡ turned (routing_setup r) after rest n
     → Joins old copying.bio.writer (Leg copying.master) what (Ok node) new → SubmissionSteps r old (copies_for copying (want_of_plain w)) lists what (Ok n) new after rest
@@ -120,21 +120,21 @@ copy_not_linked r old new copying hand w lists rest what e is_want same l =
     subst (λ v. SubmissionSteps r old (copies_for copying (want_of_plain v)) lists what (Err e) new (copies_for copying (submission.Links hand)) rest) (sym is_want)
     (failed r old new (copies_for copying (submission.Links hand)) lists rest what e same (join_failed old new copying.bio.writer (Leg copying.master) what e l))
 
-pub drive_pushed : (r : Routing) (old new : CoreObjects) (part : Item Pad) (a : Ask) (lists rest : TaskLists) (what : What) (after : submission.Doing) (dev : DevId)
+pub drive_pushed : (r : Routing) (old new : CoreObjects) (part : Item Pad) (a : DriverAsk) (lists rest : TaskLists) (what : What) (after : submission.Doing) (dev : DevId)
     → a ≡ ask.ToPush → dev ≡ part.bio.dev → rest ≡ lists → Pushes old part what (Ok (tt {0})) new
     → SubmissionSteps r old (drives_for part (ask_of_plain a)) lists what (Ok (next.Returns dev)) new after rest
 drive_pushed r old new part a lists rest what after dev is_ask is_dev same p =
     subst (λ v. SubmissionSteps r old (drives_for part (ask_of_plain v)) lists what (Ok (next.Returns dev)) new after rest) (sym is_ask)
     (Did, push old new part what p, ap (λ d. submission.goes_on (routing_setup r) d lists) (sym is_dev) ∙ ap (submission.goes_on (routing_setup r) dev) (sym same))
 
-pub drive_not_pushed : (r : Routing) (old new : CoreObjects) (part : Item Pad) (a : Ask) (lists rest : TaskLists) (what : What) (e : CoreFault)
+pub drive_not_pushed : (r : Routing) (old new : CoreObjects) (part : Item Pad) (a : DriverAsk) (lists rest : TaskLists) (what : What) (e : CoreFault)
     → a ≡ ask.ToPush → rest ≡ lists → Pushes old part what (Err e) new
     → SubmissionSteps r old (drives_for part (ask_of_plain a)) lists what (Err e) new (drives_for part (ask_of_plain a)) rest
 drive_not_pushed r old new part a lists rest what e is_ask same p =
     subst (λ v. SubmissionSteps r old (drives_for part (ask_of_plain v)) lists what (Err e) new (drives_for part (ask_of_plain v)) rest) (sym is_ask)
     (failed r old new (drives_for part submission.ToPush) lists rest what e same (push_failed old new part what e p))
 
-pub drive_mastered : (r : Routing) (old new : CoreObjects) (part : Item Pad) (slip : SlipItem) (a : Ask) (lists rest : TaskLists) (what : What) (after : submission.Doing) (bio : Bio) (legs node : ℕ)
+pub drive_mastered : (r : Routing) (old new : CoreObjects) (part : Item Pad) (slip : SlipItem) (a : DriverAsk) (lists rest : TaskLists) (what : What) (after : submission.Doing) (bio : Bio) (legs node : ℕ)
     → a ≡ ask.ToMaster slip → bio ≡ part.bio → legs ≡ submission.legs_of (tree r.stack part.bio.dev.0) → rest ≡ lists
     → Joins old part.bio.writer (Master part.bio.node part slip legs) what (Ok node) new
     → SubmissionSteps r old (drives_for part (ask_of_plain a)) lists what (Ok (next.Copies bio node)) new after rest
@@ -146,7 +146,7 @@ drive_mastered r old new part slip a lists rest what after bio legs node is_ask 
       ap (λ (b : Bio). submission.copies (routing_setup r) lists b node 0) (sym is_bio) ∙ ap (λ ls. submission.copies (routing_setup r) ls bio node 0) (sym same),
     )
 
-pub drive_not_mastered : (r : Routing) (old new : CoreObjects) (part : Item Pad) (slip : SlipItem) (a : Ask) (lists rest : TaskLists) (what : What) (legs : ℕ) (e : CoreFault)
+pub drive_not_mastered : (r : Routing) (old new : CoreObjects) (part : Item Pad) (slip : SlipItem) (a : DriverAsk) (lists rest : TaskLists) (what : What) (legs : ℕ) (e : CoreFault)
     → a ≡ ask.ToMaster slip → legs ≡ submission.legs_of (tree r.stack part.bio.dev.0) → rest ≡ lists
     → Joins old part.bio.writer (Master part.bio.node part slip legs) what (Err e) new
     → SubmissionSteps r old (drives_for part (ask_of_plain a)) lists what (Err e) new (drives_for part (submission.ToMaster slip)) rest
@@ -156,14 +156,14 @@ drive_not_mastered r old new part slip a lists rest what legs e is_ask is_legs s
     (failed r old new (drives_for part (submission.ToMaster slip)) lists rest what e same
     (join_failed old new part.bio.writer (Master part.bio.node part slip (submission.legs_of (tree r.stack part.bio.dev.0))) what e m))
 
-pub drive_missed : (r : Routing) (old new : CoreObjects) (part : Item Pad) (a : Ask) (lists : TaskLists) (what : What) (dev : DevId)
+pub drive_missed : (r : Routing) (old new : CoreObjects) (part : Item Pad) (a : DriverAsk) (lists : TaskLists) (what : What) (dev : DevId)
     → a ≡ ask.ToRecord → dev ≡ part.bio.dev → TakesSlip old dev what (Ok None) new
     → SubmissionSteps r old (drives_for part (ask_of_plain a)) lists what (Ok next.Stays) new (drives_for part (ask_of_plain a)) lists
 drive_missed r old new part a lists what dev is_ask is_dev t =
     subst (λ v. SubmissionSteps r old (drives_for part (ask_of_plain v)) lists what (Ok next.Stays) new (drives_for part (ask_of_plain v)) lists) (sym is_ask)
     (Missed t.0, subst (λ d. IsAnswer old (TakeSlip d) what (Missed t.0) new) is_dev t.1, refl)
 
-pub drive_recorded : (r : Routing) (old new : CoreObjects) (part : Item Pad) (slip : SlipItem) (a : Ask) (lists : TaskLists) (what : What) (dev : DevId)
+pub drive_recorded : (r : Routing) (old new : CoreObjects) (part : Item Pad) (slip : SlipItem) (a : DriverAsk) (lists : TaskLists) (what : What) (dev : DevId)
     → a ≡ ask.ToRecord → dev ≡ part.bio.dev → TakesSlip old dev what (Ok (Some slip)) new
     → SubmissionSteps r old (drives_for part (ask_of_plain a)) lists what (Ok next.Stays) new (drives_for part (submission.ToMaster slip)) lists
 drive_recorded r old new part slip a lists what dev is_ask is_dev t =

@@ -8,18 +8,18 @@ use Rattle.bio_books.specs.Drops.{Drops, Closed, closed_of}
 use Rattle.bio_books.specs.Drops as drop
 use Rattle.run_machine.specs.declared.event.End.{End}
 use Rattle.run_machine.specs.declared.event.End.TheVariants as end
-use Rattle.plain_core.specs.declared.objects.book.Ended.{Ended}
-use Rattle.plain_core.specs.declared.objects.book.Ended.TheVariants as ended
+use Rattle.plain_core.specs.declared.objects.book.NodeOutcome.{NodeOutcome}
+use Rattle.plain_core.specs.declared.objects.book.NodeOutcome.TheVariants as ended
 use Rattle.plain_core.specs.declared.fault.CoreFault.{CoreFault}
 use Rattle.plain_core.specs.declared.fault.CoreFault.TheVariants as fault
 
 -- what an end left of a node, and how an event tells it
-abbrev pub ended_of_plain : Ended → drop.Ended
+abbrev pub ended_of_plain : NodeOutcome → drop.Ended
 ended_of_plain ended.Left = drop.Left
 ended_of_plain (ended.Up closed) = drop.Up closed
 ended_of_plain (ended.Top closed) = drop.Top closed
 
-abbrev pub end_of : Ended → End
+abbrev pub end_of : NodeOutcome → End
 end_of ended.Left = end.Left
 end_of (ended.Up closed) = end.Up
 end_of (ended.Top closed) = end.Top
@@ -31,7 +31,7 @@ IsToldBy end.Top (drop.Top closed) = Unit {0}
 IsToldBy tells ended = ⊥
 
 -- a node was told of an end, or can't be told so that the event tells it
-abbrev pub IsEndTold : BookState → ℕ → Status → Option (Item Pad) → End → Option Ended → BookState → Type 0
+abbrev pub IsEndTold : BookState → ℕ → Status → Option (Item Pad) → End → Option NodeOutcome → BookState → Type 0
 IsEndTold old place status part end None new =
     (new ≡ old) × ((answer : drop.Ended) (new : BookState) → IsToldBy end answer → Drops old place status part answer new → ⊥)
 IsEndTold old place status part end (Some ended) new = IsToldBy end (ended_of_plain ended) × Drops old place status part (ended_of_plain ended) new

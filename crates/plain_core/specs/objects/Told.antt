@@ -23,7 +23,7 @@ use Rattle.run_machine.specs.Events.{take_of, how_of}
 use Rattle.run_machine.specs.Requests.{Opening}
 use Rattle.run_machine.specs.Objects.{Opened, done_one}
 use Rattle.plain_core.specs.objects.Pools.{move_of, CanTake}
-use Rattle.plain_core.specs.declared.objects.book.Ended.{Ended}
+use Rattle.plain_core.specs.declared.objects.book.NodeOutcome.{NodeOutcome}
 use Rattle.plain_core.specs.objects.Books.{ended_of_plain, end_of, IsToldBy}
 use Rattle.plain_core.specs.objects.Plain.{CoreObjects, AnswersIfEnabled, core_pool_at, with_pool, core_rescue_at, with_rescue, kept_disk, with_disk, core_book_at, with_book}
 use Rattle.plain_core.specs.declared.fault.CoreFault.{CoreFault}
@@ -131,7 +131,7 @@ Joins old writer opening what (Err fault.Memory) new =
     × Opened (core_book_at old writer) opening (Made node) book
 
 -- a node of a writer's book was told of an end
-abbrev pub IsDrop : CoreObjects → ℕ → ℕ → Status → Option (Item Pad) → What → Result Ended CoreFault → CoreObjects → Type 0
+abbrev pub IsDrop : CoreObjects → ℕ → ℕ → Status → Option (Item Pad) → What → Result NodeOutcome CoreFault → CoreObjects → Type 0
 IsDrop old writer place status part what result new =
     AnswersIfEnabled old
     (λ ended next. (what ≡ told.Drop writer place status (end_of ended))

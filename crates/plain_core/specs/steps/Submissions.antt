@@ -13,9 +13,9 @@ use Rattle.run_machine.specs.Scene.{Setup}
 use Rattle.task_steps.specs.Routed.{Routing, routing_setup}
 use Rattle.task_steps.specs.Within.{ListsAreWithin}
 use Rattle.plain_core.specs.declared.objects.lists.Lists.{Lists}
-use Rattle.plain_core.specs.declared.steps.submission.Next.{Next}
-use Rattle.plain_core.specs.declared.steps.submission.Next.TheVariants as next
-use Rattle.plain_core.specs.declared.steps.task.Ask.{Ask}
+use Rattle.plain_core.specs.declared.steps.submission.Continuation.{Continuation}
+use Rattle.plain_core.specs.declared.steps.submission.Continuation.TheVariants as next
+use Rattle.plain_core.specs.declared.steps.task.DriverAsk.{DriverAsk}
 use Rattle.plain_core.specs.declared.steps.task.Copying.{Copying}
 use Rattle.plain_core.specs.declared.steps.task.Doing.{Doing}
 use Rattle.plain_core.specs.declared.steps.task.Want.{Want}
@@ -27,19 +27,19 @@ use Rattle.plain_core.specs.declared.fault.CoreFault.{CoreFault}
 use Rattle.plain_core.specs.declared.fault.CoreFault.TheVariants as fault
 
 -- what comes behind an answer makes this of a submission
-abbrev pub turned : Setup → submission.Doing → TaskLists → Next → submission.Submission
+abbrev pub turned : Setup → submission.Doing → TaskLists → Continuation → submission.Submission
 turned setup doing lists next.Stays = record { doing = doing; lists = lists }
 turned setup doing lists (next.Returns dev) = submission.goes_on setup dev lists
 turned setup doing lists (next.Copies bio master) = submission.copies setup lists bio master 0
 
 -- the lists of one that is not to stay can be gone through
-abbrev pub CanTurn : Stack → Lists → Next → Type 0
+abbrev pub CanTurn : Stack → Lists → Continuation → Type 0
 CanTurn stack lists next.Stays = Unit {0}
 CanTurn stack lists (next.Returns dev) = ListsHaveCapacity 0 lists × ListsAreWithin stack (lists_of lists)
 CanTurn stack lists (next.Copies bio master) = ListsHaveCapacity 0 lists × ListsAreWithin stack (lists_of lists) × (bio.dev.0 < length stack.devices.items)
 
 -- a submission has an answer to what it asks for, and this comes next; it lacks memory only where there is an answer
-abbrev pub SubmissionSteps : Routing → CoreObjects → submission.Doing → TaskLists → What → Result Next CoreFault → CoreObjects → submission.Doing → TaskLists → Type 0
+abbrev pub SubmissionSteps : Routing → CoreObjects → submission.Doing → TaskLists → What → Result Continuation CoreFault → CoreObjects → submission.Doing → TaskLists → Type 0
 SubmissionSteps r old doing lists what (Ok next) new after rest =
     (reply : Reply)
     × IsAnswer old (submission.submission_request (routing_setup r) doing lists) what reply new
@@ -90,23 +90,23 @@ abbrev pub next_leg : Routing → Copying → Item Pad → ℕ → Item Pad
 next_leg r copying hand node = submission.leg_at copying.bio hand copying.leg node (tree r.stack copying.bio.dev.0)
 
 -- the leg that was made next is there: the copying goes on so
-abbrev pub CopiesOn : Routing → TaskLists → Copying → Copying → submission.Want → Next → Type 0
+abbrev pub CopiesOn : Routing → TaskLists → Copying → Copying → submission.Want → Continuation → Type 0
 CopiesOn r lists before after want next =
     submission.copies (routing_setup r) lists before.bio before.master (before.leg + 1) ≡ turned (routing_setup r) (copies_for after want) lists next
 
 -- steps of a submission, by what it does
-abbrev pub DoingSteps : Routing → CoreObjects → Doing → Lists → What → Result Next CoreFault → CoreObjects → Doing → Lists → Type 0
+abbrev pub DoingSteps : Routing → CoreObjects → Doing → Lists → What → Result Continuation CoreFault → CoreObjects → Doing → Lists → Type 0
 DoingSteps r old doing lists what result new after rest =
     SubmissionSteps r old (doing_of_plain doing) (lists_of lists) what result new (doing_of_plain after) (lists_of rest)
 
-abbrev pub DriveSteps : Routing → CoreObjects → Item Pad → Ask → Lists → What → Result Next CoreFault → CoreObjects → Ask → Lists → Type 0
+abbrev pub DriveSteps : Routing → CoreObjects → Item Pad → DriverAsk → Lists → What → Result Continuation CoreFault → CoreObjects → DriverAsk → Lists → Type 0
 DriveSteps r old part ask lists what result new after rest =
     SubmissionSteps r old (drives_for part (ask_of_plain ask)) (lists_of lists) what result new (drives_for part (ask_of_plain after)) (lists_of rest)
 
-abbrev pub CutSteps : Routing → CoreObjects → Item Pad → Want → Lists → What → Result Next CoreFault → CoreObjects → Want → Lists → Type 0
+abbrev pub CutSteps : Routing → CoreObjects → Item Pad → Want → Lists → What → Result Continuation CoreFault → CoreObjects → Want → Lists → Type 0
 CutSteps r old part want lists what result new after rest =
     SubmissionSteps r old (cuts_for part (want_of_plain want)) (lists_of lists) what result new (cuts_for part (want_of_plain after)) (lists_of rest)
 
-abbrev pub CopySteps : Routing → CoreObjects → Copying → Want → Lists → What → Result Next CoreFault → CoreObjects → Copying → Want → Lists → Type 0
+abbrev pub CopySteps : Routing → CoreObjects → Copying → Want → Lists → What → Result Continuation CoreFault → CoreObjects → Copying → Want → Lists → Type 0
 CopySteps r old copying want lists what result new after wants rest =
     SubmissionSteps r old (copies_for copying (want_of_plain want)) (lists_of lists) what result new (copies_for after (want_of_plain wants)) (lists_of rest)

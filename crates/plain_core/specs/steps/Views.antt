@@ -5,8 +5,8 @@ use Rattle.run_machine.specs.Tasks as task
 use Rattle.plain_core.specs.objects.Lists.{lists_of}
 use Rattle.plain_core.specs.declared.steps.task.Want.{Want}
 use Rattle.plain_core.specs.declared.steps.task.Want.TheVariants as want
-use Rattle.plain_core.specs.declared.steps.task.Ask.{Ask}
-use Rattle.plain_core.specs.declared.steps.task.Ask.TheVariants as ask
+use Rattle.plain_core.specs.declared.steps.task.DriverAsk.{DriverAsk}
+use Rattle.plain_core.specs.declared.steps.task.DriverAsk.TheVariants as ask
 use Rattle.plain_core.specs.declared.steps.task.Doing.{Doing}
 use Rattle.plain_core.specs.declared.steps.task.Doing.TheVariants as doing
 use Rattle.plain_core.specs.declared.steps.task.Submission.{Submission}
@@ -25,7 +25,7 @@ want_of_plain (want.Takes waits) = submission.Takes waits
 want_of_plain want.Punts = submission.Punts
 want_of_plain (want.Links hand) = submission.Links hand
 
-abbrev pub ask_of_plain : Ask → submission.Ask
+abbrev pub ask_of_plain : DriverAsk → submission.Ask
 ask_of_plain ask.ToPush = submission.ToPush
 ask_of_plain (ask.ToCut want) = submission.ToCut (want_of_plain want)
 ask_of_plain ask.ToRecord = submission.ToRecord

@@ -18,7 +18,7 @@ use task_core::End;
 
 /// What an end made of an open node.
 #[derive(Drop)]
-pub enum Ended {
+pub enum NodeOutcome {
     /// It waits for others.
     Left,
     /// It closed, and is to be told to its parent.
@@ -263,7 +263,7 @@ impl Book {
         status: Status,
         part: Option<Part>,
         end: End,
-    ) -> Option<Ended>
+    ) -> Option<NodeOutcome>
         ensures { IsEndTold self.old place status part end result self.new }
     {
         let node = self.node(place)?;
@@ -274,19 +274,19 @@ impl Book {
                     return None;
                 }
                 self.lower(place, status, part);
-                Some(Ended::Left)
+                Some(NodeOutcome::Left)
             }
             End::Up => {
                 if count != 1 || parent_of(role).is_none() {
                     return None;
                 }
-                Some(Ended::Up(self.close(place, status, part)))
+                Some(NodeOutcome::Up(self.close(place, status, part)))
             }
             End::Top => {
                 if count != 1 || parent_of(role).is_some() {
                     return None;
                 }
-                Some(Ended::Top(self.close(place, status, part)))
+                Some(NodeOutcome::Top(self.close(place, status, part)))
             }
         }
     }

@@ -5,7 +5,7 @@ ghost use Rattle.plain_core.specs.objects.Lists.{lists_of, ListsHaveCapacity};
 ghost use Rattle.plain_core.specs.objects.Told.{Links, Joins, IsDrop};
 
 use crate::fault::CoreFault;
-use crate::objects::book::Ended;
+use crate::objects::book::NodeOutcome;
 use crate::objects::lists::Lists;
 use crate::objects::part::{Part, Slip, Vector};
 use crate::objects::{Objects, told};
@@ -117,7 +117,7 @@ impl Objects {
         status: Status,
         part: Option<Part>,
         what: &What,
-    ) -> Result<Ended, CoreFault>
+    ) -> Result<NodeOutcome, CoreFault>
         ensures { IsDrop self.old writer place status part what.now result self.new }
     {
         let Some(end) = told::dropped_of(what, writer, place, status) else {

@@ -9,7 +9,7 @@ ghost use Rattle.plain_core.specs.steps.Answers.{AnswersRequest};
 
 use crate::fault::CoreFault;
 use crate::objects::Objects;
-use crate::objects::book::Ended;
+use crate::objects::book::NodeOutcome;
 use crate::objects::part::{Part, Slip, Vector};
 use stack_base::{DevId, PoolId, Status};
 use task_core::What;
@@ -76,7 +76,7 @@ pub fn tell(
     status: Status,
     part: Option<Part>,
     what: &What,
-) -> Result<Ended, CoreFault>
+) -> Result<NodeOutcome, CoreFault>
     ensures { AnswersRequest objects.old (Drop writer place status part) what.now (λ ended. DroppedTo (ended_of_plain ended)) result objects.new }
 {
     objects.tell(writer, place, status, part, what)

@@ -9,7 +9,7 @@ ghost use Rattle.plain_core.specs.steps.Closing.{GivesFirst, PassesOn, ClosesOn,
 
 use crate::fault::CoreFault;
 use crate::objects::Objects;
-use crate::objects::book::Ended;
+use crate::objects::book::NodeOutcome;
 use crate::objects::node::{Closed, Holding};
 use crate::objects::part::{Part, Slip};
 use crate::steps::asks;
@@ -18,13 +18,13 @@ use stack_base::DevId;
 use task_core::What;
 
 // What a completer carries when a node was told of an end.
-fn after_drop(writer: u32, ended: Ended) -> Carried
+fn after_drop(writer: u32, ended: NodeOutcome) -> Carried
     ensures { (node : ℕ) → carried_of_plain result ≡ after_drop writer node (ended_of_plain ended) }
 {
     match ended {
-        Ended::Left => Carried::Empty,
-        Ended::Up(closed) => Carried::Carries(writer, closed),
-        Ended::Top(closed) => Carried::Carries(writer, closed),
+        NodeOutcome::Left => Carried::Empty,
+        NodeOutcome::Up(closed) => Carried::Carries(writer, closed),
+        NodeOutcome::Top(closed) => Carried::Carries(writer, closed),
     }
 }
 

@@ -12,8 +12,8 @@ ghost use Rattle.plain_core.specs.steps.Closing.{closed_asks};
 use crate::objects::node::Closed;
 use crate::objects::part::Part;
 use crate::steps::task::{
-    Ask, Carried, Completer, Copying, Doing, Gathered, Keeper, Rescuer, Submission, Task, Want,
-    Writer,
+    Carried, Completer, Copying, Doing, DriverAsk, Gathered, Keeper, Rescuer, Submission, Task,
+    Want, Writer,
 };
 use stack_base::{DevId, PoolId};
 use task_core::{Duty, needs_vector};
@@ -66,18 +66,18 @@ fn cut_need(part: &Part, want: &Want) -> Need
 }
 
 // What the driver of a bio's device needs.
-fn drive_need(part: &Part, ask: &Ask) -> Need
+fn drive_need(part: &Part, ask: &DriverAsk) -> Need
     ensures { IsNeedOfDoing result (drives_for part.now (ask_of_plain ask.now)) }
 {
     let bio = part.bio();
     match ask {
-        Ask::ToPush => Need::Nothing,
-        Ask::ToCut(want) => cut_need(part, want),
-        Ask::ToRecord => Need::Spare {
+        DriverAsk::ToPush => Need::Nothing,
+        DriverAsk::ToCut(want) => cut_need(part, want),
+        DriverAsk::ToRecord => Need::Spare {
             pool: PoolId::Records(bio.dev),
             waits: true,
         },
-        Ask::ToMaster(_) => Need::Child {
+        DriverAsk::ToMaster(_) => Need::Child {
             writer: bio.writer,
             parent: bio.node,
         },

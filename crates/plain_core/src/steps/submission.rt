@@ -6,7 +6,7 @@ ghost use Rattle.task_steps.specs.SubmissionViews.{landed_submission};
 ghost use Rattle.task_steps.specs.Within.{IsWithinDevice, ListsAreWithin, DoingFits, SubmissionFits};
 ghost use Rattle.plain_core.specs.objects.Lists.{lists_of, ListsHaveCapacity};
 ghost use Rattle.plain_core.specs.steps.Views.{ask_of_plain, doing_of_plain, submission_of_plain, want_of_plain};
-ghost use Rattle.plain_core.specs.declared.steps.submission.Next.TheVariants as then;
+ghost use Rattle.plain_core.specs.declared.steps.submission.Continuation.TheVariants as then;
 ghost use Rattle.plain_core.specs.steps.Submissions.{SubmissionMoves, CanTurn, turned, drives_for, IsFirstAsk, DriveSteps, DoingSteps};
 
 pub(crate) mod cut;
@@ -20,7 +20,7 @@ use crate::objects::part::Part;
 use crate::steps::submission::cut::cut_step;
 use crate::steps::submission::mirror::{begin_copy, copy_step};
 use crate::steps::submission::take::take_slip;
-use crate::steps::task::{Ask, Doing, Submission, Want};
+use crate::steps::task::{Doing, DriverAsk, Submission, Want};
 use bio_records::Bio;
 use stack_base::DevId;
 use task_core::{Manner, Routes, What};
@@ -28,7 +28,7 @@ use task_core::{Manner, Routes, What};
 /// What comes behind an answer to what a submission asked for. A step changes what the submission does in its place, as long as it goes on with
 /// that, and answers this for `turn` to do.
 #[derive(Drop)]
-pub enum Next {
+pub enum Continuation {
     /// It goes on with what it does.
     Stays,
     /// The driver of this device has returned.
@@ -38,14 +38,14 @@ pub enum Next {
 }
 
 // What the driver of a device does first with a bio.
-fn first_ask(routes: &Routes, dev: DevId, lists: &Lists) -> Ask
+fn first_ask(routes: &Routes, dev: DevId, lists: &Lists) -> DriverAsk
     requires { dev.0 < length routes.now.stack.devices.items }
     ensures { IsFirstAsk routes.now (lists_of lists.now) dev (ask_of_plain result) }
 {
     match routes.manner(dev) {
-        Manner::Keeps => Ask::ToPush,
-        Manner::Cuts => Ask::ToCut(Want::Takes(routes.waits_first(dev, lists))),
-        Manner::Copies => Ask::ToRecord,
+        Manner::Keeps => DriverAsk::ToPush,
+        Manner::Cuts => DriverAsk::ToCut(Want::Takes(routes.waits_first(dev, lists))),
+        Manner::Copies => DriverAsk::ToRecord,
     }
 }
 
@@ -72,12 +72,12 @@ pub(crate) fn go_on(routes: &Routes, dev: DevId, submission: &mut Submission)
 }
 
 // A driver goes on with what it does, and wants this.
-pub(crate) fn stay(want: &mut Want, next: Want) -> Next
+pub(crate) fn stay(want: &mut Want, next: Want) -> Continuation
     ensures want { want_of_plain want.new ≡ want_of_plain next }
     ensures stays { result ≡ then.Stays }
 {
     *want = next;
-    Next::Stays
+    Continuation::Stays
 }
 
 // The driver of a bio's device goes on.
@@ -85,10 +85,10 @@ fn drive_step(
     routes: &Routes,
     objects: &mut Objects,
     part: &Part,
-    ask: &mut Ask,
+    ask: &mut DriverAsk,
     lists: &mut Lists,
     what: &What,
-) -> Result<Next, CoreFault>
+) -> Result<Continuation, CoreFault>
     requires stack { objects.old.stack ≡ routes.now.stack }
     requires fits { DoingFits routes.now.stack (drives_for part.now (ask_of_plain ask.old)) }
     requires lists { ListsAreWithin routes.now.stack (lists_of lists.old) }
@@ -98,37 +98,37 @@ fn drive_step(
     routes.known();
     let bio = part.bio();
     match ask {
-        Ask::ToPush => match objects.push(part, lists, what) {
+        DriverAsk::ToPush => match objects.push(part, lists, what) {
             Err(fault) => Err(fault),
-            Ok(()) => Ok(Next::Returns(bio.dev)),
+            Ok(()) => Ok(Continuation::Returns(bio.dev)),
         },
-        Ask::ToCut(want) => cut_step(routes, objects, part, want, lists, what),
-        Ask::ToRecord => match take_slip(objects, bio.dev, what) {
+        DriverAsk::ToCut(want) => cut_step(routes, objects, part, want, lists, what),
+        DriverAsk::ToRecord => match take_slip(objects, bio.dev, what) {
             Err(fault) => Err(fault),
-            Ok(None) => Ok(Next::Stays),
+            Ok(None) => Ok(Continuation::Stays),
             Ok(Some(slip)) => {
-                *ask = Ask::ToMaster(slip);
-                Ok(Next::Stays)
+                *ask = DriverAsk::ToMaster(slip);
+                Ok(Continuation::Stays)
             }
         },
-        Ask::ToMaster(slip) => {
+        DriverAsk::ToMaster(slip) => {
             match objects.open_master(part, slip, routes.legs(bio.dev), lists, what) {
                 Err(fault) => Err(fault),
-                Ok(node) => Ok(Next::Copies(bio, node)),
+                Ok(node) => Ok(Continuation::Copies(bio, node)),
             }
         }
     }
 }
 
 // What comes behind an answer is done.
-fn turn(routes: &Routes, next: Next, submission: &mut Submission)
+fn turn(routes: &Routes, next: Continuation, submission: &mut Submission)
     requires { CanTurn routes.now.stack submission.old.lists next }
     ensures { submission_of_plain submission.new ≡ turned (routing_setup routes.now) (doing_of_plain submission.old.doing) (lists_of submission.old.lists) next }
 {
     match next {
-        Next::Stays => {}
-        Next::Returns(dev) => go_on(routes, dev, submission),
-        Next::Copies(bio, master) => begin_copy(routes, bio, master, submission),
+        Continuation::Stays => {}
+        Continuation::Returns(dev) => go_on(routes, dev, submission),
+        Continuation::Copies(bio, master) => begin_copy(routes, bio, master, submission),
     }
 }
 
@@ -139,7 +139,7 @@ fn answer(
     doing: &mut Doing,
     lists: &mut Lists,
     what: &What,
-) -> Result<Next, CoreFault>
+) -> Result<Continuation, CoreFault>
     requires stack { objects.old.stack ≡ routes.now.stack }
     requires fits { DoingFits routes.now.stack (doing_of_plain doing.old) }
     requires lists { ListsAreWithin routes.now.stack (lists_of lists.old) }

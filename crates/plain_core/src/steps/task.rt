@@ -28,7 +28,7 @@ pub enum Want {
 
 /// What a driver does with the bio that it has.
 #[derive(Drop)]
-pub enum Ask {
+pub enum DriverAsk {
     ToPush,
     ToCut(Want),
     ToRecord,
@@ -40,7 +40,7 @@ pub enum Ask {
 pub enum Doing {
     Rests,
     /// The driver of the bio's device has it.
-    Drives(Part, Ask),
+    Drives(Part, DriverAsk),
     /// A mirror copies a bio, which waits with its parent.
     Copies(Copying, Want),
 }

@@ -11,7 +11,7 @@ use crate::objects::Objects;
 use crate::objects::lists::Lists;
 use crate::objects::part::{Hand, Part};
 use crate::steps::submission::take::take_for;
-use crate::steps::submission::{Next, stay};
+use crate::steps::submission::{Continuation, stay};
 use crate::steps::task::Want;
 use bio_records::{Bio, Pad, advance};
 use stack_base::{Range, SetId};
@@ -53,7 +53,7 @@ pub(crate) fn cut_step(
     want: &mut Want,
     lists: &mut Lists,
     what: &What,
-) -> Result<Next, CoreFault>
+) -> Result<Continuation, CoreFault>
     requires stack { objects.old.stack ≡ routes.now.stack }
     requires fits { DoingFits routes.now.stack (cuts_for part.now (want_of_plain want.old)) }
     requires lists { ListsAreWithin routes.now.stack (lists_of lists.old) }
@@ -75,7 +75,7 @@ pub(crate) fn cut_step(
             Err(fault) => Err(fault),
             Ok(node) => {
                 cut(routes, part, hand, node, lists);
-                Ok(Next::Returns(bio.dev))
+                Ok(Continuation::Returns(bio.dev))
             }
         },
     }

@@ -14,7 +14,7 @@ use crate::objects::Objects;
 use crate::objects::lists::Lists;
 use crate::objects::part::Hand;
 use crate::steps::submission::take::take_for;
-use crate::steps::submission::{Next, go_on, stay};
+use crate::steps::submission::{Continuation, go_on, stay};
 use crate::steps::task::{Copying, Doing, Submission, Want};
 use bio_records::Bio;
 use task_core::{Routes, What};
@@ -34,7 +34,7 @@ fn copy(routes: &Routes, copying: &Copying, hand: &Hand, node: u32, lists: &mut 
 }
 
 // The next leg of a mirror's bio is to be made, or what waits behind the last one.
-fn copy_on(routes: &Routes, copying: &mut Copying, want: &mut Want, lists: &Lists) -> Next
+fn copy_on(routes: &Routes, copying: &mut Copying, want: &mut Want, lists: &Lists) -> Continuation
     requires room { ListsHaveCapacity 0 lists.now }
     requires leg { copying.old.leg < legs_of (tree routes.now.stack copying.old.bio.dev.0) }
     requires device { copying.old.bio.dev.0 < length routes.now.stack.devices.items }
@@ -47,10 +47,10 @@ fn copy_on(routes: &Routes, copying: &mut Copying, want: &mut Want, lists: &List
     prove!(copying.leg < legs);
     copying.leg += 1;
     if copying.leg == legs {
-        return Next::Returns(dev);
+        return Continuation::Returns(dev);
     }
     *want = Want::Takes(routes.waits_first(dev, lists));
-    Next::Stays
+    Continuation::Stays
 }
 
 // A mirror goes on to copy a bio.
@@ -61,7 +61,7 @@ pub(crate) fn copy_step(
     want: &mut Want,
     lists: &mut Lists,
     what: &What,
-) -> Result<Next, CoreFault>
+) -> Result<Continuation, CoreFault>
     requires stack { objects.old.stack ≡ routes.now.stack }
     requires fits { DoingFits routes.now.stack (copies_for copying.old (want_of_plain want.old)) }
     requires lists { ListsAreWithin routes.now.stack (lists_of lists.old) }
