@@ -6,7 +6,6 @@ use Rattle.stack_base.specs.Tree.{Tree, Leaf, Split, Mirrored}
 use Rattle.stack_base.specs.declared.ids.SetId.TheVariants.{Of}
 use Rattle.mempool_core.specs.Move.{Move as PoolMove, after_move, misses, gives, resizes}
 use Rattle.bio_records.specs.declared.bio.Pad.{Pad}
-use Rattle.bio_records.specs.declared.tasks.TaskLists.{TaskLists}
 use Rattle.bio_records.specs.Items.{Item}
 use Rattle.bio_records.specs.Sorting.{is_of}
 use Rattle.bio_lists.specs.Submission.{submitted}
@@ -15,8 +14,8 @@ use Rattle.bio_books.specs.Books.{VectorItem, parent_of, told}
 use Rattle.bio_books.specs.Drops.{closed_of}
 use Rattle.run_machine.specs.Maps.{upd}
 use Rattle.run_machine.specs.Scene.{Scene, tree_at}
-use Rattle.run_machine.specs.Submissions.{Takes, Punts as WantsPunt, Links, ToPush, ToCut, ToRecord, ToMaster, Doing, Drives, Copies, Submission, rests, settled, goes_on, copies, first_length, leg_at}
-use Rattle.run_machine.specs.Tasks.{TaskState, Writer, Rescuer, Completer, Keeper, Keeps, Resizes, Starts, Todo, NoBio, HasBio, HasBoth, Empty, Brings, Carries}
+use Rattle.run_machine.specs.Submissions.{Takes, Punts as WantsPunt, Links, ToPush, ToCut, ToRecord, ToMaster, Drives, Copies, Submission, rests, settled, goes_on, copies, first_length, leg_at}
+use Rattle.run_machine.specs.Tasks.{Writer, Rescuer, Completer, Keeper, Keeps, Resizes, Starts, Todo, NoBio, HasBio, HasBoth, Empty, Brings, Carries}
 use Rattle.run_machine.specs.Objects.{clear_bio, clear_vector, clear_slip}
 use Rattle.run_machine.specs.Runs.{State}
 use Rattle.block_core.specs.Weights.{Weight, Rescued, Lined, carried_weight, task_weight, submission_weight}
@@ -24,21 +23,21 @@ use Rattle.block_core.specs.Touches.{is_master}
 use Rattle.block_core.specs.Charges.{bio_charge, write_run, vector_charge, end_charge, held_charge, close_charge, charge, task_spent, duty_charge, task_charge, charged, spent_charges}
 use Rattle.block_core.specs.Payers.{Paid, WriteBio, WriteVector, ScriptEntry, cost}
 use Rattle.block_core.specs.Payers as paid
-use Rattle.block_core.proofs.moves.Moves.{Move, place_of, Can, after, limit_of, HasSubmission, with_want, filled_of, cut_lists, piece}
+use Rattle.block_core.proofs.moves.Moves.{Move, place_of, Can, after, limit_of, with_want, filled_of, cut_lists, piece}
 use Rattle.block_core.proofs.moves.PaidKinds.{kind_of}
 use Rattle.block_core.proofs.moves.Moves as moves
 use Rattle.block_core.proofs.moves.Sums.{upd-same, upd-other}
 use Rattle.block_core.proofs.sound.Misplaced.{was_after}
 use Rattle.block_core.proofs.sound.Splitting.{IsSameButClosed, total_but}
 use Rattle.block_core.proofs.sound.Facts.{TaskFits, Kept}
-use Rattle.block_core.proofs.sound.Orders.{Each, IsOwn, AskFits, DoingPlaced, TodoThere, TaskPlaced, Placed, Ground}
+use Rattle.block_core.proofs.sound.Orders.{Each, IsOwn, AskFits, TodoThere, TaskPlaced, Placed, Ground}
 use Rattle.block_core.proofs.bound.TaskCharges.{charge_lands, copies_charge, pops_once, pops_not, punts_charge, later_charge, takes_spent, want_spends, new_spends, wants_below, on_tasks, on_submission, tells_charge, later_give, hands_back}
 use Rattle.block_core.proofs.bound.PoolPayers.{is_write_bio, is_write_vector, is_piece_bio, is_record, leg_bio}
 use Rattle.block_core.proofs.bound.DeviceCharges.{Priced, leaf_charge, mirror_charge, legs_next}
 use Rattle.block_core.proofs.moves.Deltas.{delta}
 use Rattle.block_core.proofs.sound.TaskSubmissions.{submission_fits}
 use Rattle.block_core.proofs.sound.Orders.{waiting_placed}
-use Rattle.block_core.proofs.sound.OrdersKept.{submission_placed}
+use Rattle.block_core.proofs.sound.OrdersKept.{placed_at}
 use Rattle.block_core.proofs.moves.Landings.{IsLanding, settled_there, goes_there, all_there, none_there, cut_there, leg_there}
 use Rattle.block_core.proofs.sound.SumParts.{cut_weight}
 use Rattle.std.proofs.Math.Nat.{mul-le-mul_left, mul-add}
@@ -60,9 +59,6 @@ module _ (price : Paid → ℕ) (was_master : ℕ → Bool) (scene : Scene) (s :
   Lowers m =
       charged price (was_after was_master m) scene (after scene s m) + spent_charges price scene s + price (kind_of (was_master (place_of m)) m)
       ≤ charged price was_master scene s + spent_charges price scene (after scene s m)
-
-  has : (place : ℕ) (x : TaskState) (doing : Doing) (lists : TaskLists) → s.task place ≡ x → HasSubmission x doing lists → DoingPlaced scene.setup (limit_of x) doing lists
-  has place x doing lists is h = submission_placed scene.setup x doing lists (subst (TaskPlaced scene.setup) is (a.tasks place)) h
 
   lands : IsLanding scene.setup w
   lands = charge_lands price was_master scene.setup p
@@ -156,7 +152,7 @@ module _ (price : Paid → ℕ) (was_master : ℕ → Bool) (scene : Scene) (s :
   lowers (moves.Punts place x doing lists dev) c =
       let new : Submission = record { doing = with_want doing (Takes true); lists = unpunted (Of dev) lists } in
       let t = on_submission scene s place x doing lists new c.0 c.1 c.2 in
-      let d = has place x doing lists c.1 c.2 in
+      let d = placed_at scene.setup s a place x doing lists c.1 c.2 in
       let at = waiting_placed scene.setup g (limit_of x) doing dev WantsPunt lists c.3 d in
       let low = wants_below scene.setup (limit_of x) doing dev WantsPunt lists c.3 d in
       omega (
@@ -188,7 +184,7 @@ module _ (price : Paid → ℕ) (was_master : ℕ → Bool) (scene : Scene) (s :
       )
   -- pushes
   lowers (moves.Pushes place x bio lists) c =
-      let d = has place x (Drives bio ToPush) lists c.1 c.2 in
+      let d = placed_at scene.setup s a place x (Drives bio ToPush) lists c.1 c.2 in
       let t = on_submission scene s place x (Drives bio ToPush) lists (goes_on scene.setup bio.bio.dev lists) c.0 c.1 c.2 in
       let b = goes_there scene.setup w lands (limit_of x) bio.bio.dev lists (none_there scene.setup (limit_of x) lists d.0) (all_there scene.setup (limit_of x) lists.list1 d.1.1) in
       let is = d.1.0.0 in
@@ -236,7 +232,7 @@ module _ (price : Paid → ℕ) (was_master : ℕ → Bool) (scene : Scene) (s :
       let n = first_length kind sizes bio.bio.range in
       let new : Submission = goes_on scene.setup bio.bio.dev (cut_lists bio lists hand n key kind sizes members) in
       let child = piece bio hand n key kind sizes members in
-      let d = has place x (Drives bio (ToCut (Links hand))) lists c.1 c.2 in
+      let d = placed_at scene.setup s a place x (Drives bio (ToCut (Links hand))) lists c.1 c.2 in
       let cuts = cut_there scene.setup (limit_of x) g bio hand lists key number kind sizes members d c.3 in
       let known = d.1.0.0.device in
       let few = g.few in
@@ -256,7 +252,7 @@ module _ (price : Paid → ℕ) (was_master : ℕ → Bool) (scene : Scene) (s :
       )
   -- links of masters
   lowers (moves.Mastered place x bio lists slip key node) c =
-      let d = has place x (Drives bio (ToMaster slip)) lists c.1 c.2 in
+      let d = placed_at scene.setup s a place x (Drives bio (ToMaster slip)) lists c.1 c.2 in
       let t = on_submission scene s place x (Drives bio (ToMaster slip)) lists (copies scene.setup lists bio.bio key 0) c.0 c.1 c.2 in
       let known = d.1.0.0.device in
       let few = g.few in
@@ -277,7 +273,7 @@ module _ (price : Paid → ℕ) (was_master : ℕ → Bool) (scene : Scene) (s :
       by_tree (Mirrored number sizes members) a = a
   -- links of legs
   lowers (moves.Legged place x bio lists master leg hand key node) c =
-      let d = has place x (Copies bio master leg (Links hand)) lists c.1 c.2 in
+      let d = placed_at scene.setup s a place x (Copies bio master leg (Links hand)) lists c.1 c.2 in
       let known = d.0.device in
       let few = g.few in
       let lt = submission_fits scene x (Copies bio master leg (Links hand)) lists (subst (TaskFits scene) c.1 (i.tasks place)) c.2 in

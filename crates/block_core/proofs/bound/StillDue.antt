@@ -1,30 +1,29 @@
 -- Where no take misses, each event takes one from what is still to come.
-use Rattle.std.proofs.Common.{◌≡◌, ◌+◌, ◌*◌, ◌==◌, if◌then◌else◌, ℕ, Bool, [], ◌∷◌, None, Some, refl, ap, subst, arith}
+use Rattle.std.proofs.Common.{◌≡◌, ◌+◌, ◌*◌, ◌==◌, if◌then◌else◌, Bool, [], ◌∷◌, None, Some, refl, ap, subst, arith}
 use Rattle.std.specs.Prelude.{sum_by}
 use Rattle.std.proofs.lemmas.List.Sums.{sum_by-cons, sum_by_push}
 use Rattle.stack_base.specs.Tree.{Tree, Leaf, Split, Mirrored}
 use Rattle.layout_model.specs.Need.{needed, vectors}
 use Rattle.layout_model.proofs.Begun.{needed_disk}
 use Rattle.bio_records.specs.declared.bio.Pad.{Pad}
-use Rattle.bio_records.specs.declared.tasks.TaskLists.{TaskLists}
 use Rattle.bio_records.specs.Items.{Item}
 use Rattle.bio_lists.specs.Submission.{submitted}
 use Rattle.bio_books.specs.Books.{told}
 use Rattle.bio_books.specs.Drops.{closed_of}
 use Rattle.run_machine.specs.Scene.{Scene, tree_at}
-use Rattle.run_machine.specs.Submissions.{Links, ToPush, ToCut, ToRecord, ToMaster, Doing, Drives, Copies, Submission, rests, settled, goes_on, copies, first_length, legs_of, leg_at}
-use Rattle.run_machine.specs.Tasks.{TaskState, Writer, Completer, Keeper, Keeps, Resizes, Starts, NoBio, HasBio, HasBoth, Empty, Brings, Carries}
+use Rattle.run_machine.specs.Submissions.{Links, ToPush, ToCut, ToRecord, ToMaster, Drives, Copies, Submission, rests, settled, goes_on, copies, first_length, legs_of, leg_at}
+use Rattle.run_machine.specs.Tasks.{Writer, Completer, Keeper, Keeps, Resizes, Starts, NoBio, HasBio, HasBoth, Empty, Brings, Carries}
 use Rattle.run_machine.specs.Objects.{clear_bio, clear_vector, clear_slip}
 use Rattle.run_machine.specs.Runs.{State}
 use Rattle.block_core.specs.Weights.{Weight, Lined, total}
 use Rattle.block_core.specs.Charges.{there, task_duties}
 use Rattle.block_core.specs.Fragments.{leg_fragments}
-use Rattle.block_core.proofs.moves.Moves.{Move, Can, after, limit_of, HasSubmission, with_want, filled_of, cut_lists}
+use Rattle.block_core.proofs.moves.Moves.{Move, Can, after, limit_of, with_want, filled_of, cut_lists}
 use Rattle.block_core.proofs.moves.Moves as moves
 use Rattle.block_core.proofs.moves.Deltas.{delta}
 use Rattle.block_core.proofs.sound.Facts.{TaskFits, Fair, Kept}
-use Rattle.block_core.proofs.sound.Orders.{AskFits, DoingPlaced, TaskPlaced, Placed, Ground}
-use Rattle.block_core.proofs.sound.OrdersKept.{submission_placed}
+use Rattle.block_core.proofs.sound.Orders.{AskFits, TaskPlaced, Placed, Ground}
+use Rattle.block_core.proofs.sound.OrdersKept.{placed_at}
 use Rattle.block_core.proofs.sound.TaskSubmissions.{submission_fits}
 use Rattle.block_core.proofs.moves.SubmissionWeights.{first_weight, goes_weight}
 use Rattle.block_core.proofs.moves.Landings.{settled_there, goes_there, all_there, none_there, cut_there, leg_there}
@@ -44,9 +43,6 @@ module _ (scene : Scene) (s : State) (f : Fair scene) (g : Ground scene.setup) (
     (counted : total scene (misfits over) s ≡ 0) (held : total scene odd s ≡ 0) where
   abbrev w : Weight
   w = due scene.setup
-
-  has : (place : ℕ) (x : TaskState) (doing : Doing) (lists : TaskLists) → s.task place ≡ x → HasSubmission x doing lists → DoingPlaced scene.setup (limit_of x) doing lists
-  has place x doing lists is h = submission_placed scene.setup x doing lists (subst (TaskPlaced scene.setup) is (a.tasks place)) h
 
   -- what an event does to the sums
   abbrev Lowers : Move → Type 0
@@ -83,7 +79,7 @@ module _ (scene : Scene) (s : State) (f : Fair scene) (g : Ground scene.setup) (
   -- pushes
   takes_one (moves.Pushes place x bio lists) c h =
       let m : Move = moves.Pushes place x bio lists in
-      let d = has place x (Drives bio ToPush) lists c.1 c.2 in
+      let d = placed_at scene.setup s a place x (Drives bio ToPush) lists c.1 c.2 in
       omega (
         arith,
         delta scene w s m c,
@@ -146,7 +142,7 @@ module _ (scene : Scene) (s : State) (f : Fair scene) (g : Ground scene.setup) (
       let m : Move = moves.Chained place x bio lists hand number kind sizes members key node in
       let n = first_length kind sizes bio.bio.range in
       let cut = cut_lists bio lists hand n key kind sizes members in
-      let d = has place x (Drives bio (ToCut (Links hand))) lists c.1 c.2 in
+      let d = placed_at scene.setup s a place x (Drives bio (ToCut (Links hand))) lists c.1 c.2 in
       let cuts = cut_there scene.setup (limit_of x) g bio hand lists key number kind sizes members d c.3 in
       let fits : over bio.bio ≡ 0 = cut_fits over scene s counted place x bio hand lists c.0 c.1 c.2 in
       let small : IsCounted bio.bio = omega (arith, fits) in
@@ -167,7 +163,7 @@ module _ (scene : Scene) (s : State) (f : Fair scene) (g : Ground scene.setup) (
   -- links of masters
   takes_one (moves.Mastered place x bio lists slip key node) c h =
       let m : Move = moves.Mastered place x bio lists slip key node in
-      let d = has place x (Drives bio (ToMaster slip)) lists c.1 c.2 in
+      let d = placed_at scene.setup s a place x (Drives bio (ToMaster slip)) lists c.1 c.2 in
       let legs = legs_of (tree_at scene.setup bio.bio.dev) in
       omega (
         arith,
@@ -185,7 +181,7 @@ module _ (scene : Scene) (s : State) (f : Fair scene) (g : Ground scene.setup) (
   -- links of legs
   takes_one (moves.Legged place x bio lists master leg hand key node) c h =
       let m : Move = moves.Legged place x bio lists master leg hand key node in
-      let d = has place x (Copies bio master leg (Links hand)) lists c.1 c.2 in
+      let d = placed_at scene.setup s a place x (Copies bio master leg (Links hand)) lists c.1 c.2 in
       let lt = submission_fits scene x (Copies bio master leg (Links hand)) lists (subst (TaskFits scene) c.1 (i.tasks place)) c.2 in
       let item = leg_at bio hand leg key (tree_at scene.setup bio.dev) in
       let more = submitted item lists in

@@ -40,8 +40,8 @@ use Rattle.block_core.proofs.moves.Totals.{part_of}
 use Rattle.block_core.proofs.moves.Moves.{Move, Can, after, limit_of}
 use Rattle.block_core.proofs.moves.Moves as moves
 use Rattle.block_core.proofs.moves.Geometry.{IsThere}
-use Rattle.block_core.proofs.sound.Orders.{DoingPlaced, TaskPlaced, Placed, Ground}
-use Rattle.block_core.proofs.sound.OrdersKept.{submission_placed, all_at}
+use Rattle.block_core.proofs.sound.Orders.{DoingPlaced, Placed, Ground}
+use Rattle.block_core.proofs.sound.OrdersKept.{placed_at, all_at}
 use Rattle.block_core.proofs.sound.Facts.{Fair}
 use Rattle.block_core.proofs.moves.StepMoves.{step_is_move}
 use Rattle.block_core.proofs.sound.EveryRun.{Whole, runs_whole, start_whole}
@@ -161,7 +161,7 @@ module _ (s : Scenario) (ledger : ℕ → LedgerId) (st : State) (a : Placed (se
 
   pub own_stays : (m : Move) → Can here st m → (number : ℕ) → IsOwn s number ((after here st m).objects.disk number)
   own_stays (moves.Pushes place x bio lists) c =
-      let d : DoingPlaced (setup_in s) (limit_of x) (Drives bio ToPush) lists = submission_placed (setup_in s) x (Drives bio ToPush) lists (subst (TaskPlaced (setup_in s)) c.1 (a.tasks place)) c.2 in
+      let d : DoingPlaced (setup_in s) (limit_of x) (Drives bio ToPush) lists = placed_at (setup_in s) st a place x (Drives bio ToPush) lists c.1 c.2 in
       pushed_own bio d.1.0.0
   own_stays (moves.Completed place disk index bio ending new) c =
       all_at (IsOwn s) st.objects.disk disk.0 new own (own_after s disk.0 (st.objects.disk disk.0) index bio ending new (own disk.0) c.3)

@@ -12,20 +12,20 @@ use Rattle.bio_records.specs.Items.{Item}
 use Rattle.bio_lists.specs.Submission.{submitted}
 use Rattle.bio_lists.specs.Punt.{punted}
 use Rattle.run_machine.specs.Scene.{Setup, Scene, tree_at}
-use Rattle.run_machine.specs.Submissions.{Links, ToPush, ToCut, ToMaster, Doing, Drives, Copies, rests, copies, first_length, legs_of, leg_at}
-use Rattle.run_machine.specs.Tasks.{TaskState, Writer, HasBio, HasBoth, Carried, Empty, Brings, Carries, Fails}
+use Rattle.run_machine.specs.Submissions.{Links, ToPush, ToCut, ToMaster, Drives, Copies, rests, copies, first_length, legs_of, leg_at}
+use Rattle.run_machine.specs.Tasks.{Writer, HasBio, HasBoth, Carried, Empty, Brings, Carries, Fails}
 use Rattle.run_machine.specs.Runs.{State}
 use Rattle.block_core.specs.Weights.{Weight, Rescued, Lined, total, submission_weight, carried_weight}
 use Rattle.block_core.specs.Fragments.{offset_of, fragment_of, leg_fragments, todo_fragments, bio_comes, legs_come, to_come}
-use Rattle.block_core.proofs.moves.Moves.{Move, Can, after, limit_of, HasSubmission, filled_of, cut_lists}
+use Rattle.block_core.proofs.moves.Moves.{Move, Can, after, limit_of, filled_of, cut_lists}
 use Rattle.block_core.proofs.moves.Moves as moves
 use Rattle.block_core.proofs.moves.Landings.{AreThere, IsLanding, settled_there, goes_there, copies_there, all_there, none_there, cut_there, leg_there}
 use Rattle.block_core.proofs.sound.SumParts.{cut_weight, unless}
 use Rattle.block_core.proofs.moves.Deltas.{delta}
 use Rattle.block_core.proofs.sound.Facts.{TaskFits, Kept}
 use Rattle.block_core.proofs.sound.TaskSubmissions.{submission_fits}
-use Rattle.block_core.proofs.sound.Orders.{Each, IsOwn, DoingPlaced, TaskPlaced, Placed, Ground}
-use Rattle.block_core.proofs.sound.OrdersKept.{submission_placed}
+use Rattle.block_core.proofs.sound.Orders.{Each, IsOwn, TaskPlaced, Placed, Ground}
+use Rattle.block_core.proofs.sound.OrdersKept.{placed_at}
 use Rattle.block_core.proofs.images.FragmentCounts.{IsCounted, Divided, mirror_worth, legs_next, legs_none}
 use Rattle.block_core.proofs.moves.Misfits.{misfits, cut_fits}
 
@@ -77,9 +77,6 @@ module _ (scene : Scene) (s : State) (value : Fragment → ℕ) (g : Ground scen
   abbrev w : Weight
   w = to_come scene.setup value
 
-  has : (place : ℕ) (x : TaskState) (doing : Doing) (lists : TaskLists) → s.task place ≡ x → HasSubmission x doing lists → DoingPlaced scene.setup (limit_of x) doing lists
-  has place x doing lists is h = submission_placed scene.setup x doing lists (subst (TaskPlaced scene.setup) is (a.tasks place)) h
-
   pub comes : (m : Move) → Can scene s m → total scene w (after scene s m) + done value m ≡ total scene w s
   -- takes and misses
   comes (moves.TakesFirst place writer todo later move) c = omega (arith, delta scene w s (moves.TakesFirst place writer todo later move) c)
@@ -106,7 +103,7 @@ module _ (scene : Scene) (s : State) (value : Fragment → ℕ) (g : Ground scen
       )
   -- pushes
   comes (moves.Pushes place x bio lists) c =
-      let d = has place x (Drives bio ToPush) lists c.1 c.2 in
+      let d = placed_at scene.setup s a place x (Drives bio ToPush) lists c.1 c.2 in
       omega (
         arith,
         delta scene w s (moves.Pushes place x bio lists) c,
@@ -140,7 +137,7 @@ module _ (scene : Scene) (s : State) (value : Fragment → ℕ) (g : Ground scen
   -- links of pieces
   comes (moves.Chained place x bio lists hand number kind sizes members key node) c =
       let n = first_length kind sizes bio.bio.range in
-      let d = has place x (Drives bio (ToCut (Links hand))) lists c.1 c.2 in
+      let d = placed_at scene.setup s a place x (Drives bio (ToCut (Links hand))) lists c.1 c.2 in
       let cuts = cut_there scene.setup (limit_of x) g bio hand lists key number kind sizes members d c.3 in
       let fits : over bio.bio ≡ 0 = cut_fits over scene s counted place x bio hand lists c.0 c.1 c.2 in
       let small : IsCounted bio.bio = omega (arith, fits) in
@@ -153,7 +150,7 @@ module _ (scene : Scene) (s : State) (value : Fragment → ℕ) (g : Ground scen
       )
   -- links of masters
   comes (moves.Mastered place x bio lists slip key node) c =
-      let d = has place x (Drives bio (ToMaster slip)) lists c.1 c.2 in
+      let d = placed_at scene.setup s a place x (Drives bio (ToMaster slip)) lists c.1 c.2 in
       omega (
         arith,
         delta scene w s (moves.Mastered place x bio lists slip key node) c,
@@ -162,7 +159,7 @@ module _ (scene : Scene) (s : State) (value : Fragment → ℕ) (g : Ground scen
       )
   -- links of legs
   comes (moves.Legged place x bio lists master leg hand key node) c =
-      let d = has place x (Copies bio master leg (Links hand)) lists c.1 c.2 in
+      let d = placed_at scene.setup s a place x (Copies bio master leg (Links hand)) lists c.1 c.2 in
       let lt = submission_fits scene x (Copies bio master leg (Links hand)) lists (subst (TaskFits scene) c.1 (i.tasks place)) c.2 in
       let item = leg_at bio hand leg key (tree_at scene.setup bio.dev) in
       let more = submitted item lists in

@@ -6,7 +6,7 @@ use Rattle.bio_books.specs.Links.{IsVacant}
 use Rattle.run_machine.specs.Maps.{upd}
 use Rattle.block_core.specs.Weights.{one}
 use Rattle.block_core.proofs.moves.Sums.{upd-same, upd-other, within_book, one-same, one-other, same_or_not}
-use Rattle.block_core.proofs.moves.Deltas.{vacant_at}
+use Rattle.block_core.proofs.moves.Deltas.{other_place, vacant_at}
 
 -- a book's node once one place of the book is another
 pub place_upd : (g : Option Node → ℕ) (book : BookState) (place : ℕ) (v : Option Node) (k : ℕ) → place < length book.nodes
@@ -67,7 +67,7 @@ pub chained : (g : Option Node → ℕ) → g None ≡ 0 → (f : ℕ → BookSt
 chained g zero_at f writer key parent node child new w k n more less v at m h =
     let a = vacant_at (f writer) key v in
     let z : g (node_at (f writer) key) ≡ 0 = ap g a.0 ∙ zero_at in
-    let ne : parent ≢ key = λ q. let x : node_at (f writer) parent ≡ node_at (f writer) key = ap (node_at (f writer)) q in let y : None ≡ Some node = sym a.0 ∙ sym x ∙ at in cc in
+    let ne : parent ≢ key = other_place (f writer) key parent node v at in
     let second = with_node (f writer) key (Some child) in
     let other : node_at second parent ≡ Some node = get_or-set_other (f writer).nodes key parent (Some child) None ne ∙ at in
     let lt = within_book second parent node other in

@@ -27,6 +27,12 @@ use Rattle.block_core.proofs.moves.SubmissionWeights.{submission_changes, want_c
 pub vacant_at : (book : BookState) (key : ℕ) → IsVacant book key → (node_at book key ≡ None) × (key < length book.nodes)
 vacant_at book key v = (get_or_from_slice_get book.nodes key None None v, slice_get_within book.nodes key None v)
 
+-- an open node has another place than a vacant one
+pub other_place : (book : BookState) (key place : ℕ) (node : Node) → IsVacant book key → node_at book place ≡ Some node → place ≢ key
+other_place book key place node v found q =
+    let x : node_at book place ≡ node_at book key = ap (node_at book) q in
+    let y : None ≡ Some node = sym (vacant_at book key v).0 ∙ sym x ∙ found in cc
+
 -- a task goes on
 pub task_delta : (scene : Scene) (w : Weight) (s : State) (place : ℕ) (x y : TaskState) → place < scene.tasks → s.task place ≡ x
     → sum_at (task_weight w) scene.tasks (upd s.task place y) + task_weight w place x ≡ sum_at (task_weight w) scene.tasks s.task + task_weight w place y
@@ -40,7 +46,7 @@ pub two_nodes : (w : Weight) (writer : ℕ) (book : BookState) (key place : ℕ)
 two_nodes w writer book key place node new m v e =
     let a = vacant_at book key v in
     let b = within_book book place node e in
-    let ne : place ≢ key = λ q. let x : node_at book place ≡ node_at book key = ap (node_at book) q in let y : None ≡ Some node = sym a.0 ∙ sym x ∙ e in cc in
+    let ne : place ≢ key = other_place book key place node v e in
     let other : node_at (with_node book key (Some new)) place ≡ Some node = get_or-set_other book.nodes key place (Some new) None ne ∙ e in
     let lt = within_book (with_node book key (Some new)) place node other in
     let z : weigh_option (w.node writer key) (node_at book key) ≡ 0 = ap (weigh_option (w.node writer key)) a.0 in

@@ -13,8 +13,8 @@ use Rattle.block_core.proofs.moves.Moves as moves
 use Rattle.block_core.proofs.moves.Sums.{within_book, with_node_is}
 use Rattle.block_core.proofs.moves.Geometry.{IsCopied}
 use Rattle.block_core.proofs.sound.TaskSubmissions.{all-upd}
-use Rattle.block_core.proofs.sound.Orders.{AskFits, TaskPlaced, Placed, Ground}
-use Rattle.block_core.proofs.sound.OrdersKept.{submission_placed}
+use Rattle.block_core.proofs.sound.Orders.{AskFits, Placed, Ground}
+use Rattle.block_core.proofs.sound.OrdersKept.{placed_at}
 use Rattle.block_core.proofs.moves.Deltas.{vacant_at}
 
 abbrev pub IsAlive : Option Node → Type 0
@@ -68,7 +68,7 @@ module _ (scene : Scene) (s : State) (g : Ground scene.setup) (p : Placed scene.
       of_book bio.bio.writer _ (two_all IsAlive (s.objects.book bio.bio.writer) key bio.bio.node node (child_node node.write bio.bio.node) (raised node) c.6 c.5 (i bio.bio.writer) (omega arith) (omega (arith, old)))
   alive (moves.Mastered place x bio lists slip key node) c =
       let old = was bio.bio.writer bio.bio.node node c.4 in
-      let d = submission_placed scene.setup x (Drives bio (ToMaster slip)) lists (subst (TaskPlaced scene.setup) c.1 (p.tasks place)) c.2 in
+      let d = placed_at scene.setup s p place x (Drives bio (ToMaster slip)) lists c.1 c.2 in
       let legs : 1 ≤ legs_of (tree_at scene.setup bio.bio.dev) = by_tree (tree_at scene.setup bio.bio.dev) refl d.3 (g.copied bio.bio d.1.0.0) in
       of_book bio.bio.writer _
       (two_all IsAlive (s.objects.book bio.bio.writer) key bio.bio.node node (master_node node.write bio.bio.node slip (legs_of (tree_at scene.setup bio.bio.dev))) (keeping bio node) c.5 c.4 (i bio.bio.writer) legs old)

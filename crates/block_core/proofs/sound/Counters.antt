@@ -14,9 +14,9 @@ use Rattle.block_core.proofs.moves.Moves as moves
 use Rattle.block_core.proofs.moves.Sums.{within_book}
 use Rattle.block_core.proofs.moves.Geometry.{IsCopied}
 use Rattle.block_core.proofs.sound.TaskSubmissions.{all-upd}
-use Rattle.block_core.proofs.sound.Orders.{TaskPlaced, Placed, Ground}
+use Rattle.block_core.proofs.sound.Orders.{Placed, Ground}
 use Rattle.block_core.proofs.moves.Deltas.{vacant_at}
-use Rattle.block_core.proofs.sound.OrdersKept.{submission_placed}
+use Rattle.block_core.proofs.sound.OrdersKept.{placed_at}
 use Rattle.block_core.proofs.sound.Alive.{nodes_all, books_all, two_all}
 
 pub record Counted (n : ℕ) (s : State) : Type 0 where
@@ -103,7 +103,7 @@ module _ (scene : Scene) (s : State) (g : Ground scene.setup) (p : Placed scene.
   -- links of masters: the new node waits for its legs, of which there are at most eight, and its parent for as many as before
   ends (moves.Mastered place x bio lists slip key node) c =
       let old = was bio.bio.writer bio.bio.node node c.4 in
-      let d = submission_placed scene.setup x (Drives bio (ToMaster slip)) lists (subst (TaskPlaced scene.setup) c.1 (p.tasks place)) c.2 in
+      let d = placed_at scene.setup s p place x (Drives bio (ToMaster slip)) lists c.1 c.2 in
       let legs : legs_of (tree_at scene.setup bio.bio.dev) ≤ 8 = by_tree (tree_at scene.setup bio.bio.dev) (g.copied bio.bio d.1.0.0) in
       of_book bio.bio.writer _
       (two_all Small (s.objects.book bio.bio.writer) key bio.bio.node node (master_node node.write bio.bio.node slip (legs_of (tree_at scene.setup bio.bio.dev))) (keeping bio node) c.5 c.4 (nodes bio.bio.writer)

@@ -27,10 +27,10 @@ use Rattle.block_core.proofs.moves.Moves.{Move, place_of, Can, after, limit_of, 
 use Rattle.block_core.proofs.moves.Moves as moves
 use Rattle.block_core.proofs.moves.Sums.{upd-same, upd-other, same_or_not, within_book}
 use Rattle.block_core.proofs.sound.Facts.{TaskFits, Kept}
-use Rattle.block_core.proofs.moves.Deltas.{vacant_at}
+use Rattle.block_core.proofs.moves.Deltas.{other_place, vacant_at}
 use Rattle.block_core.proofs.sound.TaskSubmissions.{submission_fits}
-use Rattle.block_core.proofs.sound.Orders.{Each, DoingPlaced, TaskPlaced, Placed, each_map, each_less, each_append}
-use Rattle.block_core.proofs.sound.OrdersKept.{submission_placed}
+use Rattle.block_core.proofs.sound.Orders.{Each, Placed, each_map, each_less, each_append}
+use Rattle.block_core.proofs.sound.OrdersKept.{placed_at}
 use Rattle.block_core.proofs.moves.Totals.{task_part, submission_part}
 use Rattle.block_core.proofs.images.Ancestors.{names_one}
 
@@ -90,7 +90,7 @@ made_stays f writer key new w k node v at = elim (same_or_not w writer) [
       let book = with_node (f writer) key (Some new) in
       let is : upd f writer book w ≡ book = ap (upd f writer book) same ∙ upd-same f writer book in
       let own : node_at (f writer) k ≡ Some node = subst (λ x. node_at (f x) k ≡ Some node) same at in
-      let ne : k ≢ key = λ q. let e : None ≡ Some node = sym (vacant_at (f writer) key v).0 ∙ ap (node_at (f writer)) (sym q) ∙ own in cc in
+      let ne : k ≢ key = other_place (f writer) key k node v own in
       ap (λ b. node_at b k) is ∙ get_or-set_other (f writer).nodes key k (Some new) None ne ∙ own
 ]
 
@@ -244,9 +244,6 @@ module _ (scene : Scene) (s : State) (i : Kept scene s) (p : Placed scene.setup 
   has : (place : ℕ) (x : TaskState) (doing : Doing) (lists : TaskLists) → place < scene.tasks → s.task place ≡ x → HasSubmission x doing lists → HasLegs s doing lists
   has place x doing lists lt is h = submission_has s x doing lists (subst (TaskHasLegs s) is (l.tasks place lt)) h
 
-  at : (place : ℕ) (x : TaskState) (doing : Doing) (lists : TaskLists) → s.task place ≡ x → HasSubmission x doing lists → DoingPlaced scene.setup (limit_of x) doing lists
-  at place x doing lists is h = submission_placed scene.setup x doing lists (subst (TaskPlaced scene.setup) is (p.tasks place)) h
-
   -- the task of the event goes on so, and the others as they were
   goes : (m : Move) (c : Can scene s m) → Kept scene (after scene s m) → (y : TaskState) → (after scene s m).task ≡ upd s.task (place_of m) y → TaskHasLegs (after scene s m) y
       → Legged scene (after scene s m)
@@ -295,7 +292,7 @@ module _ (scene : Scene) (s : State) (i : Kept scene s) (p : Placed scene.setup 
   -- links of masters
   stays_legged (moves.Mastered place x bio lists slip key node) c j =
       let m : Move = moves.Mastered place x bio lists slip key node in
-      let d = at place x (Drives bio (ToMaster slip)) lists c.1 c.2 in
+      let d = placed_at scene.setup s p place x (Drives bio (ToMaster slip)) lists c.1 c.2 in
       let up = d.1.0.1 in
       let set = d.1.0.3 in
       goes m c j _ refl

@@ -1,30 +1,29 @@
 -- Events keep all nodes on levels.
-use Rattle.std.proofs.Common.{◌≡◌, ◌≢◌, ◌+◌, ◌-◌, ◌*◌, ◌<◌, ◌≤◌, ◌==◌, ℕ, [], ◌∷◌, Option, None, Some, inl, inr, refl, sym, ◌∙◌, ap, subst, arith}
+use Rattle.std.proofs.Common.{◌≡◌, ◌+◌, ◌-◌, ◌*◌, ◌<◌, ◌≤◌, ◌==◌, ℕ, [], ◌∷◌, Option, None, Some, inl, inr, refl, sym, ◌∙◌, ap, subst, arith}
 use Rattle.std.proofs.lemmas.List.Sums.{sum_by-cons, sum_by_push}
 use Rattle.stack_base.specs.declared.ids.DevId.{DevId}
 use Rattle.stack_base.specs.declared.ids.Status.{Status}
 use Rattle.stack_base.specs.Tree.{Tree, Leaf, Split, Mirrored}
 use Rattle.bio_records.specs.declared.bio.Bio.{Bio}
 use Rattle.bio_records.specs.declared.bio.Pad.{Pad}
-use Rattle.bio_records.specs.declared.tasks.TaskLists.{TaskLists}
 use Rattle.bio_records.specs.Items.{Item}
 use Rattle.bio_lists.specs.Submission.{submitted}
-use Rattle.bio_books.specs.Books.{Node, VectorItem, SlipItem, Holding, node_at, parent_of, told, later_part}
+use Rattle.bio_books.specs.Books.{Node, VectorItem, SlipItem, Holding, parent_of, told, later_part}
 use Rattle.bio_books.specs.Drops.{Closed, closed_of}
 use Rattle.bio_books.specs.Links.{IsVacant}
 use Rattle.run_machine.specs.Scene.{Scene, tree_at}
-use Rattle.run_machine.specs.Submissions.{Links, ToCut, ToMaster, Doing, Drives, Copies, first_length, legs_of, leg_at}
-use Rattle.run_machine.specs.Tasks.{TaskState, Completer, Todo, Carried, Empty, Brings, Carries, Fails}
+use Rattle.run_machine.specs.Submissions.{Links, ToCut, ToMaster, Drives, Copies, first_length, legs_of, leg_at}
+use Rattle.run_machine.specs.Tasks.{Completer, Todo, Carried, Empty, Brings, Carries, Fails}
 use Rattle.run_machine.specs.Runs.{State}
 use Rattle.block_core.specs.Weights.{total, weigh_option, task_weight, carried_weight}
-use Rattle.block_core.proofs.moves.Moves.{Move, Can, after, lost, gained, limit_of, HasSubmission, gathered_of, filled_of, vector_of, cut_lists, Tells, Hands, piece}
+use Rattle.block_core.proofs.moves.Moves.{Move, Can, after, lost, gained, limit_of, gathered_of, filled_of, vector_of, cut_lists, Tells, Hands, piece}
 use Rattle.block_core.proofs.moves.Moves as moves
 use Rattle.block_core.proofs.sound.Facts.{TaskFits, Kept}
 use Rattle.block_core.proofs.sound.TaskSubmissions.{submission_fits}
-use Rattle.block_core.proofs.sound.Orders.{AskFits, DoingPlaced, HandHome, TaskPlaced, Placed, Ground}
+use Rattle.block_core.proofs.sound.Orders.{AskFits, HandHome, TaskPlaced, Placed, Ground}
 use Rattle.std.specs.Prelude.{min}
-use Rattle.block_core.proofs.sound.OrdersKept.{submission_placed}
-use Rattle.block_core.proofs.moves.Deltas.{vacant_at, delta}
+use Rattle.block_core.proofs.sound.OrdersKept.{placed_at}
+use Rattle.block_core.proofs.moves.Deltas.{other_place, delta}
 use Rattle.block_core.proofs.sound.SumParts.{copies_weight, unless, unless_none, cut_weight, submission_part}
 use Rattle.block_core.proofs.moves.Totals.{part_of}
 use Rattle.block_core.proofs.moves.SubmissionWeights.{IsBlind, landed_same, first_weight, goes_weight}
@@ -135,21 +134,11 @@ module _ (scene : Scene) (s : State) (g : Ground scene.setup) (i : Kept scene s)
   one_more m c writer key n v le =
       (with_mark level writer key n, omega (arith, total_null level writer key n scene s i v off, delta scene (off_levels (with_mark level writer key n)) s m c, le))
 
-  at : (place : ℕ) (x : TaskState) (doing : Doing) (lists : TaskLists) → s.task place ≡ x → HasSubmission x doing lists → DoingPlaced scene.setup (limit_of x) doing lists
-  at place x doing lists is h = submission_placed scene.setup x doing lists (subst (TaskPlaced scene.setup) is (p.tasks place)) h
-
   -- what a completer carries is on its level
   carried_off : (place : ℕ) (disk : DevId) (carried : Carried) → place < scene.tasks → s.task place ≡ Completer disk carried → carried_weight (off_levels level) 0 carried ≡ 0
   carried_off place disk carried lt is =
       let a : task_weight (off_levels level) place (s.task place) ≡ carried_weight (off_levels level) 0 carried = ap (task_weight (off_levels level) 0) is in
       omega (arith, a, part_of (task_weight (off_levels level)) scene.tasks s.task place lt, off)
-
-  -- an open node has another place than a vacant one
-  other_place : (writer key place : ℕ) (node : Node) → IsVacant (s.objects.book writer) key → node_at (s.objects.book writer) place ≡ Some node → place ≢ key
-  other_place writer key place node v found q =
-      let a = vacant_at (s.objects.book writer) key v in
-      let x : node_at (s.objects.book writer) place ≡ node_at (s.objects.book writer) key = ap (node_at (s.objects.book writer)) q in
-      let y : None ≡ Some node = sym a.0 ∙ sym x ∙ found in cc
 
   pub stays_leveled : (m : Move) → Can scene s m → AreLeveled scene (after scene s m)
   -- takes, misses, punts, pops, pushes and completions
@@ -184,13 +173,13 @@ module _ (scene : Scene) (s : State) (g : Ground scene.setup) (i : Kept scene s)
       let dev = bio.bio.dev.0 in
       let new = with_mark level bio.bio.writer key (2 * dev) in
       let here = mark_here level bio.bio.writer key (2 * dev) in
-      let d = at place x (Drives bio (ToCut (Links hand))) lists c.1 c.2 in
+      let d = placed_at scene.setup s p place x (Drives bio (ToCut (Links hand))) lists c.1 c.2 in
       let known = d.1.0.0.device in
       let few = g.few in
       let suits : AskFits (Split number kind sizes members) bio.bio.range dev (ToCut (Links hand)) = subst (λ t. AskFits t bio.bio.range dev (ToCut (Links hand))) c.3 d.3 in
       let part = submission_part scene (off_levels level) s place x (Drives bio (ToCut (Links hand))) lists c.0 c.1 c.2 in
       let parent : new bio.bio.writer bio.bio.node ≡ level bio.bio.writer bio.bio.node =
-      mark_other level bio.bio.writer key (2 * dev) bio.bio.writer bio.bio.node (inr (other_place bio.bio.writer key bio.bio.node node c.6 c.5)) in
+      mark_other level bio.bio.writer key (2 * dev) bio.bio.writer bio.bio.node (inr (other_place (s.objects.book bio.bio.writer) key bio.bio.node node c.6 c.5)) in
       let up = d.1.0.1 in
       let above : 2 * dev + 1 ≤ level bio.bio.writer bio.bio.node = omega (arith, part, off, up, known, few) in
       let fits : bio_off new (piece bio hand n key kind sizes members) ≡ 0 = at_level new (piece bio hand n key kind sizes members) (2 * dev) suits.1 (omega (arith, known, few)) here in
@@ -209,13 +198,13 @@ module _ (scene : Scene) (s : State) (g : Ground scene.setup) (i : Kept scene s)
       let new = with_mark level bio.bio.writer key (2 * dev + 1) in
       let here = mark_here level bio.bio.writer key (2 * dev + 1) in
       let legs = legs_of (tree_at scene.setup bio.bio.dev) in
-      let d = at place x (Drives bio (ToMaster slip)) lists c.1 c.2 in
+      let d = placed_at scene.setup s p place x (Drives bio (ToMaster slip)) lists c.1 c.2 in
       let known = d.1.0.0.device in
       let few = g.few in
       let own : slip.share.no ≡ 2 * dev + 1 = by_tree (tree_at scene.setup bio.bio.dev) d.3 in
       let part = submission_part scene (off_levels level) s place x (Drives bio (ToMaster slip)) lists c.0 c.1 c.2 in
       let parent : new bio.bio.writer bio.bio.node ≡ level bio.bio.writer bio.bio.node =
-      mark_other level bio.bio.writer key (2 * dev + 1) bio.bio.writer bio.bio.node (inr (other_place bio.bio.writer key bio.bio.node node c.5 c.4)) in
+      mark_other level bio.bio.writer key (2 * dev + 1) bio.bio.writer bio.bio.node (inr (other_place (s.objects.book bio.bio.writer) key bio.bio.node node c.5 c.4)) in
       let up = d.1.0.1 in
       let above : 2 * dev + 2 ≤ level bio.bio.writer bio.bio.node = omega (arith, part, off, up, known, few) in
       let at_own : apart (level bio.bio.writer bio.bio.node) (min bio.share.no 64) ≡ 0 = omega (arith, part, off) in
@@ -245,13 +234,13 @@ module _ (scene : Scene) (s : State) (g : Ground scene.setup) (i : Kept scene s)
       let here = mark_here level bio.writer key (2 * dev) in
       let legs = legs_of (tree_at scene.setup bio.dev) in
       let item = leg_at bio hand leg key (tree_at scene.setup bio.dev) in
-      let d = at place x (Copies bio master leg (Links hand)) lists c.1 c.2 in
+      let d = placed_at scene.setup s p place x (Copies bio master leg (Links hand)) lists c.1 c.2 in
       let known = d.0.device in
       let few = g.few in
       let lt = submission_fits scene x (Copies bio master leg (Links hand)) lists (subst (TaskFits scene) c.1 (i.tasks place)) c.2 in
       let part = submission_part scene (off_levels level) s place x (Copies bio master leg (Links hand)) lists c.0 c.1 c.2 in
       let parent : new bio.writer master ≡ level bio.writer master =
-      mark_other level bio.writer key (2 * dev) bio.writer master (inr (other_place bio.writer key master node c.5 c.4)) in
+      mark_other level bio.writer key (2 * dev) bio.writer master (inr (other_place (s.objects.book bio.writer) key master node c.5 c.4)) in
       let above : level bio.writer master ≡ 2 * dev + 1 = omega (arith, part, off) in
       let fits : bio_off new item ≡ 0 = leg_on new bio hand leg key (2 * dev) (tree_at scene.setup bio.dev) lt d.6 (omega (arith, known, few)) here in
       let child : (new bio.writer key + 1) - new bio.writer master ≡ 0 = omega (arith, here, parent, above) in

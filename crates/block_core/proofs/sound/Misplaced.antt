@@ -1,5 +1,5 @@
 -- Events keep what refers to nodes where it belongs: bios, children and masters at nodes that are no masters, and legs at masters.
-use Rattle.std.proofs.Common.{◌≡◌, ◌≢◌, ◌+◌, ◌<◌, ◌≤◌, ◌==◌, not, ℕ, Bool, true, false, [], ◌∷◌, Option, None, Some, inr, refl, sym, ◌∙◌, ap, subst, arith}
+use Rattle.std.proofs.Common.{◌≡◌, ◌+◌, ◌<◌, ◌≤◌, ◌==◌, not, ℕ, Bool, true, false, [], ◌∷◌, Option, None, Some, inr, refl, ◌∙◌, ap, subst, arith}
 use Rattle.std.proofs.lemmas.List.Sums.{sum_by-cons, sum_by_push}
 use Rattle.stack_base.specs.Tree.{Tree, Leaf, Split, Mirrored}
 use Rattle.bio_records.specs.declared.bio.Bio.{Bio}
@@ -8,7 +8,7 @@ use Rattle.bio_records.specs.Items.{Item}
 use Rattle.bio_lists.specs.Submission.{submitted}
 use Rattle.bio_books.specs.declared.node.Role.{Role}
 use Rattle.bio_books.specs.declared.node.Role.TheVariants as role
-use Rattle.bio_books.specs.Books.{Node, VectorItem, node_at, parent_of}
+use Rattle.bio_books.specs.Books.{VectorItem, parent_of}
 use Rattle.bio_books.specs.Links.{IsVacant}
 use Rattle.run_machine.specs.Maps.{upd}
 use Rattle.run_machine.specs.Scene.{Scene, tree_at}
@@ -23,7 +23,7 @@ use Rattle.block_core.proofs.moves.Moves as moves
 use Rattle.block_core.proofs.moves.Sums.{upd-same, upd-other}
 use Rattle.block_core.proofs.sound.Facts.{TaskFits, Kept}
 use Rattle.block_core.proofs.sound.TaskSubmissions.{submission_fits}
-use Rattle.block_core.proofs.moves.Deltas.{vacant_at, delta}
+use Rattle.block_core.proofs.moves.Deltas.{other_place, delta}
 use Rattle.block_core.proofs.sound.SumParts.{copies_weight, unless, unless_none, cut_weight, submission_part}
 use Rattle.block_core.proofs.moves.SubmissionWeights.{IsBlind, landed_same, first_weight, goes_weight}
 use Rattle.block_core.proofs.moves.VacantMarks.{with_mark, mark_here, mark_other, mark_still, IsUnmoved, none_moves}
@@ -126,12 +126,6 @@ module _ (scene : Scene) (s : State) (i : Kept scene s) (was_master : ℕ → Bo
   one_more m c writer key v vacant le =
       (with_mark mark writer key v, omega (arith, vacant_placed mark was_master writer key v scene s i vacant none, delta scene (w (with_mark mark writer key v)) s m c, le))
 
-  other_place : (writer key place : ℕ) (node : Node) → IsVacant (s.objects.book writer) key → node_at (s.objects.book writer) place ≡ Some node → place ≢ key
-  other_place writer key place node v found q =
-      let a = vacant_at (s.objects.book writer) key v in
-      let x : node_at (s.objects.book writer) place ≡ node_at (s.objects.book writer) key = ap (node_at (s.objects.book writer)) q in
-      let y : None ≡ Some node = sym a.0 ∙ sym x ∙ found in cc
-
   pub stays_right : (m : Move) → Can scene s m → ArePlaced scene (after scene s m) (was_after was_master m)
   -- takes, misses, punts, pops, pushes and completions
   stays_right (moves.TakesFirst place writer todo later move) c = same (moves.TakesFirst place writer todo later move) c (omega arith)
@@ -166,7 +160,7 @@ module _ (scene : Scene) (s : State) (i : Kept scene s) (was_master : ℕ → Bo
       let here = mark_here mark bio.bio.writer key false in
       let part = submission_part scene (w mark) s place x (Drives bio (ToCut (Links hand))) lists c.0 c.1 c.2 in
       let parent : new bio.bio.writer bio.bio.node ≡ mark bio.bio.writer bio.bio.node =
-      mark_other mark bio.bio.writer key false bio.bio.writer bio.bio.node (inr (other_place bio.bio.writer key bio.bio.node node c.6 c.5)) in
+      mark_other mark bio.bio.writer key false bio.bio.writer bio.bio.node (inr (other_place (s.objects.book bio.bio.writer) key bio.bio.node node c.6 c.5)) in
       let free : yes (mark bio.bio.writer bio.bio.node) ≡ 0 = omega (arith, part, none) in
       one_more (moves.Chained place x bio lists hand number kind sizes members key node) c bio.bio.writer key false c.6
       (omega (
@@ -184,7 +178,7 @@ module _ (scene : Scene) (s : State) (i : Kept scene s) (was_master : ℕ → Bo
       let legs = legs_of (tree_at scene.setup bio.bio.dev) in
       let part = submission_part scene (w mark) s place x (Drives bio (ToMaster slip)) lists c.0 c.1 c.2 in
       let parent : new bio.bio.writer bio.bio.node ≡ mark bio.bio.writer bio.bio.node =
-      mark_other mark bio.bio.writer key true bio.bio.writer bio.bio.node (inr (other_place bio.bio.writer key bio.bio.node node c.5 c.4)) in
+      mark_other mark bio.bio.writer key true bio.bio.writer bio.bio.node (inr (other_place (s.objects.book bio.bio.writer) key bio.bio.node node c.5 c.4)) in
       let free : yes (mark bio.bio.writer bio.bio.node) ≡ 0 = omega (arith, part, none) in
       let copy : yes (not (new bio.bio.writer key)) ≡ 0 = ap (λ b. yes (not b)) here in
       one_more (moves.Mastered place x bio lists slip key node) c bio.bio.writer key true c.5
@@ -206,7 +200,7 @@ module _ (scene : Scene) (s : State) (i : Kept scene s) (was_master : ℕ → Bo
       let lt = submission_fits scene x (Copies bio master leg (Links hand)) lists (subst (TaskFits scene) c.1 (i.tasks place)) c.2 in
       let part = submission_part scene (w mark) s place x (Copies bio master leg (Links hand)) lists c.0 c.1 c.2 in
       let parent : new bio.writer master ≡ mark bio.writer master =
-      mark_other mark bio.writer key false bio.writer master (inr (other_place bio.writer key master node c.5 c.4)) in
+      mark_other mark bio.writer key false bio.writer master (inr (other_place (s.objects.book bio.writer) key master node c.5 c.4)) in
       let free : yes (not (mark bio.writer master)) ≡ 0 = omega (arith, part, none) in
       let copy : yes (not (new bio.writer master)) ≡ 0 = ap (λ b. yes (not b)) parent ∙ free in
       one_more (moves.Legged place x bio lists master leg hand key node) c bio.writer key false c.5

@@ -1,5 +1,5 @@
 -- Events keep a node, the bios that name it and the nodes under it parts of one write.
-use Rattle.std.proofs.Common.{◌≡◌, ◌≢◌, ◌+◌, ◌<◌, ◌≤◌, ◌==◌, ℕ, List, [], ◌∷◌, Option, None, Some, inr, refl, sym, ◌∙◌, ap, subst, arith}
+use Rattle.std.proofs.Common.{◌≡◌, ◌+◌, ◌<◌, ◌≤◌, ◌==◌, ℕ, List, [], ◌∷◌, Option, None, Some, inr, refl, sym, ap, subst, arith}
 use Rattle.std.proofs.lemmas.List.Sums.{sum_by-cons, sum_by_push}
 use Rattle.elem_ledger.specs.Ledger.{LedgerId}
 use Rattle.stack_base.specs.Tree.{Tree, Leaf, Split, Mirrored}
@@ -26,7 +26,7 @@ use Rattle.block_core.proofs.sound.Facts.{TaskFits, Fair, Kept}
 use Rattle.block_core.proofs.sound.TaskSubmissions.{submission_fits}
 use Rattle.block_core.proofs.sound.Orders.{Ground}
 use Rattle.block_core.proofs.moves.Devices.{ground}
-use Rattle.block_core.proofs.moves.Deltas.{vacant_at, delta}
+use Rattle.block_core.proofs.moves.Deltas.{other_place, delta}
 use Rattle.block_core.proofs.sound.SumParts.{copies_weight, unless, unless_none, cut_weight, submission_part}
 use Rattle.block_core.proofs.moves.SubmissionWeights.{IsBlind, landed_same, first_weight, goes_weight}
 use Rattle.block_core.proofs.moves.VacantMarks.{with_mark, mark_here, mark_other, mark_still, IsUnmoved, none_moves}
@@ -88,12 +88,6 @@ module _ (scene : Scene) (s : State) (i : Kept scene s) (write_of : ℕ → ℕ 
   pub node_write : (writer key : ℕ) (node : Node) → node_at (s.objects.book writer) key ≡ Some node → write_of writer key ≡ node.write
   node_write writer key node at = omega (arith, none, node_part scene s i (strays write_of) writer key node at)
 
-  other_place : (writer key place : ℕ) (node : Node) → IsVacant (s.objects.book writer) key → node_at (s.objects.book writer) place ≡ Some node → place ≢ key
-  other_place writer key place node v found q =
-      let a = vacant_at (s.objects.book writer) key v in
-      let x : node_at (s.objects.book writer) place ≡ node_at (s.objects.book writer) key = ap (node_at (s.objects.book writer)) q in
-      let y : None ≡ Some node = sym a.0 ∙ sym x ∙ found in cc
-
   pub stays_of_one_write : (m : Move) → Can scene s m → AreOfOneWrite scene (after scene s m)
   -- takes, misses, punts, pops, pushes and completions
   stays_of_one_write (moves.TakesFirst place writer todo later move) c = same (moves.TakesFirst place writer todo later move) c (omega arith)
@@ -127,7 +121,7 @@ module _ (scene : Scene) (s : State) (i : Kept scene s) (write_of : ℕ → ℕ 
       let here = mark_here write_of bio.bio.writer key node.write in
       let part = submission_part scene (strays write_of) s place x (Drives bio (ToCut (Links hand))) lists c.0 c.1 c.2 in
       let parent : new bio.bio.writer bio.bio.node ≡ write_of bio.bio.writer bio.bio.node =
-      mark_other write_of bio.bio.writer key node.write bio.bio.writer bio.bio.node (inr (other_place bio.bio.writer key bio.bio.node node c.6 c.5)) in
+      mark_other write_of bio.bio.writer key node.write bio.bio.writer bio.bio.node (inr (other_place (s.objects.book bio.bio.writer) key bio.bio.node node c.6 c.5)) in
       let of_node = node_write bio.bio.writer bio.bio.node node c.5 in
       let of_bio : write_of bio.bio.writer bio.bio.node ≡ bio.bio.write = omega (arith, none, part) in
       one_more (moves.Chained place x bio lists hand number kind sizes members key node) c bio.bio.writer key node.write c.6
@@ -147,7 +141,7 @@ module _ (scene : Scene) (s : State) (i : Kept scene s) (write_of : ℕ → ℕ 
       let legs = legs_of (tree_at scene.setup bio.bio.dev) in
       let part = submission_part scene (strays write_of) s place x (Drives bio (ToMaster slip)) lists c.0 c.1 c.2 in
       let parent : new bio.bio.writer bio.bio.node ≡ write_of bio.bio.writer bio.bio.node =
-      mark_other write_of bio.bio.writer key node.write bio.bio.writer bio.bio.node (inr (other_place bio.bio.writer key bio.bio.node node c.5 c.4)) in
+      mark_other write_of bio.bio.writer key node.write bio.bio.writer bio.bio.node (inr (other_place (s.objects.book bio.bio.writer) key bio.bio.node node c.5 c.4)) in
       let of_node = node_write bio.bio.writer bio.bio.node node c.4 in
       let of_bio : write_of bio.bio.writer bio.bio.node ≡ bio.bio.write = omega (arith, none, part) in
       let copy : apart (new bio.bio.writer key) bio.bio.write ≡ 0 = omega (arith, here, of_node, of_bio) in
@@ -170,7 +164,7 @@ module _ (scene : Scene) (s : State) (i : Kept scene s) (write_of : ℕ → ℕ 
       let lt = submission_fits scene x (Copies bio master leg (Links hand)) lists (subst (TaskFits scene) c.1 (i.tasks place)) c.2 in
       let part = submission_part scene (strays write_of) s place x (Copies bio master leg (Links hand)) lists c.0 c.1 c.2 in
       let parent : new bio.writer master ≡ write_of bio.writer master =
-      mark_other write_of bio.writer key node.write bio.writer master (inr (other_place bio.writer key master node c.5 c.4)) in
+      mark_other write_of bio.writer key node.write bio.writer master (inr (other_place (s.objects.book bio.writer) key master node c.5 c.4)) in
       let of_node = node_write bio.writer master node c.4 in
       let of_bio : write_of bio.writer master ≡ bio.write = omega (arith, none, part) in
       let fits : bio_strays new item ≡ 0 = leg_of_write new bio hand leg key (tree_at scene.setup bio.dev) lt (omega (arith, here, of_node, of_bio)) in

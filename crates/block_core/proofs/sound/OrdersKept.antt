@@ -34,12 +34,16 @@ all_at P f i v h hv j =
       | inr ne ↦ subst (P j) (sym (upd-other f i v j ne)) (h j)
     ]
 
--- the submission of a task, in order
-pub submission_placed : (setup : Setup) (x : TaskState) (doing : Doing) (lists : TaskLists) → TaskPlaced setup x → HasSubmission x doing lists → DoingPlaced setup (limit_of x) doing lists
+-- the submission of a task, in order, and of the task at a place
+submission_placed : (setup : Setup) (x : TaskState) (doing : Doing) (lists : TaskLists) → TaskPlaced setup x → HasSubmission x doing lists → DoingPlaced setup (limit_of x) doing lists
 submission_placed setup (Writer number todo taken submission) doing lists t h = subst (SubmissionPlaced setup 32) h t.1
 submission_placed setup (Rescuer dev submission) doing lists t h = subst (SubmissionPlaced setup dev.0) h t
 submission_placed setup (Completer disk carried) doing lists t h = absurd h
 submission_placed setup (Keeper keeping) doing lists t h = absurd h
+
+pub placed_at : (setup : Setup) (s : State) → Placed setup s → (place : ℕ) (x : TaskState) (doing : Doing) (lists : TaskLists) → s.task place ≡ x → HasSubmission x doing lists
+    → DoingPlaced setup (limit_of x) doing lists
+placed_at setup s p place x doing lists is h = submission_placed setup x doing lists (subst (TaskPlaced setup) is (p.tasks place)) h
 
 relined : (setup : Setup) (x : TaskState) (new : Submission) → TaskPlaced setup x → SubmissionPlaced setup (limit_of x) new → TaskPlaced setup (with_submission x new)
 relined setup (Writer number todo taken submission) new t n = (t.0, n, t.2)
@@ -57,16 +61,13 @@ module _ (scene : Scene) (s : State) (f : Fair scene) (g : Ground scene.setup) (
   on_submission : (place : ℕ) (x : TaskState) (new : Submission) → s.task place ≡ x → SubmissionPlaced scene.setup (limit_of x) new → (j : ℕ) → TaskPlaced scene.setup (upd s.task place (with_submission x new) j)
   on_submission place x new is fits = goes place (with_submission x new) (relined scene.setup x new (at_task place x is) fits)
 
-  has : (place : ℕ) (x : TaskState) (doing : Doing) (lists : TaskLists) → s.task place ≡ x → HasSubmission x doing lists → DoingPlaced scene.setup (limit_of x) doing lists
-  has place x doing lists is h = submission_placed scene.setup x doing lists (at_task place x is) h
-
   tasks : (m : Move) → Can scene s m → (j : ℕ) → TaskPlaced scene.setup ((after scene s m).task j)
   tasks (moves.TakesFirst place writer todo later move) c = let t = at_task place _ c.1 in goes place _ (t.0, t.1, f.named 65)
   tasks (moves.TakesVector place writer todo later item move) c = let t = at_task place _ c.1 in goes place _ (t.0, t.1, (t.2, f.named 64))
   tasks (moves.TakesSub place x doing lists dev waits move) c =
-      on_submission place x _ c.1 (wants_placed scene.setup g (limit_of x) doing dev (Takes waits) (Links (clear_bio (scene.ledger (2 * dev.0)))) lists c.3 (f.named (2 * dev.0)) (has place x doing lists c.1 c.2))
+      on_submission place x _ c.1 (wants_placed scene.setup g (limit_of x) doing dev (Takes waits) (Links (clear_bio (scene.ledger (2 * dev.0)))) lists c.3 (f.named (2 * dev.0)) (placed_at scene.setup s p place x doing lists c.1 c.2))
   tasks (moves.TakesSlip place x bio lists move) c =
-      let d = has place x (Drives bio ToRecord) lists c.1 c.2 in
+      let d = placed_at scene.setup s p place x (Drives bio ToRecord) lists c.1 c.2 in
       on_submission place x _ c.1 (d.0, d.1, d.2, by_tree (tree_at scene.setup bio.bio.dev) d.3)
     where
       by_tree : (t : Tree) → AskFits t bio.bio.range bio.bio.dev.0 ToRecord → AskFits t bio.bio.range bio.bio.dev.0 (ToMaster (clear_slip (scene.ledger (2 * bio.bio.dev.0 + 1))))
@@ -75,16 +76,16 @@ module _ (scene : Scene) (s : State) (f : Fair scene) (g : Ground scene.setup) (
       by_tree (Mirrored number sizes members) a = f.named (2 * bio.bio.dev.0 + 1)
   tasks (moves.MissesOne place x number used) c = goes place x (at_task place x c.1)
   tasks (moves.MissesTry place x doing lists dev used) c =
-      on_submission place x _ c.1 (wants_placed scene.setup g (limit_of x) doing dev (Takes false) WantsPunt lists c.3 tt (has place x doing lists c.1 c.2))
+      on_submission place x _ c.1 (wants_placed scene.setup g (limit_of x) doing dev (Takes false) WantsPunt lists c.3 tt (placed_at scene.setup s p place x doing lists c.1 c.2))
   tasks (moves.Punts place x doing lists dev) c =
       on_submission place x _ c.1
       (wants_placed scene.setup g (limit_of x) doing dev WantsPunt (Takes true) (unpunted (Of dev) lists) c.3 tt
-      (punts_placed scene.setup g (limit_of x) doing dev dev WantsPunt lists c.3 (has place x doing lists c.1 c.2)))
+      (punts_placed scene.setup g (limit_of x) doing dev dev WantsPunt lists c.3 (placed_at scene.setup s p place x doing lists c.1 c.2)))
   tasks (moves.Pops place dev bio bios) c =
       let r : Each (IsOwn scene.setup dev.0 dev.0) (bio ∷ bios) = subst (Each (IsOwn scene.setup dev.0 dev.0)) c.3 (p.rescued dev.0) in
       goes place _ (first_placed scene.setup g dev.0 (bio ∷ []) (r.0.0, tt) (tt, tt))
   tasks (moves.Pushes place x bio lists) c =
-      let d = has place x (Drives bio ToPush) lists c.1 c.2 in on_submission place x _ c.1 (pushed_placed scene.setup g (limit_of x) bio.bio.dev lists d.0 d.1.1 d.2.1)
+      let d = placed_at scene.setup s p place x (Drives bio ToPush) lists c.1 c.2 in on_submission place x _ c.1 (pushed_placed scene.setup g (limit_of x) bio.bio.dev lists d.0 d.1.1 d.2.1)
   tasks (moves.Completed place disk index bio status new) c = goes place _ tt
   tasks (moves.Begins place writer todo later item vector key) c =
       let t = at_task place (Writer writer (todo ∷ later) (gathered_of item vector) rests) c.1 in
@@ -94,13 +95,13 @@ module _ (scene : Scene) (s : State) (f : Fair scene) (g : Ground scene.setup) (
       home None h = h
       home (Some v) h = h.0
   tasks (moves.Chained place x bio lists hand number kind sizes members key node) c =
-      on_submission place x _ c.1 (cut_placed scene.setup g (limit_of x) bio lists hand number kind sizes members key (has place x (Drives bio (ToCut (Links hand))) lists c.1 c.2) c.3)
+      on_submission place x _ c.1 (cut_placed scene.setup g (limit_of x) bio lists hand number kind sizes members key (placed_at scene.setup s p place x (Drives bio (ToCut (Links hand))) lists c.1 c.2) c.3)
   tasks (moves.Mastered place x bio lists slip key node) c =
-      let d = has place x (Drives bio (ToMaster slip)) lists c.1 c.2 in
+      let d = placed_at scene.setup s p place x (Drives bio (ToMaster slip)) lists c.1 c.2 in
       let none : Each (IsOwn scene.setup bio.bio.dev.0 (limit_of x)) lists.list0 = subst (Each (IsOwn scene.setup bio.bio.dev.0 (limit_of x))) (sym d.0) tt in
       on_submission place x _ c.1 (copies_placed scene.setup g (limit_of x) lists bio.bio key 0 d.1.0.0 d.1.0.2 none d.1.1 d.2.0 d.2.1)
   tasks (moves.Legged place x bio lists master leg hand key node) c =
-      let d = has place x (Copies bio master leg (Links hand)) lists c.1 c.2 in
+      let d = placed_at scene.setup s p place x (Copies bio master leg (Links hand)) lists c.1 c.2 in
       let lt = submission_fits scene x (Copies bio master leg (Links hand)) lists (subst (TaskFits scene) c.1 (i.tasks place)) c.2 in
       let item = leg_at bio hand leg key (tree_at scene.setup bio.dev) in
       let l = g.leg bio hand leg key d.0 lt in
@@ -133,7 +134,7 @@ module _ (scene : Scene) (s : State) (f : Fair scene) (g : Ground scene.setup) (
 
   rescued : (m : Move) → Can scene s m → (dev : ℕ) → Each (IsOwn scene.setup dev dev) ((after scene s m).objects.rescue dev)
   rescued (moves.Punts place x doing lists dev) c =
-      let w = waiting_placed scene.setup g (limit_of x) doing dev WantsPunt lists c.3 (has place x doing lists c.1 c.2) in
+      let w = waiting_placed scene.setup g (limit_of x) doing dev WantsPunt lists c.3 (placed_at scene.setup s p place x doing lists c.1 c.2) in
       let own : Item Pad → Type 0 = IsOwn scene.setup dev.0 dev.0 in
       all_at (λ d bios. Each (IsOwn scene.setup d d) bios) s.objects.rescue dev.0 (s.objects.rescue dev.0 ++ punted (Of dev) lists) p.rescued
       (each_append own (s.objects.rescue dev.0) (punted (Of dev) lists) (p.rescued dev.0)

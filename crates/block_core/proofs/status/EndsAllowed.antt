@@ -33,8 +33,8 @@ use Rattle.block_core.proofs.sound.TaskSubmissions.{submission_fits}
 use Rattle.block_core.proofs.moves.Deltas.{delta}
 use Rattle.block_core.proofs.sound.SumParts.{cut_weight, submission_part, named_away, unless_less}
 use Rattle.block_core.proofs.moves.SubmissionWeights.{landed_same}
-use Rattle.block_core.proofs.sound.Orders.{Each, IsOwn, DoingPlaced, TaskPlaced, Placed, Ground}
-use Rattle.block_core.proofs.sound.OrdersKept.{submission_placed}
+use Rattle.block_core.proofs.sound.Orders.{Each, IsOwn, TaskPlaced, Placed, Ground}
+use Rattle.block_core.proofs.sound.OrdersKept.{placed_at}
 use Rattle.block_core.proofs.moves.Misfits.{misfits, cut_fits}
 use Rattle.block_core.proofs.images.StillToCome.{over}
 use Rattle.block_core.proofs.images.FragmentCounts.{legs_next}
@@ -71,9 +71,6 @@ module _ (scene : Scene) (ends : Fragment → Status) (written : ℕ → Status 
 
   module _ (s : State) (g : Ground setup) (i : Kept scene s) (a : Placed setup s) (counted : total scene (misfits over) s ≡ 0) (endings : (place : ℕ) → HasEnding ends (s.task place))
       (mark : ℕ → ℕ → Mark) (h : IsMarked scene ends written mark s) where
-    has : (place : ℕ) (x : TaskState) (doing : Doing) (lists : TaskLists) → s.task place ≡ x → HasSubmission x doing lists → DoingPlaced setup (limit_of x) doing lists
-    has place x doing lists at submission = submission_placed setup x doing lists (subst (TaskPlaced setup) at (a.tasks place)) submission
-
     -- a node that a driven bio names is no master
     driven_node : (place : ℕ) (x : TaskState) (bio : Item Pad) (doing : Doing) (lists : TaskLists) (node : Node) → place < scene.tasks → s.task place ≡ x → HasSubmission x doing lists
         → names_node bio.bio.writer bio.bio.node bio ≤ total scene (named bio.bio.writer bio.bio.node) s
@@ -134,7 +131,7 @@ module _ (scene : Scene) (ends : Fragment → Status) (written : ℕ → Status 
         ))
     -- pushes
     off_after end (moves.Pushes place x bio lists) c =
-        let d = has place x (Drives bio ToPush) lists c.1 c.2 in
+        let d = placed_at setup s a place x (Drives bio ToPush) lists c.1 c.2 in
         same_off end (moves.Pushes place x bio lists) c
         (omega (
           arith,
@@ -181,7 +178,7 @@ module _ (scene : Scene) (ends : Fragment → Status) (written : ℕ → Status 
         let rest = split_rest bio n in
         let new = new_mark false (bio_may setup ends child.bio) in
         let marks = with_mark mark bio.bio.writer key new in
-        let d = has place x (Drives bio (ToCut (Links hand))) lists c.1 c.2 in
+        let d = placed_at setup s a place x (Drives bio (ToCut (Links hand))) lists c.1 c.2 in
         let there = cut_there setup (limit_of x) g bio hand lists key number kind sizes members d c.3 in
         let fits : over bio.bio ≡ 0 = cut_fits over scene s counted place x bio hand lists c.0 c.1 c.2 in
         let parts = v.cut bio hand key number kind sizes members d.1.0.0 (omega (arith, fits)) c.3 there.0 in
@@ -214,7 +211,7 @@ module _ (scene : Scene) (ends : Fragment → Status) (written : ℕ → Status 
         let legs = legs_of (tree_at setup bio.bio.dev) in
         let new = new_mark true (bio_may setup ends bio.bio) in
         let marks = with_mark mark bio.bio.writer key new in
-        let d = has place x (Drives bio (ToMaster slip)) lists c.1 c.2 in
+        let d = placed_at setup s a place x (Drives bio (ToMaster slip)) lists c.1 c.2 in
         let mirror = mirror_may ends (tree_at setup bio.bio.dev) bio.bio bio.bio.range bio.bio.dev.0 slip d.3 in
         let f : ℕ → ℕ = λ k. leg_may ends (tree_at setup bio.bio.dev) bio.bio k end - allowed (marks bio.bio.writer key) end in
         let none : sum_by f (range_with_len 0 (legs - 0)) ≡ 0 =
@@ -236,7 +233,7 @@ module _ (scene : Scene) (ends : Fragment → Status) (written : ℕ → Status 
         let item = leg_at bio hand leg key t in
         let new = new_mark false (bio_may setup ends item.bio) in
         let marks = with_mark mark bio.writer key new in
-        let d = has place x (Copies bio master leg (Links hand)) lists c.1 c.2 in
+        let d = placed_at setup s a place x (Copies bio master leg (Links hand)) lists c.1 c.2 in
         let lt = submission_fits scene x (Copies bio master leg (Links hand)) lists (subst (TaskFits scene) c.1 (i.tasks place)) c.2 in
         let f : ℕ → ℕ = λ k. leg_may ends t bio k end - allowed (marks bio.writer master) end in
         more_off end (moves.Legged place x bio lists master leg hand key node) c bio.writer key new c.5

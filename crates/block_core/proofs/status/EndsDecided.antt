@@ -9,7 +9,6 @@ use Rattle.stack_base.specs.declared.ids.Status.TheVariants.{Ok}
 use Rattle.layout_model.specs.declared.fragment.Fragment.{Fragment}
 use Rattle.bio_records.specs.declared.bio.Bio.{Bio}
 use Rattle.bio_records.specs.declared.bio.Pad.{Pad}
-use Rattle.bio_records.specs.declared.tasks.TaskLists.{TaskLists}
 use Rattle.bio_records.specs.Items.{Item}
 use Rattle.bio_lists.specs.Submission.{submitted}
 use Rattle.bio_split.specs.Split.{split_rest}
@@ -17,12 +16,12 @@ use Rattle.bio_books.specs.Books.{Node, BookState, node_at, top_node, child_node
 use Rattle.bio_books.specs.Links.{IsVacant}
 use Rattle.bio_books.specs.Drops.{Closed, closed_of}
 use Rattle.run_machine.specs.Scene.{Setup, Scene, tree_at}
-use Rattle.run_machine.specs.Submissions.{Links, ToPush, ToCut, ToMaster, Doing, Drives, Copies, rests, first_length, landed, legs_of, leg_at}
-use Rattle.run_machine.specs.Tasks.{TaskState, Writer, HasBio, HasBoth, Carried}
+use Rattle.run_machine.specs.Submissions.{Links, ToPush, ToCut, ToMaster, Drives, Copies, rests, first_length, landed, legs_of, leg_at}
+use Rattle.run_machine.specs.Tasks.{Writer, HasBio, HasBoth, Carried}
 use Rattle.run_machine.specs.Runs.{State}
 use Rattle.block_core.specs.Weights.{Weight, Lined, total, one, names_node, under}
 use Rattle.block_core.proofs.status.Marks.{is, bio_may, leg_may, todo_may, Mark, decides, lack, deciding, IsMarked}
-use Rattle.block_core.proofs.moves.Moves.{Move, Can, after, lost, gained, limit_of, HasSubmission, filled_of, vector_of, cut_lists, piece}
+use Rattle.block_core.proofs.moves.Moves.{Move, Can, after, lost, gained, limit_of, filled_of, vector_of, cut_lists, piece}
 use Rattle.block_core.proofs.moves.Moves as moves
 use Rattle.block_core.proofs.moves.Sums.{one-same, within_book}
 use Rattle.block_core.proofs.sound.Facts.{TaskFits, Kept}
@@ -31,8 +30,8 @@ use Rattle.block_core.proofs.moves.Deltas.{vacant_at, delta}
 use Rattle.block_core.proofs.moves.BookMaps.{made, chained}
 use Rattle.block_core.proofs.sound.SumParts.{cut_weight}
 use Rattle.block_core.proofs.moves.SubmissionWeights.{landed_same}
-use Rattle.block_core.proofs.sound.Orders.{Each, IsOwn, DoingPlaced, TaskPlaced, Placed, Ground}
-use Rattle.block_core.proofs.sound.OrdersKept.{submission_placed}
+use Rattle.block_core.proofs.sound.Orders.{Each, IsOwn, TaskPlaced, Placed, Ground}
+use Rattle.block_core.proofs.sound.OrdersKept.{placed_at}
 use Rattle.block_core.proofs.moves.Misfits.{misfits, cut_fits}
 use Rattle.block_core.proofs.images.StillToCome.{over}
 use Rattle.block_core.proofs.images.FragmentCounts.{legs_next}
@@ -59,9 +58,6 @@ module _ (scene : Scene) (ends : Fragment → Status) (written : ℕ → Status 
 
   module _ (s : State) (g : Ground setup) (i : Kept scene s) (a : Placed setup s) (counted : total scene (misfits over) s ≡ 0) (endings : (place : ℕ) → HasEnding ends (s.task place))
       (mark : ℕ → ℕ → Mark) (h : IsMarked scene ends written mark s) where
-    has : (place : ℕ) (x : TaskState) (doing : Doing) (lists : TaskLists) → s.task place ≡ x → HasSubmission x doing lists → DoingPlaced setup (limit_of x) doing lists
-    has place x doing lists at submission = submission_placed setup x doing lists (subst (TaskPlaced setup) at (a.tasks place)) submission
-
     -- what a node lacks still comes
     same_decided : (m : Move) → Can scene s m → (after scene s m).objects.book ≡ s.objects.book → (w k : ℕ)
         → lost scene (to_decide mark w k) s m ≤ gained scene (to_decide mark w k) s m
@@ -150,7 +146,7 @@ module _ (scene : Scene) (ends : Fragment → Status) (written : ℕ → Status 
         ))
     -- pushes
     decided_after (moves.Pushes place x bio lists) c w k =
-        let d = has place x (Drives bio ToPush) lists c.1 c.2 in
+        let d = placed_at setup s a place x (Drives bio ToPush) lists c.1 c.2 in
         same_decided (moves.Pushes place x bio lists) c refl w k
         (omega (
           arith,
@@ -197,7 +193,7 @@ module _ (scene : Scene) (ends : Fragment → Status) (written : ℕ → Status 
         let marks = with_mark mark bio.bio.writer key new in
         let master : Bool = (marks w k).master in
         let made_node = child_node node.write bio.bio.node in
-        let d = has place x (Drives bio (ToCut (Links hand))) lists c.1 c.2 in
+        let d = placed_at setup s a place x (Drives bio (ToCut (Links hand))) lists c.1 c.2 in
         let there = cut_there setup (limit_of x) g bio hand lists key number kind sizes members d c.3 in
         let fits : over bio.bio ≡ 0 = cut_fits over scene s counted place x bio hand lists c.0 c.1 c.2 in
         let parts = v.cut bio hand key number kind sizes members d.1.0.0 (omega (arith, fits)) c.3 there.0 in
@@ -227,7 +223,7 @@ module _ (scene : Scene) (ends : Fragment → Status) (written : ℕ → Status 
         let marks = with_mark mark bio.bio.writer key new in
         let master : Bool = (marks w k).master in
         let made_node = master_node node.write bio.bio.node slip legs in
-        let d = has place x (Drives bio (ToMaster slip)) lists c.1 c.2 in
+        let d = placed_at setup s a place x (Drives bio (ToMaster slip)) lists c.1 c.2 in
         let mirror = mirror_may ends t bio.bio bio.bio.range bio.bio.dev.0 slip d.3 in
         let comes : Bool → ℕ = λ m. sum_by (λ j. decides m (leg_may ends t bio.bio j Ok)) (range_with_len 0 (legs - 0)) in
         let some = mirror.some in
@@ -253,7 +249,7 @@ module _ (scene : Scene) (ends : Fragment → Status) (written : ℕ → Status 
         let marks = with_mark mark bio.writer key new in
         let m : Bool = (marks w k).master in
         let made_node = leg_node node.write master in
-        let d = has place x (Copies bio master leg (Links hand)) lists c.1 c.2 in
+        let d = placed_at setup s a place x (Copies bio master leg (Links hand)) lists c.1 c.2 in
         let lt = submission_fits scene x (Copies bio master leg (Links hand)) lists (subst (TaskFits scene) c.1 (i.tasks place)) c.2 in
         let f : ℕ → ℕ = λ j. decides m (leg_may ends t bio j Ok) in
         let refers : ℕ = one bio.writer w * one master k in

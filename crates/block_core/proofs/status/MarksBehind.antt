@@ -1,18 +1,16 @@
 -- The marks of nodes behind an event: a new node is marked by what its bio may come to.
-use Rattle.std.proofs.Common.{◌≡◌, ℕ, Bool, true, false, inl, inr, sym, subst}
+use Rattle.std.proofs.Common.{ℕ, Bool, true, false, inl, inr, sym, subst}
 use Rattle.stack_base.specs.declared.ids.Status.{Status}
 use Rattle.layout_model.specs.declared.fragment.Fragment.{Fragment}
 use Rattle.bio_records.specs.declared.bio.Bio.{Bio}
-use Rattle.bio_records.specs.declared.tasks.TaskLists.{TaskLists}
 use Rattle.run_machine.specs.Scene.{Setup, Scene, tree_at}
-use Rattle.run_machine.specs.Submissions.{ToMaster, Doing, Drives, first_length, leg_at}
-use Rattle.run_machine.specs.Tasks.{TaskState}
+use Rattle.run_machine.specs.Submissions.{ToMaster, Drives, first_length, leg_at}
 use Rattle.run_machine.specs.Runs.{State}
 use Rattle.block_core.proofs.status.Marks.{bio_may, todo_may, Mark, IsMark, IsMarked}
-use Rattle.block_core.proofs.moves.Moves.{Move, Can, limit_of, HasSubmission, piece}
+use Rattle.block_core.proofs.moves.Moves.{Move, Can, piece}
 use Rattle.block_core.proofs.moves.Moves as moves
-use Rattle.block_core.proofs.sound.Orders.{DoingPlaced, TaskPlaced, Placed}
-use Rattle.block_core.proofs.sound.OrdersKept.{submission_placed}
+use Rattle.block_core.proofs.sound.Orders.{Placed}
+use Rattle.block_core.proofs.sound.OrdersKept.{placed_at}
 use Rattle.block_core.proofs.moves.VacantMarks.{with_mark, mark_here, mark_other}
 use Rattle.block_core.proofs.status.RunEndings.{plan_alone, mirror_may}
 use Rattle.block_core.proofs.status.AtOneNode.{here_or}
@@ -38,9 +36,6 @@ module _ (scene : Scene) (ends : Fragment → Status) (written : ℕ → Status 
   new_fair : (bio : Bio) → IsMark (new_mark false (bio_may setup ends bio))
   new_fair bio = record { alone = λ end ne. plan_alone ends _ end ne; failed = λ same. absurd cc }
 
-  has : (place : ℕ) (x : TaskState) (doing : Doing) (lists : TaskLists) → s.task place ≡ x → HasSubmission x doing lists → DoingPlaced setup (limit_of x) doing lists
-  has place x doing lists at submission = submission_placed setup x doing lists (subst (TaskPlaced setup) at (a.tasks place)) submission
-
   with_fair : (writer key : ℕ) (new : Mark) → IsMark new → (w k : ℕ) → IsMark (with_mark mark writer key new w k)
   with_fair writer key new fair w k = elim (here_or writer w key k) [
     | inr other ↦ subst IsMark (sym (mark_other mark writer key new w k other)) (h.fair w k)
@@ -56,7 +51,7 @@ module _ (scene : Scene) (ends : Fragment → Status) (written : ℕ → Status 
       let child = piece bio hand (first_length kind sizes bio.bio.range) key kind sizes members in
       with_fair bio.bio.writer key (new_mark false (bio_may setup ends child.bio)) (new_fair child.bio)
   fair_after (moves.Mastered place x bio lists slip key node) c =
-      let d = has place x (Drives bio (ToMaster slip)) lists c.1 c.2 in
+      let d = placed_at setup s a place x (Drives bio (ToMaster slip)) lists c.1 c.2 in
       let mirror = mirror_may ends (tree_at setup bio.bio.dev) bio.bio bio.bio.range bio.bio.dev.0 slip d.3 in
       with_fair bio.bio.writer key (new_mark true (bio_may setup ends bio.bio)) (record { alone = λ end ne. plan_alone ends _ end ne; failed = λ same. mirror.failed })
   fair_after (moves.Legged place x bio lists master leg hand key node) c =

@@ -30,7 +30,7 @@ use Rattle.block_core.proofs.sound.Orders.{Each, Above, IsPlaced, IsOwn, DoingPl
 use Rattle.std.specs.Prelude.{All}
 use Rattle.std.proofs.lemmas.List.Elements.{All-nil, All-cons}
 use Rattle.bioset_pools.specs.Sets.{is_empty}
-use Rattle.block_core.proofs.sound.OrdersKept.{all_at, submission_placed}
+use Rattle.block_core.proofs.sound.OrdersKept.{all_at, placed_at}
 use Rattle.block_core.specs.Waits.{NoneBehind, DoesNotWaitForItself, TaskDoesNotWait, NoneWaitsForItself}
 
 -- where it waits, list 0 is empty
@@ -189,9 +189,6 @@ module _ (scene : Scene) (s : State) (g : Ground scene.setup) (r : AreRescued sc
   has : (place : ℕ) (x : TaskState) (doing : Doing) (lists : TaskLists) → s.task place ≡ x → HasSubmission x doing lists → DoingWaits scene.setup doing lists
   has place x doing lists is h = submission_waits scene.setup x doing lists (subst (TaskWaits scene.setup) is (i.tasks place)) h
 
-  at : (place : ℕ) (x : TaskState) (doing : Doing) (lists : TaskLists) → s.task place ≡ x → HasSubmission x doing lists → DoingPlaced scene.setup (limit_of x) doing lists
-  at place x doing lists is h = submission_placed scene.setup x doing lists (subst (TaskPlaced scene.setup) is (p.tasks place)) h
-
   tasks : (m : Move) → Can scene s m → (j : ℕ) → TaskWaits scene.setup ((after scene s m).task j)
   tasks (moves.TakesFirst place writer todo later move) c = goes place _ tt
   tasks (moves.TakesVector place writer todo later item move) c = goes place _ tt
@@ -199,7 +196,7 @@ module _ (scene : Scene) (s : State) (g : Ground scene.setup) (r : AreRescued sc
   tasks (moves.TakesSlip place x bio lists move) c = on_submission place x _ tt
   tasks (moves.MissesOne place x number used) c = goes place x (subst (TaskWaits scene.setup) c.1 (i.tasks place))
   tasks (moves.MissesTry place x doing lists dev used) c = on_submission place x _ (punts_wait scene.setup r doing dev lists c.3 (has place x doing lists c.1 c.2))
-  tasks (moves.Punts place x doing lists dev) c = on_submission place x _ (punted_wait scene.setup (limit_of x) doing dev lists c.3 (at place x doing lists c.1 c.2))
+  tasks (moves.Punts place x doing lists dev) c = on_submission place x _ (punted_wait scene.setup (limit_of x) doing dev lists c.3 (placed_at scene.setup s p place x doing lists c.1 c.2))
   tasks (moves.Pops place dev bio bios) c = goes place _ (settled_waits scene.setup r (bio ∷ []))
   tasks (moves.Pushes place x bio lists) c = on_submission place x _ (settled_waits scene.setup r (order bio.bio.dev lists))
   tasks (moves.Completed place disk index bio status new) c = goes place _ tt
@@ -207,10 +204,10 @@ module _ (scene : Scene) (s : State) (g : Ground scene.setup) (r : AreRescued sc
   tasks (moves.Chained place x bio lists hand number kind sizes members key node) c =
       on_submission place x _ (settled_waits scene.setup r (order bio.bio.dev (cut_lists bio lists hand (first_length kind sizes bio.bio.range) key kind sizes members)))
   tasks (moves.Mastered place x bio lists slip key node) c =
-      let d = at place x (Drives bio (ToMaster slip)) lists c.1 c.2 in
+      let d = placed_at scene.setup s p place x (Drives bio (ToMaster slip)) lists c.1 c.2 in
       on_submission place x _ (copies_wait scene.setup r lists bio.bio key 0 (λ is. waits_or_tries scene.setup bio.bio.dev lists d.0))
   tasks (moves.Legged place x bio lists master leg hand key node) c =
-      let d = at place x (Copies bio master leg (Links hand)) lists c.1 c.2 in
+      let d = placed_at scene.setup s p place x (Copies bio master leg (Links hand)) lists c.1 c.2 in
       let lt = submission_fits scene x (Copies bio master leg (Links hand)) lists (subst (TaskFits scene) c.1 (k.tasks place)) c.2 in
       let item = leg_at bio hand leg key (tree_at scene.setup bio.dev) in
       on_submission place x _ (copies_wait scene.setup r (submitted item lists) bio master (leg + 1)

@@ -12,23 +12,23 @@ use Rattle.bio_lists.specs.Submission.{submitted}
 use Rattle.bio_books.specs.Books.{Node, BookState, VectorItem, with_node}
 use Rattle.run_machine.specs.Maps.{upd}
 use Rattle.run_machine.specs.Scene.{Setup, Scene, tree_at}
-use Rattle.run_machine.specs.Submissions.{Links, ToPush, ToCut, ToMaster, Doing, Drives, Copies, rests, copies, first_length, landed, legs_of, leg_at}
-use Rattle.run_machine.specs.Tasks.{TaskState, Writer, Todo}
+use Rattle.run_machine.specs.Submissions.{Links, ToPush, ToCut, ToMaster, Drives, Copies, rests, copies, first_length, landed, legs_of, leg_at}
+use Rattle.run_machine.specs.Tasks.{Writer, Todo}
 use Rattle.run_machine.specs.Runs.{State}
 use Rattle.block_core.specs.Touches.{Touch, Opens, Shuts, Passes}
 use Rattle.block_core.specs.Weights.{Weight, Lined, submission_weight, one}
 use Rattle.block_core.specs.Rooms.{need_at, todo_need, legs_need, room, HasRoomInBooks}
-use Rattle.block_core.proofs.moves.Moves.{Move, Can, after, lost, gained, limit_of, HasSubmission, touch_by, gathered_of, filled_of, cut_lists}
+use Rattle.block_core.proofs.moves.Moves.{Move, Can, after, lost, gained, limit_of, touch_by, gathered_of, filled_of, cut_lists}
 use Rattle.block_core.proofs.moves.Moves as moves
 use Rattle.block_core.proofs.moves.Sums.{upd-same, upd-other, same_or_not}
 use Rattle.block_core.proofs.moves.SubmissionWeights.{landed_same}
 use Rattle.block_core.proofs.sound.Facts.{TaskFits, Kept}
 use Rattle.block_core.proofs.moves.Geometry.{IsThere}
-use Rattle.block_core.proofs.sound.Orders.{Each, IsOwn, DoingPlaced, TodoThere, TaskPlaced, Placed, Ground}
+use Rattle.block_core.proofs.sound.Orders.{Each, IsOwn, TodoThere, TaskPlaced, Placed, Ground}
 use Rattle.block_core.proofs.moves.Deltas.{delta}
 use Rattle.block_core.proofs.moves.Landings.{AreThere, IsLanding, settled_there, goes_there, copies_there, all_there, none_there, cut_there, leg_there}
 use Rattle.block_core.proofs.sound.TaskSubmissions.{submission_fits}
-use Rattle.block_core.proofs.sound.OrdersKept.{submission_placed}
+use Rattle.block_core.proofs.sound.OrdersKept.{placed_at}
 use Rattle.block_core.proofs.sound.SumParts.{cut_weight, unless_less}
 use Rattle.block_core.proofs.unrefused.NodeNeeds.{Needs, mirror_need, legs_on}
 
@@ -76,9 +76,6 @@ module _ (scene : Scene) (s : State) (g : Ground scene.setup) (n : Needs scene.s
   Spends w worth m =
       gained scene (room_worth scene.setup w worth) s m + opened_worth (λ writer. one writer w) (touch_by m) ≤ lost scene (room_worth scene.setup w worth) s m + opened_worth worth (touch_by m)
 
-  has : (place : ℕ) (x : TaskState) (doing : Doing) (lists : TaskLists) → s.task place ≡ x → HasSubmission x doing lists → DoingPlaced scene.setup (limit_of x) doing lists
-  has place x doing lists is h = submission_placed scene.setup x doing lists (subst (TaskPlaced scene.setup) is (a.tasks place)) h
-
   lands : (w : ℕ) (worth : ℕ → ℕ) → IsLanding scene.setup (room_worth scene.setup w worth)
   lands w worth = landed_room scene.setup n w
 
@@ -108,7 +105,7 @@ module _ (scene : Scene) (s : State) (g : Ground scene.setup) (n : Needs scene.s
       let r : Each (IsOwn scene.setup dev.0 dev.0) (bio ∷ bios) = subst (Each (IsOwn scene.setup dev.0 dev.0)) c.3 (a.rescued dev.0) in
       omega (arith, settled_there scene.setup (room_worth scene.setup w worth) (lands w worth) dev.0 (bio ∷ []) (r.0.0.0, tt), sum_by-cons ((room_worth scene.setup w worth).bio (Lined dev.0)) bio [])
   spends w worth (moves.Pushes place x bio lists) c =
-      let d = has place x (Drives bio ToPush) lists c.1 c.2 in
+      let d = placed_at scene.setup s a place x (Drives bio ToPush) lists c.1 c.2 in
       omega (arith, goes_there scene.setup (room_worth scene.setup w worth) (lands w worth) (limit_of x) bio.bio.dev lists (none_there scene.setup (limit_of x) lists d.0) (all_there scene.setup (limit_of x) lists.list1 d.1.1))
   spends w worth (moves.Completed place disk index bio status new) c = omega arith
   spends w worth (moves.Begins place writer todo later item vector key) c =
@@ -117,7 +114,7 @@ module _ (scene : Scene) (s : State) (g : Ground scene.setup) (n : Needs scene.s
   -- links of pieces
   spends w worth (moves.Chained place x bio lists hand number kind sizes members key node) c =
       let k = first_length kind sizes bio.bio.range in
-      let d = has place x (Drives bio (ToCut (Links hand))) lists c.1 c.2 in
+      let d = placed_at scene.setup s a place x (Drives bio (ToCut (Links hand))) lists c.1 c.2 in
       let cuts = cut_there scene.setup (limit_of x) g bio hand lists key number kind sizes members d c.3 in
       let part = ap (λ v. one bio.bio.writer w * v) (n.cut bio hand key number kind sizes members d.1.0.0 c.3 cuts.0) in
       omega (
@@ -128,13 +125,13 @@ module _ (scene : Scene) (s : State) (g : Ground scene.setup) (n : Needs scene.s
       )
   -- links of masters
   spends w worth (moves.Mastered place x bio lists slip key node) c =
-      let d = has place x (Drives bio (ToMaster slip)) lists c.1 c.2 in
+      let d = placed_at scene.setup s a place x (Drives bio (ToMaster slip)) lists c.1 c.2 in
       let is = d.1.0.0 in
       let part = ap (λ v. one bio.bio.writer w * v) (mirror_need (tree_at scene.setup bio.bio.dev) bio.bio.range bio.bio.dev.0 slip d.3 is.some) in
       omega (arith, copies_room scene.setup n w worth (limit_of x) lists bio.bio key 0 (none_there scene.setup (limit_of x) lists d.0) (all_there scene.setup (limit_of x) lists.list1 d.1.1), part)
   -- links of legs
   spends w worth (moves.Legged place x bio lists master leg hand key node) c =
-      let d = has place x (Copies bio master leg (Links hand)) lists c.1 c.2 in
+      let d = placed_at scene.setup s a place x (Copies bio master leg (Links hand)) lists c.1 c.2 in
       let lt = submission_fits scene x (Copies bio master leg (Links hand)) lists (subst (TaskFits scene) c.1 (i.tasks place)) c.2 in
       let item = leg_at bio hand leg key (tree_at scene.setup bio.dev) in
       let more = submitted item lists in

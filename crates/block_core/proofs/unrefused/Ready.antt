@@ -29,10 +29,10 @@ use Rattle.block_core.proofs.moves.Moves.{HasSubmission}
 use Rattle.block_core.proofs.moves.Sums.{one-same}
 use Rattle.block_core.specs.Roles.{named}
 use Rattle.block_core.proofs.sound.Facts.{own_part, own_of, TaskFits, Kept}
-use Rattle.block_core.proofs.sound.Orders.{TaskPlaced, Placed}
+use Rattle.block_core.proofs.sound.Orders.{Placed}
 use Rattle.block_core.proofs.moves.Deltas.{vacant_at}
 use Rattle.block_core.proofs.sound.TaskSubmissions.{submission_fits}
-use Rattle.block_core.proofs.sound.OrdersKept.{submission_placed}
+use Rattle.block_core.proofs.sound.OrdersKept.{placed_at}
 use Rattle.block_core.proofs.unrefused.NodeNeeds.{Needs, mirror_need, cut_need, legs_few}
 use Rattle.block_core.proofs.stuck.Idle.{open_in_books, open_at}
 use Rattle.block_core.proofs.unrefused.VacantPlaces.{HasVacant, has_vacant}
@@ -242,7 +242,7 @@ module _ (scene : Scene) (s : State) (n : Needs scene.setup) (small : IsSmall sc
       let doing : Doing = Drives bio (ToCut (Links hand)) in
       let writer = bio.bio.writer in
       let key = bio.bio.node in
-      let d = submission_placed scene.setup x doing lists (subst (TaskPlaced scene.setup) is (a.tasks place)) h in
+      let d = placed_at scene.setup s a place x doing lists is h in
       let need = cut_need scene.setup n bio (Links hand) (tree_at scene.setup bio.bio.dev) refl d.1.0.0 d.3 in
       let all : one writer writer * need_at scene.setup bio.bio ≡ need_at scene.setup bio.bio = ap (λ k. k * need_at scene.setup bio.bio) (one-same writer) ∙ omega arith in
       let names_it : one writer writer * one key key ≡ 1 = ap (λ k. k * one key key) (one-same writer) ∙ (ap (λ k. 1 * k) (one-same key)) in
@@ -253,7 +253,7 @@ module _ (scene : Scene) (s : State) (n : Needs scene.setup) (small : IsSmall sc
       let doing : Doing = Drives bio (ToMaster slip) in
       let writer = bio.bio.writer in
       let key = bio.bio.node in
-      let d = submission_placed scene.setup x doing lists (subst (TaskPlaced scene.setup) is (a.tasks place)) h in
+      let d = placed_at scene.setup s a place x doing lists is h in
       let there = d.1.0.0 in
       let need = mirror_need (tree_at scene.setup bio.bio.dev) bio.bio.range bio.bio.dev.0 slip d.3 there.some in
       let all : one writer writer * need_at scene.setup bio.bio ≡ need_at scene.setup bio.bio = ap (λ k. k * need_at scene.setup bio.bio) (one-same writer) ∙ omega arith in
