@@ -104,6 +104,7 @@ module _ (scene : Scene) (s : State) (g : Ground scene.setup) (n : Needs scene.s
       omega (arith, b, sum_by-cons ((worth scene.setup).bio (Lined 32)) filled_item [])
 
   pub fits : (m : Move) → Can scene s m → Fits m
+  -- takes and misses: what is taken was still to be taken
   fits (moves.TakesFirst place writer todo later move) c = omega (arith, sum_by-cons (write_need scene.setup) todo later)
   fits (moves.TakesVector place writer todo later item move) c =
       let one_more : vectors todo.write.count ≡ 1 = ap (λ (b : Bool). if b then 1 else 0) c.4 in
@@ -112,6 +113,7 @@ module _ (scene : Scene) (s : State) (g : Ground scene.setup) (n : Needs scene.s
   fits (moves.TakesSlip place x bio lists move) c = omega arith
   fits (moves.MissesOne place x number used) c = omega arith
   fits (moves.MissesTry place x doing lists dev used) c = omega arith
+  -- punts, pops, pushes and completions: bios go to other places
   fits (moves.Punts place x doing lists dev) c = omega arith
   fits (moves.Pops place dev bio bios) c =
       let r : Each (IsOwn scene.setup dev.0 dev.0) (bio ∷ bios) = subst (Each (IsOwn scene.setup dev.0 dev.0)) c.3 (a.rescued dev.0) in
@@ -120,9 +122,11 @@ module _ (scene : Scene) (s : State) (g : Ground scene.setup) (n : Needs scene.s
       let d = placed_at scene.setup s a place x (Drives bio ToPush) lists c.1 c.2 in
       omega (arith, goes_there scene.setup (worth scene.setup) lands (limit_of x) bio.bio.dev lists (none_there scene.setup (limit_of x) lists d.0) (all_there scene.setup (limit_of x) lists.list1 d.1.1))
   fits (moves.Completed place disk index bio status new) c = omega arith
+  -- links of writes
   fits (moves.Begins place writer todo later item vector key) c =
       let t : TaskPlaced scene.setup (Writer writer (todo ∷ later) (gathered_of item vector) rests) = subst (TaskPlaced scene.setup) c.1 (a.tasks place) in
       begins place writer todo later item vector key t.0.0
+  -- links of pieces
   fits (moves.Chained place x bio lists hand number kind sizes members key node) c =
       let k = first_length kind sizes bio.bio.range in
       let d = placed_at scene.setup s a place x (Drives bio (ToCut (Links hand))) lists c.1 c.2 in
@@ -134,11 +138,13 @@ module _ (scene : Scene) (s : State) (g : Ground scene.setup) (n : Needs scene.s
         cut_weight ((worth scene.setup).bio (Lined (limit_of x))) bio lists hand k key kind sizes members,
         part,
       )
+  -- links of masters
   fits (moves.Mastered place x bio lists slip key node) c =
       let d = placed_at scene.setup s a place x (Drives bio (ToMaster slip)) lists c.1 c.2 in
       let is = d.1.0.0 in
       let part = mirror_need (tree_at scene.setup bio.bio.dev) bio.bio.range bio.bio.dev.0 slip d.3 is.some in
       omega (arith, copies_worth scene.setup n (limit_of x) lists bio.bio key 0 (none_there scene.setup (limit_of x) lists d.0) (all_there scene.setup (limit_of x) lists.list1 d.1.1), part)
+  -- links of legs
   fits (moves.Legged place x bio lists master leg hand key node) c =
       let d = placed_at scene.setup s a place x (Copies bio master leg (Links hand)) lists c.1 c.2 in
       let lt = submission_fits scene x (Copies bio master leg (Links hand)) lists (subst (TaskFits scene) c.1 (i.tasks place)) c.2 in
@@ -154,11 +160,14 @@ module _ (scene : Scene) (s : State) (g : Ground scene.setup) (n : Needs scene.s
         next,
         part,
       )
+  -- drops that leave a node open, and drops that close a node
   fits (moves.Told place disk carried writer key status part node) c =
       omega (arith, tells_worth scene.setup place carried writer key status part c.2, later_worth node.held.bio part)
   fits (moves.Closes place disk carried writer key status part node) c =
       omega (arith, tells_worth scene.setup place carried writer key status part c.2, later_worth node.held.bio part)
+  -- gives: one element less is out
   fits (moves.Gives place disk writer number closed held) c = omega (arith, hands_charge number closed.held held c.2)
+  -- ends of writes, resizes and rounds: no element comes or goes
   fits (moves.Ends place disk writer closed) c = omega arith
   fits (moves.Resized place pool min later duties) c = omega arith
   fits (moves.Started place round later duties) c = omega arith

@@ -62,6 +62,7 @@ module _ (scene : Scene) (s : State) (f : Fair scene) (g : Ground scene.setup) (
   on_submission place x new is fits = goes place (with_submission x new) (relined scene.setup x new (at_task place x is) fits)
 
   tasks : (m : Move) → Can scene s m → (j : ℕ) → TaskPlaced scene.setup ((after scene s m).task j)
+  -- takes: what is taken is of the pool that was asked
   tasks (moves.TakesFirst place writer todo later move) c = let t = at_task place _ c.1 in goes place _ (t.0, t.1, f.named 65)
   tasks (moves.TakesVector place writer todo later item move) c = let t = at_task place _ c.1 in goes place _ (t.0, t.1, (t.2, f.named 64))
   tasks (moves.TakesSub place x doing lists dev waits move) c =
@@ -74,19 +75,23 @@ module _ (scene : Scene) (s : State) (f : Fair scene) (g : Ground scene.setup) (
       by_tree (Leaf number sectors) a = a
       by_tree (Split number kind sizes members) a = a
       by_tree (Mirrored number sizes members) a = f.named (2 * bio.bio.dev.0 + 1)
+  -- misses
   tasks (moves.MissesOne place x number used) c = goes place x (at_task place x c.1)
   tasks (moves.MissesTry place x doing lists dev used) c =
       on_submission place x _ c.1 (wants_placed scene.setup g (limit_of x) doing dev (Takes false) WantsPunt lists c.3 tt (placed_at scene.setup s p place x doing lists c.1 c.2))
+  -- punts
   tasks (moves.Punts place x doing lists dev) c =
       on_submission place x _ c.1
       (wants_placed scene.setup g (limit_of x) doing dev WantsPunt (Takes true) (unpunted (Of dev) lists) c.3 tt
       (punts_placed scene.setup g (limit_of x) doing dev dev WantsPunt lists c.3 (placed_at scene.setup s p place x doing lists c.1 c.2)))
+  -- pops, pushes and completions
   tasks (moves.Pops place dev bio bios) c =
       let r : Each (IsOwn scene.setup dev.0 dev.0) (bio ∷ bios) = subst (Each (IsOwn scene.setup dev.0 dev.0)) c.3 (p.rescued dev.0) in
       goes place _ (first_placed scene.setup g dev.0 (bio ∷ []) (r.0.0, tt) (tt, tt))
   tasks (moves.Pushes place x bio lists) c =
       let d = placed_at scene.setup s p place x (Drives bio ToPush) lists c.1 c.2 in on_submission place x _ c.1 (pushed_placed scene.setup g (limit_of x) bio.bio.dev lists d.0 d.1.1 d.2.1)
   tasks (moves.Completed place disk index bio status new) c = goes place _ tt
+  -- links of writes
   tasks (moves.Begins place writer todo later item vector key) c =
       let t = at_task place (Writer writer (todo ∷ later) (gathered_of item vector) rests) c.1 in
       goes place _ (t.0.1, begun_placed scene.setup g writer todo item vector key t.0.0 (home vector t.2), tt)
@@ -94,12 +99,15 @@ module _ (scene : Scene) (s : State) (f : Fair scene) (g : Ground scene.setup) (
       home : (vector : Option VectorItem) → HandHome (gathered_of item vector) → item.share.no ≡ 65
       home None h = h
       home (Some v) h = h.0
+  -- links of pieces
   tasks (moves.Chained place x bio lists hand number kind sizes members key node) c =
       on_submission place x _ c.1 (cut_placed scene.setup g (limit_of x) bio lists hand number kind sizes members key (placed_at scene.setup s p place x (Drives bio (ToCut (Links hand))) lists c.1 c.2) c.3)
+  -- links of masters
   tasks (moves.Mastered place x bio lists slip key node) c =
       let d = placed_at scene.setup s p place x (Drives bio (ToMaster slip)) lists c.1 c.2 in
       let none : Each (IsOwn scene.setup bio.bio.dev.0 (limit_of x)) lists.list0 = subst (Each (IsOwn scene.setup bio.bio.dev.0 (limit_of x))) (sym d.0) tt in
       on_submission place x _ c.1 (copies_placed scene.setup g (limit_of x) lists bio.bio key 0 d.1.0.0 d.1.0.2 none d.1.1 d.2.0 d.2.1)
+  -- links of legs
   tasks (moves.Legged place x bio lists master leg hand key node) c =
       let d = placed_at scene.setup s p place x (Copies bio master leg (Links hand)) lists c.1 c.2 in
       let lt = submission_fits scene x (Copies bio master leg (Links hand)) lists (subst (TaskFits scene) c.1 (i.tasks place)) c.2 in
@@ -113,6 +121,7 @@ module _ (scene : Scene) (s : State) (f : Fair scene) (g : Ground scene.setup) (
       on_submission place x _ c.1
       (copies_placed scene.setup g (limit_of x) (submitted item lists) bio master (leg + 1) d.0 d.1
       (each_append (IsOwn scene.setup bio.dev.0 (limit_of x)) lists.list0 (item ∷ []) d.2 (own, tt)) d.3 d.4 d.5)
+  -- drops, gives, ends of writes, resizes and rounds: by tasks without a submission
   tasks (moves.Told place disk carried writer key status part node) c = goes place _ tt
   tasks (moves.Closes place disk carried writer key status part node) c = goes place _ tt
   tasks (moves.Gives place disk writer number closed held) c = goes place _ tt
@@ -133,15 +142,18 @@ module _ (scene : Scene) (s : State) (f : Fair scene) (g : Ground scene.setup) (
       (filter (is_of (Of dev)) items) (each_filter (IsPlaced scene.setup limit) (is_of (Of dev)) items placed)
 
   rescued : (m : Move) → Can scene s m → (dev : ℕ) → Each (IsOwn scene.setup dev dev) ((after scene s m).objects.rescue dev)
+  -- punts
   rescued (moves.Punts place x doing lists dev) c =
       let w = waiting_placed scene.setup g (limit_of x) doing dev WantsPunt lists c.3 (placed_at scene.setup s p place x doing lists c.1 c.2) in
       let own : Item Pad → Type 0 = IsOwn scene.setup dev.0 dev.0 in
       all_at (λ d bios. Each (IsOwn scene.setup d d) bios) s.objects.rescue dev.0 (s.objects.rescue dev.0 ++ punted (Of dev) lists) p.rescued
       (each_append own (s.objects.rescue dev.0) (punted (Of dev) lists) (p.rescued dev.0)
       (each_append own (filter (is_of (Of dev)) lists.list0) (filter (is_of (Of dev)) lists.list1) (own_of_set (limit_of x) dev lists.list0 w.0) (own_of_set (limit_of x) dev lists.list1 w.1)))
+  -- pops
   rescued (moves.Pops place dev bio bios) c =
       let r : Each (IsOwn scene.setup dev.0 dev.0) (bio ∷ bios) = subst (Each (IsOwn scene.setup dev.0 dev.0)) c.3 (p.rescued dev.0) in
       all_at (λ d bios. Each (IsOwn scene.setup d d) bios) s.objects.rescue dev.0 bios p.rescued r.1
+  -- all others: rescue lists stay as they are
   rescued (moves.TakesFirst place writer todo later move) c = p.rescued
   rescued (moves.TakesVector place writer todo later item move) c = p.rescued
   rescued (moves.TakesSub place x doing lists dev waits move) c = p.rescued

@@ -190,22 +190,30 @@ module _ (scene : Scene) (s : State) (g : Ground scene.setup) (r : AreRescued sc
   has place x doing lists is h = submission_waits scene.setup x doing lists (subst (TaskWaits scene.setup) is (i.tasks place)) h
 
   tasks : (m : Move) → Can scene s m → (j : ℕ) → TaskWaits scene.setup ((after scene s m).task j)
+  -- takes
   tasks (moves.TakesFirst place writer todo later move) c = goes place _ tt
   tasks (moves.TakesVector place writer todo later item move) c = goes place _ tt
   tasks (moves.TakesSub place x doing lists dev waits move) c = on_submission place x _ (links_wait scene.setup r doing dev (Takes waits) (clear_bio (scene.ledger (2 * dev.0))) lists c.3)
   tasks (moves.TakesSlip place x bio lists move) c = on_submission place x _ tt
+  -- misses
   tasks (moves.MissesOne place x number used) c = goes place x (subst (TaskWaits scene.setup) c.1 (i.tasks place))
   tasks (moves.MissesTry place x doing lists dev used) c = on_submission place x _ (punts_wait scene.setup r doing dev lists c.3 (has place x doing lists c.1 c.2))
+  -- punts
   tasks (moves.Punts place x doing lists dev) c = on_submission place x _ (punted_wait scene.setup (limit_of x) doing dev lists c.3 (placed_at scene.setup s p place x doing lists c.1 c.2))
+  -- pops, pushes and completions
   tasks (moves.Pops place dev bio bios) c = goes place _ (settled_waits scene.setup r (bio ∷ []))
   tasks (moves.Pushes place x bio lists) c = on_submission place x _ (settled_waits scene.setup r (order bio.bio.dev lists))
   tasks (moves.Completed place disk index bio status new) c = goes place _ tt
+  -- links of writes
   tasks (moves.Begins place writer todo later item vector key) c = goes place _ (settled_waits scene.setup r (filled_of writer todo item vector key ∷ []))
+  -- links of pieces
   tasks (moves.Chained place x bio lists hand number kind sizes members key node) c =
       on_submission place x _ (settled_waits scene.setup r (order bio.bio.dev (cut_lists bio lists hand (first_length kind sizes bio.bio.range) key kind sizes members)))
+  -- links of masters
   tasks (moves.Mastered place x bio lists slip key node) c =
       let d = placed_at scene.setup s p place x (Drives bio (ToMaster slip)) lists c.1 c.2 in
       on_submission place x _ (copies_wait scene.setup r lists bio.bio key 0 (λ is. waits_or_tries scene.setup bio.bio.dev lists d.0))
+  -- links of legs
   tasks (moves.Legged place x bio lists master leg hand key node) c =
       let d = placed_at scene.setup s p place x (Copies bio master leg (Links hand)) lists c.1 c.2 in
       let lt = submission_fits scene x (Copies bio master leg (Links hand)) lists (subst (TaskFits scene) c.1 (k.tasks place)) c.2 in
@@ -214,6 +222,7 @@ module _ (scene : Scene) (s : State) (g : Ground scene.setup) (r : AreRescued sc
       (λ is.
       let ne = eqb-false (leg + 1) (legs_of (tree_at scene.setup bio.dev)) is in
       tries scene.setup bio.dev (submitted item lists) (r bio d.0 (omega (arith, lt, ne))) (one_more lists.list0 item)))
+  -- drops, gives, ends of writes, resizes and rounds: by tasks without a submission
   tasks (moves.Told place disk carried writer key status part node) c = goes place _ tt
   tasks (moves.Closes place disk carried writer key status part node) c = goes place _ tt
   tasks (moves.Gives place disk writer number closed held) c = goes place _ tt
@@ -222,15 +231,18 @@ module _ (scene : Scene) (s : State) (g : Ground scene.setup) (r : AreRescued sc
   tasks (moves.Started place round later duties) c = goes place _ tt
 
   rescued : (m : Move) → Can scene s m → (dev : ℕ) → ((after scene s m).objects.rescue dev ≡ []) ⊎ (scene.setup.rescuer dev ≡ true)
+  -- punts
   rescued (moves.Punts place x doing lists dev) c =
       all_at (λ d (bios : List (Item Pad)). (bios ≡ []) ⊎ (scene.setup.rescuer d ≡ true)) s.objects.rescue dev.0 (s.objects.rescue dev.0 ++ punted (Of dev) lists) i.rescued
       (inr (punts_rescued scene.setup r doing dev lists c.3 (has place x doing lists c.1 c.2)))
+  -- pops
   rescued (moves.Pops place dev bio bios) c =
       all_at (λ d (bios : List (Item Pad)). (bios ≡ []) ⊎ (scene.setup.rescuer d ≡ true)) s.objects.rescue dev.0 bios i.rescued (by_old (i.rescued dev.0))
     where
       by_old : (s.objects.rescue dev.0 ≡ []) ⊎ (scene.setup.rescuer dev.0 ≡ true) → (bios ≡ []) ⊎ (scene.setup.rescuer dev.0 ≡ true)
       by_old (inl none) = let e : bio ∷ bios ≡ [] = sym c.3 ∙ none in absurd cc
       by_old (inr is) = inr is
+  -- all others: rescue lists stay as they are
   rescued (moves.TakesFirst place writer todo later move) c = i.rescued
   rescued (moves.TakesVector place writer todo later item move) c = i.rescued
   rescued (moves.TakesSub place x doing lists dev waits move) c = i.rescued
