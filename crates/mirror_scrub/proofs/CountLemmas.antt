@@ -5,10 +5,8 @@ use Rattle.std.proofs.lemmas.List.Sums.{sum_by_push, sum_by-append, sum_by-cons}
 use Rattle.image_lanes.specs.Lanes.{sectors, sectors_differ, unlike_of}
 use Rattle.image_lanes.proofs.SectorLemmas.{unlike_more}
 use Rattle.model_disks.specs.Runs.{flag, runs_from}
+use Rattle.model_disks.proofs.PageLemmas.{range_more}
 use Rattle.model_disks.proofs.WrittenLemmas.{no_runs, range_append}
-
-range_more : (n : ℕ) → range_with_len 0 (n + 1) ≡ range_with_len 0 n ++ n ∷ []
-range_more n = range_append 0 n 1 ∙ ap (λ (m : ℕ). range_with_len 0 n ++ m ∷ []) (omega arith)
 
 pub count_more : (f : ℕ → Bool) (n : ℕ) → count_by f (range_with_len 0 (n + 1)) ≡ count_by f (range_with_len 0 n) + cond (f n) 1 0
 count_more f n = ap (count_by f) (range_more n) ∙ sum_by_push (λ x. cond (f x) 1 0) (range_with_len 0 n) n
