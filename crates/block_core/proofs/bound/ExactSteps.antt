@@ -62,7 +62,7 @@ use Rattle.block_core.proofs.bound.Dues.{one_each, write_due, due, in_hand}
 use Rattle.block_core.proofs.bound.StillDue.{takes_one}
 use Rattle.block_core.proofs.bound.NoMisses.{NonePunts, TaskNoPunt, NoPunt, still_none, had}
 use Rattle.block_core.proofs.bound.KeeperEnds.{no_duties_left}
-use Rattle.layout_model.proofs.RangeSums.{sum_of_zero}
+use Rattle.layout_model.proofs.RangeSums.{sum_of_zero, sum_of_one}
 
 -- all that a state is known to have
 pub record Exactly (scene : Scene) (s : State) : Type 0 where
@@ -111,10 +111,6 @@ kinds [] = refl
 kinds (Starts round later ∷ ds) = omega (arith, kinds ds)
 kinds (Resizes pool min later ∷ ds) = omega (arith, kinds ds)
 
-ones : {X : Type 0} (xs : List X) → sum_by (λ x. 1) xs ≡ length xs
-ones [] = refl
-ones (x ∷ xs) = omega (arith, sum_by-cons (λ x. 1) x xs, ones xs)
-
 module _ (s : Scenario) (good : IsScenario s) (ledger : ℕ → LedgerId) where
   -- what a write is due, by what it needs
   abbrev write_parts : Write → ℕ
@@ -126,7 +122,7 @@ module _ (s : Scenario) (good : IsScenario s) (ledger : ℕ → LedgerId) where
       let known = is.known in
       let some = is.some in
       let a : sum_by one_each (todo_fragments (setup_in s) todo) ≡ length (frags t todo.number 0 todo.write.start todo.write.count) =
-      ones (todo_fragments (setup_in s) todo) ∙ ap (λ (fs : List Fragment). length fs) (leaves_plan t todo.number 0 todo.write.start todo.write.count) in
+      sum_of_one (todo_fragments (setup_in s) todo) ∙ ap (λ (fs : List Fragment). length fs) (leaves_plan t todo.number 0 todo.write.start todo.write.count) in
       let b = fragments_of_is_length t todo.number 0 todo.write.start todo.write.count (trees_are_sound s.stack todo.write.dev.0 good.stack known) (omega (arith, some)) in
       omega (arith, a, b)
 

@@ -20,6 +20,7 @@ use Rattle.block_core.proofs.moves.Moves.{HasSubmission, limit_of}
 use Rattle.block_core.proofs.moves.Sums.{same_or_not, one-same, one-other}
 use Rattle.block_core.specs.Roles.{named}
 use Rattle.block_core.proofs.unrefused.NodeNeeds.{legs_few}
+use Rattle.layout_model.proofs.RangeSums.{sum_of_zero}
 
 -- what stands at a place is a part of the sum
 pub part_of : {X : Type 0} (w : ℕ → X → ℕ) (n : ℕ) (f : ℕ → X) (i : ℕ) → i < n → w i (f i) ≤ sum_at w n f
@@ -141,17 +142,13 @@ module _ (u v x y : Weight) (le : IsWithin u v x y) where
 abbrev pub carrying : Weight
 carrying = record no_weight { closed = λ task writer closed. 1 }
 
-nothing_in : {X : Type 0} (xs : List X) → sum_by (λ x. 0) xs ≡ 0
-nothing_in [] = refl
-nothing_in (x ∷ xs) = omega (arith, sum_by-cons (λ x. 0) x xs, nothing_in xs)
-
 nothing_at : {X : Type 0} (w : ℕ → X → ℕ) (n : ℕ) (f : ℕ → X) → ((i : ℕ) (x : X) → w i x ≡ 0) → sum_at w n f ≡ 0
 unfolding sum_at
 nothing_at w zero f none = refl
 nothing_at w (suc n) f none = omega (arith, nothing_at w n f none, none n (f n))
 
 submission_carries : (limit : ℕ) (submission : Submission) → submission_weight carrying limit submission ≡ 0
-submission_carries limit submission = omega (arith, by_doing submission.doing, nothing_in submission.lists.list0, nothing_in submission.lists.list1)
+submission_carries limit submission = omega (arith, by_doing submission.doing, sum_of_zero submission.lists.list0, sum_of_zero submission.lists.list1)
   where
     by_want : (want : Want) → want_weight carrying want ≡ 0
     by_want (Takes waits) = refl
@@ -192,8 +189,8 @@ carried_few scene s =
     omega (
       arith,
       one_each (task_weight carrying) scene.tasks s.task task_carries,
-      nothing_at (λ dev bios. sum_by (carrying.bio Rescued) bios) scene.setup.count s.objects.rescue (λ dev bios. nothing_in bios),
-      nothing_at (λ dev (disk : DiskState). sum_by (carrying.bio Pending) disk.pending) scene.setup.count s.objects.disk (λ dev disk. nothing_in disk.pending),
+      nothing_at (λ dev bios. sum_by (carrying.bio Rescued) bios) scene.setup.count s.objects.rescue (λ dev bios. sum_of_zero bios),
+      nothing_at (λ dev (disk : DiskState). sum_by (carrying.bio Pending) disk.pending) scene.setup.count s.objects.disk (λ dev disk. sum_of_zero disk.pending),
       nothing_at (book_weight carrying) scene.books s.objects.book
           (λ writer book. nothing_at (λ place. weigh_option (carrying.node writer place)) (length book.nodes) (node_at book) (λ place node. by_node writer place node)),
     )

@@ -49,7 +49,7 @@ not_both v writer k key none = by_two (same_or_not v writer) (same_or_not k key)
 pub mark_still : {X : Type 0} (mark : ℕ → ℕ → X) (writer key : ℕ) (n : X) (v k : ℕ) → one v writer * one k key ≡ 0 → with_mark mark writer key n v k ≡ mark v k
 mark_still mark writer key n v k none = mark_other mark writer key n v k (not_both v writer k key none)
 
-no_factor : (x m : ℕ) → 1 ≤ m → x * m ≡ 0 → x ≡ 0
+pub no_factor : (x m : ℕ) → 1 ≤ m → x * m ≡ 0 → x ≡ 0
 no_factor zero m le h = refl
 no_factor (suc x) zero le h = absurd (omega (arith, le))
 no_factor (suc x) (suc m) le h = absurd (grind (arith, h))

@@ -1,7 +1,7 @@
 -- Each open node waits for as many ends as there are references to it.
 use Rattle.std.proofs.Common.{◌≡◌, ◌+◌, ◌-◌, ◌*◌, ◌<◌, ◌==◌, ℕ, Bool, true, false, List, [], ◌∷◌, Option, None, Some, refl, ap, subst, arith}
 use Rattle.std.specs.Prelude.{sum_by}
-use Rattle.std.proofs.lemmas.Bool.Decides.{nat_tests}
+use Rattle.std.proofs.lemmas.Bool.{eqb-true}
 use Rattle.std.proofs.lemmas.List.Sums.{sum_by-cons, sum_by_push}
 use Rattle.stack_base.specs.declared.ids.Status.{Status}
 use Rattle.stack_base.specs.Tree.{Tree, Leaf, Split, Mirrored}
@@ -49,15 +49,12 @@ tells_refs setup w k writer key status part (Carries of closed) t = rw (t.1, t.0
 tells_refs setup w k writer key status part Empty t = absurd t
 tells_refs setup w k writer key status part (Fails breach kept) t = absurd t
 
-same_number : (i j : ℕ) → (i == j) ≡ true → i ≡ j
-same_number i j is = grind (arith, nat_tests)
-
 -- behind the last leg none is left
 left_behind : (x leg legs : ℕ) → unless (leg == legs) (x * (legs - leg)) ≡ x * (legs - leg)
 left_behind x leg legs = by_test (leg == legs) refl
   where
     by_test : (v : Bool) → (leg == legs) ≡ v → unless v (x * (legs - leg)) ≡ x * (legs - leg)
-    by_test true is = let same : leg ≡ legs = same_number leg legs is in let none : legs - leg ≡ 0 = omega (arith, same) in omega (arith, ap (λ n. x * n) none)
+    by_test true is = let same : leg ≡ legs = eqb-true leg legs is in let none : legs - leg ≡ 0 = omega (arith, same) in omega (arith, ap (λ n. x * n) none)
     by_test false is = refl
 
 spread : (x y z n : ℕ) → x * (y * n + z * 0) ≡ x * y * (n - 0)
