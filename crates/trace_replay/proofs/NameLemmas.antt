@@ -8,6 +8,7 @@ use Rattle.std.specs.Map.{lookup}
 use Rattle.std.specs.Option.{unwrap_or}
 use Rattle.std.proofs.lemmas.Cmp.{ranked}
 use Rattle.std.proofs.lemmas.Bool.Decides.{nat_tests}
+use Rattle.std.proofs.lemmas.Bool.{eqb-true}
 use Rattle.run_machine.specs.Maps.{upd}
 use Rattle.trace_replay.specs.declared.names.Name.{Name}
 use Rattle.trace_replay.specs.KeptNames.{opened_by, name_cmp, place_in}
@@ -42,13 +43,10 @@ count_on old new w n is = λ k v.
     ∙ counted (is_at (nat_cmp w) v) n (lookup (is_at (nat_cmp v)) old)
     ∙ ap (λ b. cond b n (opened_by old v)) (same_number w v)) k
 
-number_is : (v w : ℕ) → (v == w) ≡ true → v ≡ w
-number_is v w is = grind (arith, nat_tests)
-
 picked : (old : ℕ → ℕ → Option ℕ) (w n v m : ℕ) (value : Option ℕ) (b : Bool) → (v == w) ≡ b
     → cond (b && (m == n)) value (old v m) ≡ (if b then upd (old w) n value else old v) m
 unfolding upd
-picked old w n v m value true is = ap (λ u. cond (m == n) value (old u m)) (number_is v w is)
+picked old w n v m value true is = ap (λ u. cond (m == n) value (old u m)) (eqb-true v w is)
 picked old w n v m value false is = refl
 
 -- one name

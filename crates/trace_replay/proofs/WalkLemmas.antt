@@ -4,7 +4,7 @@ use Rattle.std.specs.Prelude.{fold, slice_index_or, slice_set}
 use Rattle.std.specs.Global.{Vec}
 use Rattle.std.specs.Option.{unwrap_or}
 use Rattle.std.proofs.lemmas.Option.{none-some}
-use Rattle.std.proofs.lemmas.List.{append_assoc, append-nil, map-append, drop_all, take_all}
+use Rattle.std.proofs.lemmas.List.{append_assoc, append-nil, map-append, drop_all}
 use Rattle.stack_base.specs.declared.stack.Device.{Device}
 use Rattle.trace_replay.specs.Lines.{is_told, told_lines}
 use Rattle.trace_replay.proofs.LineLemmas.{passed_over, told_here}
@@ -228,13 +228,6 @@ replays stack told old new count bad finish extents is ends = record {
   finish = subst (λ (scene : Scene). IsFinish scene (state_of_core new) finish) is.come.scene_is ends;
   extents = is.come.extents_are;
 }
-
--- a list that was lent as a whole comes back as a whole
-pub kept_whole : {X : Type 0} (old new : List X) (len : ℕ) → len ≡ length old → length new ≡ length old → take len (new ++ drop (length new) old) ≡ new
-kept_whole old new len all same =
-    ap (λ (xs : List _). take len (new ++ xs)) (drop_all (length new) old (omega (arith, same)))
-    ∙ ap (take len) (append-nil new)
-    ∙ take_all len new (omega (arith, all, same))
 
 -- extents are of the pools of a report
 own_pools : (states : List State) (pools : List PoolId) → map (λ (e : Extent). e.pool) (map (extent_over states) pools) ≡ pools

@@ -1,5 +1,5 @@
 -- Another place for a node that is to be opened: nothing names a vacant place, so all stays alike.
-use Rattle.std.proofs.Common.{◌≡◌, ◌*◌, ◌≤◌, ℕ, zero, suc, List, [], ◌∷◌, Option, None, Some, refl, sym, ◌∙◌, ap, arith}
+use Rattle.std.proofs.Common.{◌≡◌, ◌*◌, ◌≤◌, ℕ, List, [], ◌∷◌, Option, None, Some, refl, sym, ◌∙◌, ap, arith}
 use Rattle.std.specs.Prelude.{map, sum_by}
 use Rattle.std.specs.Option.{option_map}
 use Rattle.std.proofs.lemmas.List.Sums.{sum_by-cons}
@@ -15,7 +15,7 @@ use Rattle.run_machine.specs.Submissions.{Doing, Rests, Drives, Copies, Breaks, 
 use Rattle.run_machine.specs.Tasks.{Carried, Empty, Brings, Carries, Fails, TaskState, Writer, Rescuer, Completer, Keeper}
 use Rattle.run_machine.specs.Runs.{State}
 use Rattle.block_core.specs.Weights.{Weight, Rescued, Pending, total, one, names_node as refers, under, refs, legs_left, doing_weight, submission_weight, carried_weight, task_weight}
-use Rattle.block_core.proofs.moves.VacantMarks.{with_mark, mark_still, mark_other, no_ref, elsewhere}
+use Rattle.block_core.proofs.moves.VacantMarks.{with_mark, mark_still, mark_other, no_ref, elsewhere, no_factor}
 use Rattle.block_core.proofs.moves.Totals.{part_of}
 use Rattle.block_core.proofs.stuck.Idle.{node_part}
 use Rattle.block_core.proofs.sound.Facts.{Kept}
@@ -26,11 +26,6 @@ use Rattle.trace_replay.proofs.renaming.Books.{BookAlike}
 use Rattle.trace_replay.proofs.renaming.Stepping.{StatesAlike, has_leg}
 
 -- a product that is nothing, of which one part is something
-none_of : (x m : ℕ) → 1 ≤ m → x * m ≡ 0 → x ≡ 0
-none_of zero m some none = refl
-none_of (suc x) zero some none = absurd (omega (arith, some))
-none_of (suc x) (suc m) some none = absurd (grind (arith, none))
-
 module _ (setup : Setup) (to : Places) (writer key place : ℕ) where
   abbrev new : Places
   new = with_mark to writer key place
@@ -55,7 +50,7 @@ module _ (setup : Setup) (to : Places) (writer key place : ℕ) where
   doing_still limit gone (Copies bio master leg want) has none =
       let left : 1 ≤ legs_left setup bio leg = omega (arith, has) in
       let part : one bio.writer writer * one master key * legs_left setup bio leg ≡ 0 = omega (arith, none) in
-      ap (λ m. Copies (record bio { node = gone }) m leg (want_to want)) (still bio.writer master (none_of (one bio.writer writer * one master key) (legs_left setup bio leg) left part))
+      ap (λ m. Copies (record bio { node = gone }) m leg (want_to want)) (still bio.writer master (no_factor (one bio.writer writer * one master key) (legs_left setup bio leg) left part))
 
   submission_still : (limit gone : ℕ) (submission : Submission) → HasLeg setup submission.doing → submission_weight (refs setup writer key) limit submission ≡ 0 → submission_to new gone submission ≡ submission_to to gone submission
   submission_still limit gone submission has none =

@@ -25,6 +25,7 @@ use Rattle.run_machine.specs.Objects.{Objects, Serves}
 use Rattle.run_machine.specs.Events.{what_of}
 use Rattle.trace_replay.proofs.renaming.Renaming.{Places, item_to, hand_to, want_to, taken_to, lists_to, doing_to, submission_to, closed_to, carried_to, task_to, writer_in, reply_to}
 use Rattle.trace_replay.proofs.renaming.Lists.{settled_to, goes_to, copies_to, submitted_to, unpunted_to}
+use Rattle.block_core.proofs.sound.Sayings.{none_told}
 
 -- the bio that a mirror copies has a leg left to make
 abbrev pub HasLeg : Setup → Doing → Type 0
@@ -40,9 +41,6 @@ TaskHasLeg setup (Completer disk carried) = Unit {0}
 TaskHasLeg setup (Keeper keeping) = Unit {0}
 
 -- nothing is told of this
-untold : {A : Type 0} (event : What) → None ≡ Some event → A
-untold event is = absurd cc
-
 module _ (setup : Setup) (to : Places) (gone fresh : ℕ) (ledger : ℕ → LedgerId) (old new : Objects) (event : What) where
   -- so it goes on, whatever the bio names that it has no use for
   abbrev SubmissionGoes : Doing → TaskLists → ℕ → Reply → Type 0
@@ -88,16 +86,16 @@ module _ (setup : Setup) (to : Places) (gone fresh : ℕ) (ledger : ℕ → Ledg
       (gone, ap (λ l. record { doing = Drives (item_to to bio) (ToCut (Takes true)); lists = l }) (unpunted_to to bio.bio.dev lists))
   submission_goes (Drives bio (ToCut WantsPunt)) lists _ has is = absurd is.0
   submission_goes (Drives bio (ToCut (Links hand))) lists (LinkedTo (Made node)) has is = (gone, cut_to lists bio hand node (tree_at setup bio.bio.dev))
-  submission_goes (Drives bio (ToCut (Links hand))) lists (LinkedTo (NoRoom back)) has is = untold event is.1
-  submission_goes (Drives bio (ToCut (Links hand))) lists (LinkedTo (Stray back)) has is = untold event is.1
+  submission_goes (Drives bio (ToCut (Links hand))) lists (LinkedTo (NoRoom back)) has is = none_told event is.1
+  submission_goes (Drives bio (ToCut (Links hand))) lists (LinkedTo (Stray back)) has is = none_told event is.1
   submission_goes (Drives bio (ToCut (Links hand))) lists _ has is = absurd is.0
   submission_goes (Drives bio ToRecord) lists (HadSlip got slip) has is = (gone, refl)
   submission_goes (Drives bio ToRecord) lists (Missed used) has is = (gone, refl)
   submission_goes (Drives bio ToRecord) lists _ has is = absurd is.0
   submission_goes (Drives bio (ToMaster slip)) lists (LinkedTo (Made node)) has is =
       (to bio.bio.writer bio.bio.node, copies_to to setup (to bio.bio.writer bio.bio.node) lists bio.bio node 0)
-  submission_goes (Drives bio (ToMaster slip)) lists (LinkedTo (NoRoom back)) has is = untold event is.1
-  submission_goes (Drives bio (ToMaster slip)) lists (LinkedTo (Stray back)) has is = untold event is.1
+  submission_goes (Drives bio (ToMaster slip)) lists (LinkedTo (NoRoom back)) has is = none_told event is.1
+  submission_goes (Drives bio (ToMaster slip)) lists (LinkedTo (Stray back)) has is = none_told event is.1
   submission_goes (Drives bio (ToMaster slip)) lists _ has is = absurd is.0
   submission_goes (Copies bio master leg (Takes waits)) lists (HadBio got hand) has is = (gone, refl)
   submission_goes (Copies bio master leg (Takes waits)) lists (Missed used) has is =
@@ -113,8 +111,8 @@ module _ (setup : Setup) (to : Places) (gone fresh : ℕ) (ledger : ℕ → Ledg
             ∙ ap (λ l. copies setup l (record bio { node = gone }) (to bio.writer master) (leg + 1)) (submitted_to to item lists)
             ∙ copies_to to setup gone (submitted item lists) bio master (leg + 1),
       )
-  submission_goes (Copies bio master leg (Links hand)) lists (LinkedTo (NoRoom back)) has is = untold event is.1
-  submission_goes (Copies bio master leg (Links hand)) lists (LinkedTo (Stray back)) has is = untold event is.1
+  submission_goes (Copies bio master leg (Links hand)) lists (LinkedTo (NoRoom back)) has is = none_told event is.1
+  submission_goes (Copies bio master leg (Links hand)) lists (LinkedTo (Stray back)) has is = none_told event is.1
   submission_goes (Copies bio master leg (Links hand)) lists _ has is = absurd is.0
 
   -- a task
@@ -128,8 +126,8 @@ module _ (setup : Setup) (to : Places) (gone fresh : ℕ) (ledger : ℕ → Ledg
   bio_goes writer todo later bio lists true _ is = absurd is.0
   bio_goes writer todo later bio lists false (LinkedTo (Made node)) is =
       (gone, ap (λ l. Writer writer later NoBio l) (settled_to to setup gone (filled_short writer todo node bio ∷ [])))
-  bio_goes writer todo later bio lists false (LinkedTo (NoRoom back)) is = untold event is.1
-  bio_goes writer todo later bio lists false (LinkedTo (Stray back)) is = untold event is.1
+  bio_goes writer todo later bio lists false (LinkedTo (NoRoom back)) is = none_told event is.1
+  bio_goes writer todo later bio lists false (LinkedTo (Stray back)) is = none_told event is.1
   bio_goes writer todo later bio lists false _ is = absurd is.0
 
   write_goes : (writer : ℕ) (todo : List Todo) (taken : Gathered) (lists : TaskLists) (reply : Reply) → Serving (write_request writer todo taken) reply
@@ -141,8 +139,8 @@ module _ (setup : Setup) (to : Places) (gone fresh : ℕ) (ledger : ℕ → Ledg
   write_goes writer (todo ∷ later) (HasBio bio) lists reply is = bio_goes writer todo later bio lists (needs_vector todo.write) reply is
   write_goes writer (todo ∷ later) (HasBoth bio vector) lists (LinkedTo (Made node)) is =
       (gone, ap (λ l. Writer writer later NoBio l) (settled_to to setup gone (filled writer todo node bio ∷ [])))
-  write_goes writer (todo ∷ later) (HasBoth bio vector) lists (LinkedTo (NoRoom back)) is = untold event is.1
-  write_goes writer (todo ∷ later) (HasBoth bio vector) lists (LinkedTo (Stray back)) is = untold event is.1
+  write_goes writer (todo ∷ later) (HasBoth bio vector) lists (LinkedTo (NoRoom back)) is = none_told event is.1
+  write_goes writer (todo ∷ later) (HasBoth bio vector) lists (LinkedTo (Stray back)) is = none_told event is.1
   write_goes writer (todo ∷ later) (HasBoth bio vector) lists _ is = absurd is.0
 
   writer_goes : (writer : ℕ) (todo : List Todo) (taken : Gathered) (doing : Doing) (lists : TaskLists) (reply : Reply) → HasLeg setup doing
@@ -159,7 +157,7 @@ module _ (setup : Setup) (to : Places) (gone fresh : ℕ) (ledger : ℕ → Ledg
       → Serving (rescuer_request setup dev doing (record { doing = doing; lists = lists })) reply
       → Goes (Rescuer dev (record { doing = doing; lists = lists })) (writer_in (rescuer_request setup dev doing (record { doing = doing; lists = lists }))) reply
   rescuer_goes dev Rests lists (Popped bio) has is = (gone, ap (Rescuer dev) (settled_to to setup gone (bio ∷ [])))
-  rescuer_goes dev Rests lists Nothing has is = untold event is.1
+  rescuer_goes dev Rests lists Nothing has is = none_told event is.1
   rescuer_goes dev Rests lists _ has is = absurd is.0
   rescuer_goes dev (Drives bio ask) lists reply has is = let submission = submission_goes (Drives bio ask) lists reply has is in (submission.0, ap (Rescuer dev) submission.1)
   rescuer_goes dev (Copies bio master leg want) lists reply has is =
@@ -178,7 +176,7 @@ module _ (setup : Setup) (to : Places) (gone fresh : ℕ) (ledger : ℕ → Ledg
       (fresh, other (end.Up (closed_to (to writer) fresh closed)) ∙ ap (carried_to to fresh) (sym (one (end.Up closed))))
   told_goes carried writer node status part (end.Top closed) is one other =
       (fresh, other (end.Top (closed_to (to writer) fresh closed)) ∙ ap (carried_to to fresh) (sym (one (end.Top closed))))
-  told_goes carried writer node status part (end.Stray back) is one other = untold event is
+  told_goes carried writer node status part (end.Stray back) is one other = none_told event is
 
   closed_goes : (disk : DevId) (writer : ℕ) (vector : Option VectorItem) (bio : Option (Item Pad)) (slip : Option SlipItem) (parent : Option ℕ) (write : ℕ) (status : Status) (reply : Reply)
       → Serving (closed_request writer (record { held = record { bio = bio; vector = vector; slip = slip }; parent = parent; write = write; status = status }) vector bio slip parent) reply
@@ -199,7 +197,7 @@ module _ (setup : Setup) (to : Places) (gone fresh : ℕ) (ledger : ℕ → Ledg
 
   carried_goes : (disk : DevId) (carried : Carried) (reply : Reply) → Serving (carried_request disk carried) reply → CarriedGoes carried (writer_in (carried_request disk carried)) reply
   carried_goes disk Empty (Completed index bio status) is = (gone, refl)
-  carried_goes disk Empty Nothing is = untold event is.1
+  carried_goes disk Empty Nothing is = none_told event is.1
   carried_goes disk Empty _ is = absurd is.0
   carried_goes disk (Brings bio status) (DroppedTo ended) is =
       told_goes (Brings bio status) bio.bio.writer bio.bio.node status (Some bio) ended is.1 (λ e. refl) (λ e. refl)

@@ -12,9 +12,10 @@ use Rattle.trace_replay.specs.Names.{Names, no_names}
 use Rattle.trace_replay.specs.KeptNames.{names_in_entries}
 use Rattle.trace_replay.specs.Walks.{AppliesLine, HasCome}
 use Rattle.trace_replay.proofs.LineLemmas.{told_here}
-use Rattle.trace_replay.proofs.WalkLemmas.{comes, kept_whole, comes_to_bad, comes_to_end, applied_on, passed_on, told_none}
+use Rattle.trace_replay.proofs.WalkLemmas.{comes, comes_to_bad, comes_to_end, applied_on, passed_on, told_none}
 use Rattle.trace_replay.proofs.walk.follow.Goals.{then-is_told+in_ok-apply_line+else-not-branch, else-is_told}
 use Rattle.trace_replay.proofs.walk.follow.Goals as goal
+use Rattle.model_disks.proofs.GrownLemmas.{kept_whole}
 
 pub loop-line-init : goal.loop-line-init
 loop-line-init c =
