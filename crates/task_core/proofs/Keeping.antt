@@ -1,7 +1,6 @@
 -- What a call makes of the objects of a stage are objects of this stage, and what it hands out is at home.
 use Rattle.std.proofs.Common.{◌≡◌, ◌+◌, ◌-◌, ◌*◌, ◌/◌, ◌%◌, ◌<◌, ◌≤◌, ◌==◌, ◌&&◌, ◌||◌, if◌then◌else◌, ℕ, Bool, true, false, List, length, take, drop, sum, set, get_or, Some, refl, sym, ap, subst, ◌∙◌, arith, suc}
 use Rattle.std.specs.Prelude.{IsTrue, slice_get}
-use Rattle.std.proofs.lemmas.Bool.Decides.{nat_tests}
 use Rattle.std.proofs.lemmas.Grind.{common_steps}
 use Rattle.std.proofs.lemmas.List.{length-set}
 use Rattle.std.proofs.lemmas.List.Elements.{All-append, All-drop, All-head, All-push, All-rest, All-take}
@@ -38,17 +37,15 @@ use Rattle.task_steps.specs.Stage.{Stage, has_mirror, is_set, is_bios, is_vecs, 
 use Rattle.task_core.specs.ObjectsOf.{IsDiskOf, IsBookOf, IsTallyOf, AreObjectsOf, AreNumbered}
 use Rattle.run_machine.proofs.Frames.{upd_same, upd_other}
 pub use Rattle.task_core.proofs.NumberTests.{apart_by}
+use Rattle.task_core.proofs.NumberTests.{same_by}
 use Rattle.task_core.proofs.StageBooks.{node_is, links_is, drops_is}
-
-same_by : (a b : ℕ) → (a == b) ≡ true → b ≡ a
-same_by a b e = grind (arith, nat_tests)
 
 -- what holds at each number holds so with one changed
 upd_keeps : {X : Type 0} (P : ℕ → X → Type 0) (f : ℕ → X) (i : ℕ) (x : X) → ((j : ℕ) → P j (f j)) → P i x → (j : ℕ) → P j (upd f i x j)
 upd_keeps P f i x all is j = by_case (j == i) refl
   where
     by_case : (b : Bool) → (j == i) ≡ b → P j (upd f i x j)
-    by_case true q = subst (λ k. P k (upd f i x k)) (same_by j i q) (subst (P i) (sym (upd_same f i x)) is)
+    by_case true q = subst (λ k. P k (upd f i x k)) (sym (same_by j i q)) (subst (P i) (sym (upd_same f i x)) is)
     by_case false q = subst (P j) (sym (upd_other f i x j (apart_by j i q))) (all j)
 
 -- the numbers of pools by their kinds

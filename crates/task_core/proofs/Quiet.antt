@@ -1,6 +1,7 @@
 -- Over objects of one thread: where a step met nothing, the task and its objects stand as they stood, and only an ordinary take could come.
 use Rattle.std.proofs.Common.{◌≡◌, ℕ, Bool, true, false, None, Some, inl, inr, refl, sym, ◌∙◌, subst, arith, true≢false}
 use Rattle.std.specs.Prelude.{IsTrue}
+use Rattle.std.proofs.lemmas.Option.{none-some}
 use Rattle.elem_ledger.specs.Ledger.{LedgerId}
 use Rattle.stack_base.specs.PoolId.{pool_number}
 use Rattle.stack_base.specs.declared.ids.PoolId.TheVariants.{FsVecs, Records}
@@ -21,59 +22,55 @@ use Rattle.task_steps.specs.Turns.{silent_step}
 use Rattle.run_machine.proofs.Blocked.{empty_waits, idle_waits}
 use Rattle.run_machine.proofs.Idle.{IsFair, IsIdle, same_pool}
 
--- what is told is something
-some_is_none : {A : Type 0} (x : A) → Some x ≡ None → ⊥
-some_is_none x e = cc
-
 module _ (ledger : ℕ → LedgerId) (setup : Setup) (some old new : Objects) where
   -- a reply that is not told of, where the task does not break off, found nothing
   pub quiet : (request : Request) (reply : Reply) → IsFair some request → Serves ledger old request reply new → what_of request reply ≡ None → IsStill (silent_step setup request reply)
       → IsIdle request reply × (new ≡ old)
-  quiet (requests.TakeBio set true) (requests.HadBio got bio) fair serves untold still = absurd (some_is_none _ untold)
-  quiet (requests.TakeBio set true) (requests.Missed true) fair serves untold still = absurd (some_is_none _ untold)
+  quiet (requests.TakeBio set true) (requests.HadBio got bio) fair serves untold still = absurd (none-some _ (sym untold))
+  quiet (requests.TakeBio set true) (requests.Missed true) fair serves untold still = absurd (none-some _ (sym untold))
   quiet (requests.TakeBio set true) (requests.Missed false) fair serves untold still = (tt, same_pool old new (pool_number (bios_of set)) serves.0.1 serves.1)
   quiet (requests.TakeBio set true) _ fair serves untold still = absurd serves
-  quiet (requests.TakeBio set false) (requests.HadBio got bio) fair serves untold still = absurd (some_is_none _ untold)
-  quiet (requests.TakeBio set false) (requests.Missed used) fair serves untold still = absurd (some_is_none _ untold)
+  quiet (requests.TakeBio set false) (requests.HadBio got bio) fair serves untold still = absurd (none-some _ (sym untold))
+  quiet (requests.TakeBio set false) (requests.Missed used) fair serves untold still = absurd (none-some _ (sym untold))
   quiet (requests.TakeBio set false) _ fair serves untold still = absurd serves
-  quiet requests.TakeVec (requests.HadVec got vector) fair serves untold still = absurd (some_is_none _ untold)
-  quiet requests.TakeVec (requests.Missed true) fair serves untold still = absurd (some_is_none _ untold)
+  quiet requests.TakeVec (requests.HadVec got vector) fair serves untold still = absurd (none-some _ (sym untold))
+  quiet requests.TakeVec (requests.Missed true) fair serves untold still = absurd (none-some _ (sym untold))
   quiet requests.TakeVec (requests.Missed false) fair serves untold still = (tt, same_pool old new (pool_number FsVecs) serves.0.1 serves.1)
   quiet requests.TakeVec _ fair serves untold still = absurd serves
-  quiet (requests.TakeSlip dev) (requests.HadSlip got slip) fair serves untold still = absurd (some_is_none _ untold)
-  quiet (requests.TakeSlip dev) (requests.Missed true) fair serves untold still = absurd (some_is_none _ untold)
+  quiet (requests.TakeSlip dev) (requests.HadSlip got slip) fair serves untold still = absurd (none-some _ (sym untold))
+  quiet (requests.TakeSlip dev) (requests.Missed true) fair serves untold still = absurd (none-some _ (sym untold))
   quiet (requests.TakeSlip dev) (requests.Missed false) fair serves untold still = (tt, same_pool old new (pool_number (Records dev)) serves.0.1 serves.1)
   quiet (requests.TakeSlip dev) _ fair serves untold still = absurd serves
-  quiet (requests.GiveBio bio) requests.Did fair serves untold still = absurd (some_is_none _ untold)
+  quiet (requests.GiveBio bio) requests.Did fair serves untold still = absurd (none-some _ (sym untold))
   quiet (requests.GiveBio bio) _ fair serves untold still = absurd serves
-  quiet (requests.GiveVec vector) requests.Did fair serves untold still = absurd (some_is_none _ untold)
+  quiet (requests.GiveVec vector) requests.Did fair serves untold still = absurd (none-some _ (sym untold))
   quiet (requests.GiveVec vector) _ fair serves untold still = absurd serves
-  quiet (requests.GiveSlip slip) requests.Did fair serves untold still = absurd (some_is_none _ untold)
+  quiet (requests.GiveSlip slip) requests.Did fair serves untold still = absurd (none-some _ (sym untold))
   quiet (requests.GiveSlip slip) _ fair serves untold still = absurd serves
-  quiet (requests.Punt dev moved) requests.Did fair serves untold still = absurd (some_is_none _ untold)
+  quiet (requests.Punt dev moved) requests.Did fair serves untold still = absurd (none-some _ (sym untold))
   quiet (requests.Punt dev moved) _ fair serves untold still = absurd serves
-  quiet (requests.Pop dev) (requests.Popped bio) fair serves untold still = absurd (some_is_none _ untold)
+  quiet (requests.Pop dev) (requests.Popped bio) fair serves untold still = absurd (none-some _ (sym untold))
   quiet (requests.Pop dev) requests.Nothing fair serves untold still = (tt, serves.1)
   quiet (requests.Pop dev) _ fair serves untold still = absurd serves
-  quiet (requests.Push bio) requests.Did fair serves untold still = absurd (some_is_none _ untold)
+  quiet (requests.Push bio) requests.Did fair serves untold still = absurd (none-some _ (sym untold))
   quiet (requests.Push bio) _ fair serves untold still = absurd serves
-  quiet (requests.Complete disk) (requests.Completed index bio status) fair serves untold still = absurd (some_is_none _ untold)
+  quiet (requests.Complete disk) (requests.Completed index bio status) fair serves untold still = absurd (none-some _ (sym untold))
   quiet (requests.Complete disk) requests.Nothing fair serves untold still = (tt, serves.1)
   quiet (requests.Complete disk) _ fair serves untold still = absurd serves
-  quiet (requests.Link writer opening) (requests.LinkedTo (Made place)) fair serves untold still = absurd (some_is_none _ untold)
+  quiet (requests.Link writer opening) (requests.LinkedTo (Made place)) fair serves untold still = absurd (none-some _ (sym untold))
   quiet (requests.Link writer opening) (requests.LinkedTo (NoRoom back)) fair serves untold still = absurd still
   quiet (requests.Link writer opening) (requests.LinkedTo (Stray back)) fair serves untold still = absurd still
   quiet (requests.Link writer opening) _ fair serves untold still = absurd serves
-  quiet (requests.Drop writer node status part) (requests.DroppedTo end.Left) fair serves untold still = absurd (some_is_none _ untold)
-  quiet (requests.Drop writer node status part) (requests.DroppedTo (end.Up closed)) fair serves untold still = absurd (some_is_none _ untold)
-  quiet (requests.Drop writer node status part) (requests.DroppedTo (end.Top closed)) fair serves untold still = absurd (some_is_none _ untold)
+  quiet (requests.Drop writer node status part) (requests.DroppedTo end.Left) fair serves untold still = absurd (none-some _ (sym untold))
+  quiet (requests.Drop writer node status part) (requests.DroppedTo (end.Up closed)) fair serves untold still = absurd (none-some _ (sym untold))
+  quiet (requests.Drop writer node status part) (requests.DroppedTo (end.Top closed)) fair serves untold still = absurd (none-some _ (sym untold))
   quiet (requests.Drop writer node status part) (requests.DroppedTo (end.Stray back)) fair serves untold still = absurd still
   quiet (requests.Drop writer node status part) _ fair serves untold still = absurd serves
-  quiet (requests.Done write status) requests.Did fair serves untold still = absurd (some_is_none _ untold)
+  quiet (requests.Done write status) requests.Did fair serves untold still = absurd (none-some _ (sym untold))
   quiet (requests.Done write status) _ fair serves untold still = absurd serves
   quiet (requests.Resize pool min) (requests.OutIs out) fair serves untold still = absurd still
   quiet (requests.Resize pool min) _ fair serves untold still = absurd serves
-  quiet (requests.NextRound round) requests.Did fair serves untold still = absurd (some_is_none _ untold)
+  quiet (requests.NextRound round) requests.Did fair serves untold still = absurd (none-some _ (sym untold))
   quiet (requests.NextRound round) _ fair serves untold still = absurd serves
   quiet requests.LookRound reply fair serves untold still = absurd fair
   quiet requests.LookLeft reply fair serves untold still = absurd fair
@@ -94,7 +91,7 @@ module _ (ledger : ℕ → LedgerId) (old new other : Objects) where
   -- then whatever is told there is a take of ordinary memory
   pub passed : (request : Request) (reply second : Reply) (told : What) → IsIdle request reply → what_of request reply ≡ None
       → Serves ledger old request reply new → Serves ledger old request second other → what_of request second ≡ Some told → IsTrue (is_ordinary told)
-  passed (requests.TakeBio set true) (requests.Missed true) second told idle untold serves again tells = absurd (some_is_none _ untold)
+  passed (requests.TakeBio set true) (requests.Missed true) second told idle untold serves again tells = absurd (none-some _ (sym untold))
   passed (requests.TakeBio set true) (requests.Missed false) (requests.HadBio Ordinary bio) told idle untold serves again tells =
       subst (λ w. IsTrue (is_ordinary w)) (is_told _ _ tells) refl
   passed (requests.TakeBio set true) (requests.Missed false) (requests.HadBio Spare bio) told idle untold serves again tells =
@@ -102,12 +99,12 @@ module _ (ledger : ℕ → LedgerId) (old new other : Objects) where
   passed (requests.TakeBio set true) (requests.Missed false) (requests.HadBio got.Missed bio) told idle untold serves again tells = absurd again.0
   passed (requests.TakeBio set true) (requests.Missed false) (requests.Missed true) told idle untold serves again tells =
       absurd (same_miss (old.pool (pool_number (bios_of set))) serves.0 again.0)
-  passed (requests.TakeBio set true) (requests.Missed false) (requests.Missed false) told idle untold serves again tells = absurd (some_is_none _ (sym tells))
+  passed (requests.TakeBio set true) (requests.Missed false) (requests.Missed false) told idle untold serves again tells = absurd (none-some _ tells)
   passed (requests.TakeBio set true) (requests.Missed false) _ told idle untold serves again tells = absurd again
   passed (requests.TakeBio set true) _ second told idle untold serves again tells = absurd idle
   passed (requests.TakeBio set false) (requests.Missed used) second told idle untold serves again tells = absurd idle
   passed (requests.TakeBio set false) _ second told idle untold serves again tells = absurd idle
-  passed requests.TakeVec (requests.Missed true) second told idle untold serves again tells = absurd (some_is_none _ untold)
+  passed requests.TakeVec (requests.Missed true) second told idle untold serves again tells = absurd (none-some _ (sym untold))
   passed requests.TakeVec (requests.Missed false) (requests.HadVec Ordinary vector) told idle untold serves again tells =
       subst (λ w. IsTrue (is_ordinary w)) (is_told _ _ tells) refl
   passed requests.TakeVec (requests.Missed false) (requests.HadVec Spare vector) told idle untold serves again tells =
@@ -115,10 +112,10 @@ module _ (ledger : ℕ → LedgerId) (old new other : Objects) where
   passed requests.TakeVec (requests.Missed false) (requests.HadVec got.Missed vector) told idle untold serves again tells = absurd again.0
   passed requests.TakeVec (requests.Missed false) (requests.Missed true) told idle untold serves again tells =
       absurd (same_miss (old.pool (pool_number FsVecs)) serves.0 again.0)
-  passed requests.TakeVec (requests.Missed false) (requests.Missed false) told idle untold serves again tells = absurd (some_is_none _ (sym tells))
+  passed requests.TakeVec (requests.Missed false) (requests.Missed false) told idle untold serves again tells = absurd (none-some _ tells)
   passed requests.TakeVec (requests.Missed false) _ told idle untold serves again tells = absurd again
   passed requests.TakeVec _ second told idle untold serves again tells = absurd idle
-  passed (requests.TakeSlip dev) (requests.Missed true) second told idle untold serves again tells = absurd (some_is_none _ untold)
+  passed (requests.TakeSlip dev) (requests.Missed true) second told idle untold serves again tells = absurd (none-some _ (sym untold))
   passed (requests.TakeSlip dev) (requests.Missed false) (requests.HadSlip Ordinary slip) told idle untold serves again tells =
       subst (λ w. IsTrue (is_ordinary w)) (is_told _ _ tells) refl
   passed (requests.TakeSlip dev) (requests.Missed false) (requests.HadSlip Spare slip) told idle untold serves again tells =
@@ -126,7 +123,7 @@ module _ (ledger : ℕ → LedgerId) (old new other : Objects) where
   passed (requests.TakeSlip dev) (requests.Missed false) (requests.HadSlip got.Missed slip) told idle untold serves again tells = absurd again.0
   passed (requests.TakeSlip dev) (requests.Missed false) (requests.Missed true) told idle untold serves again tells =
       absurd (same_miss (old.pool (pool_number (Records dev))) serves.0 again.0)
-  passed (requests.TakeSlip dev) (requests.Missed false) (requests.Missed false) told idle untold serves again tells = absurd (some_is_none _ (sym tells))
+  passed (requests.TakeSlip dev) (requests.Missed false) (requests.Missed false) told idle untold serves again tells = absurd (none-some _ tells)
   passed (requests.TakeSlip dev) (requests.Missed false) _ told idle untold serves again tells = absurd again
   passed (requests.TakeSlip dev) _ second told idle untold serves again tells = absurd idle
   passed (requests.Pop dev) requests.Nothing second told idle untold serves again tells = absurd (empty_waits ledger old dev serves.0 second other told again tells)

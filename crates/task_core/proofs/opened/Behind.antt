@@ -1,10 +1,11 @@
 -- What a text means of which no line is refused is as its opening asks for it.
-use Rattle.std.proofs.Common.{◌≡◌, inl, inr, ◌^◌, ◌<◌, ◌≤◌, ◌&&◌, not, ℕ, suc, Bool, true, false, true≢false, List, [], ◌∷◌, length, Option, None, Some, refl, sym, ap, subst, ◌∙◌, arith}
+use Rattle.std.proofs.Common.{◌≡◌, inl, inr, ◌^◌, ◌<◌, ◌≤◌, not, ℕ, suc, Bool, true, false, List, [], ◌∷◌, length, Option, None, Some, refl, sym, ap, subst, ◌∙◌, arith}
 use Rattle.std.specs.Prelude.{All, Contains, nat_lt, slice_get, sum_by}
 use Rattle.std.specs.Option.{option_map_or}
 use Rattle.std.proofs.lemmas.List.Elements.{All-contains_itself, All-map, All-nil, All-weaker}
 use Rattle.std.proofs.lemmas.List.Sums.{sum_by-cons}
 use Rattle.std.proofs.lemmas.Option.{slice_get_cases, slice_get_within}
+use Rattle.std.proofs.lemmas.Bool.{not-true}
 use Rattle.stack_base.specs.declared.ids.PoolId.{PoolId}
 use Rattle.stack_base.specs.declared.ids.PoolId.TheVariants.{Bios, Records}
 use Rattle.stack_base.specs.declared.stack.Device.{Device}
@@ -31,21 +32,13 @@ use Rattle.run_machine.specs.Opened.{at, records_of as records_at, reserve_of}
 use Rattle.task_core.specs.opened.Openings.{uses_set, uses_slips}
 use Rattle.task_steps.specs.Routed.{Routing, copies_bios, keeps, routing_setup}
 use Rattle.run_machine.specs.Scene.{has_set, is_mirror, keeps_data}
-use Rattle.task_core.proofs.NumberTests.{clash, is_below, below_by}
+use Rattle.task_core.proofs.NumberTests.{clash, is_below, below_by, and_parts}
 use Rattle.task_core.proofs.opened.Sharing.{few_rounds}
 use Rattle.task_core.proofs.opened.PoolsBehind.{bios_kept, slips_kept, disks_keep_none, others_have_none, data_by, mirror_by, bads_by, number_small}
 pub use Rattle.task_core.proofs.opened.PoolsBehind.{of_stack}
 pub use Rattle.task_core.proofs.opened.ScriptsBehind.{scripts_alone, scripts_of_stack}
 
 -- reserves
-and_parts : (a b : Bool) → (a && b) ≡ true → (a ≡ true) × (b ≡ true)
-and_parts true b e = (refl, e)
-and_parts false b e = absurd (true≢false (sym e))
-
-not_false : (b : Bool) → not b ≡ true → b ≡ false
-not_false true e = absurd (true≢false (sym e))
-not_false false e = refl
-
 module _ (routing : Routing) (good : IsStack routing.stack) (fit : IsFitStack routing.stack) where
   device_at : (dev : ℕ) → nat_lt dev (length routing.stack.devices.items) ≡ true
       → (device : Device) × (slice_get routing.stack.devices.items dev ≡ Some device)
@@ -58,7 +51,7 @@ module _ (routing : Routing) (good : IsStack routing.stack) (fit : IsFitStack ro
   sets_kept dev used =
       let parts = and_parts (nat_lt dev (length routing.stack.devices.items)) (not (keeps_data (tree routing.stack dev))) used in
       let device = device_at dev parts.0 in
-      let keeps_none = sym (data_by routing.stack good dev device.0 device.1 (shape_of device.0.kind) refl) ∙ not_false (keeps_data (tree routing.stack dev)) parts.1 in
+      let keeps_none = sym (data_by routing.stack good dev device.0 device.1 (shape_of device.0.kind) refl) ∙ not-true (keeps_data (tree routing.stack dev)) parts.1 in
       subst (λ n. 1 ≤ n) (sym (ap (λ o. option_map_or (λ (d : Device). d.reserve) o 0) device.1))
       (bios_kept device.0.kind device.0.reserve device.0.rescuer keeps_none (fit.devices dev device.0 device.1).reserves)
 

@@ -2,14 +2,14 @@
 use Rattle.std.proofs.Common.{◌≡◌, ◌≢◌, ◌⊎◌, inl, inr, ◌+◌, ◌<◌, ◌≤◌, ◌==◌, ◌++◌, ℕ, Bool, true, false, List, [], ◌∷◌, length, map, filter, get_or, set, Some, None, refl, sym, ap, subst, ◌∙◌, arith, length-append, find}
 use Rattle.std.specs.List.{position_or_len, range_with_len}
 use Rattle.std.specs.Option.{option_or}
-use Rattle.std.proofs.lemmas.List.{append-nil, get_or-set_same, get_or-set_other, length-set, map-append, map-id}
+use Rattle.std.proofs.lemmas.List.{append-nil, get_or-set_same, get_or-set_other, length-set, map-append}
 use Rattle.std.proofs.lemmas.List.Elements.{filter-append}
-use Rattle.std.proofs.lemmas.List.FromFn.{map-range_with_len_more}
 use Rattle.std.proofs.lemmas.List.Folds.{find_at, find-append, position_or_len_push}
-use Rattle.std.proofs.lemmas.Option.{slice_get-get_or}
+use Rattle.std.proofs.lemmas.Option.{slice_get-get_or, none-some}
 use Rattle.task_core.specs.Tables.{is_entry_of, IsAt}
 use Rattle.task_core.specs.opened.Filled.{AreMade, IsNext}
 use Rattle.task_core.proofs.NumberTests.{is_itself, is_apart, clash, lt_or}
+use Rattle.model_disks.proofs.PageLemmas.{range_more}
 
 pub below_or_last : (i n : ℕ) → i < n + 1 → (i < n) ⊎ (i ≡ n)
 below_or_last i n lt = search (lt, arith)
@@ -33,14 +33,11 @@ place_bound p (x ∷ xs) = by_case (place_bound p xs) (p x) refl
     by_case rest true q = rw (q) (omega arith)
     by_case rest false q = rw (q) (omega (arith, rest))
 
-some_is_none : {E : Type 0} (e : E) → Some e ≡ None → ⊥
-some_is_none e q = cc
-
 not_there : {E : Type 0} (p : E → Bool) (xs : List E) → position_or_len p xs < length xs → find p xs ≡ None → ⊥
 not_there p [] lt none = absurd (omega (arith, lt))
 not_there p (x ∷ xs) lt none =
-    some_is_none (get_or (x ∷ xs) (position_or_len p (x ∷ xs)) x)
-    (sym (find_at p (x ∷ xs) ∙ slice_get-get_or (x ∷ xs) (position_or_len p (x ∷ xs)) x lt) ∙ none)
+    none-some (get_or (x ∷ xs) (position_or_len p (x ∷ xs)) x)
+    (sym none ∙ find_at p (x ∷ xs) ∙ slice_get-get_or (x ∷ xs) (position_or_len p (x ∷ xs)) x lt)
 
 no_place : {E : Type 0} (p : E → Bool) (xs : List E) → find p xs ≡ None → position_or_len p xs ≡ length xs
 no_place p xs none = elim (lt_or (position_or_len p xs) (length xs)) [
@@ -57,10 +54,6 @@ place_last p xs x none passes =
     let same : (position_or_len p xs == length xs) ≡ true = is_itself _ _ none_is in position_or_len_push p xs x ∙ rw (same, passes) (omega arith)
 
 -- one more index
-range_more : (n : ℕ) → range_with_len 0 (n + 1) ≡ range_with_len 0 n ++ n ∷ []
-range_more n =
-    sym (map-id (range_with_len 0 (n + 1))) ∙ map-range_with_len_more (λ i. i) 0 n n (omega arith) ∙ ap (λ xs. xs ++ n ∷ []) (map-id (range_with_len 0 n))
-
 pub filter_more : (p : ℕ → Bool) (n : ℕ) → filter p (range_with_len 0 (n + 1)) ≡ filter p (range_with_len 0 n) ++ filter p (n ∷ [])
 filter_more p n = ap (filter p) (range_more n) ∙ filter-append p (range_with_len 0 n) (n ∷ [])
 

@@ -38,11 +38,7 @@ use Rattle.run_machine.specs.Scene.{has_set}
 use Rattle.task_steps.specs.Stage.{Stage, IsServed}
 use Rattle.task_core.specs.Tables.{look_up, IsAt, AreAt}
 use Rattle.run_machine.proofs.Frames.{pools_are_numbered}
-use Rattle.task_core.proofs.NumberTests.{lt_or, below_by, same_by, apart_by}
-
-is_left : (a b : Bool) → (a && b) ≡ true → a ≡ true
-is_left true b e = refl
-is_left false b e = e
+use Rattle.task_core.proofs.NumberTests.{lt_or, below_by, same_by, apart_by, and_parts}
 
 module _ {E : Type 0} (key : E → ℕ) (number : ℕ → ℕ) (is_used : ℕ → Bool) (IsMade : ℕ → E → Type 0) (bound : ℕ) (entries : List E) (table : List ℕ)
     (all : AreMade key number is_used IsMade bound entries table) where
@@ -81,10 +77,10 @@ module _ {E : Type 0} (key : E → ℕ) (is_used : ℕ → Bool) (IsMade : ℕ �
 
 module _ (routing : Routing) where
   disk_below : (n : ℕ) → uses_disk routing n ≡ true → n < length routing.stack.devices.items
-  disk_below n used = below_by n (length routing.stack.devices.items) (is_left (nat_lt n (length routing.stack.devices.items)) _ used)
+  disk_below n used = below_by n (length routing.stack.devices.items) (and_parts (nat_lt n (length routing.stack.devices.items)) _ used).0
 
   list_below : (n : ℕ) → uses_list routing n ≡ true → n < length routing.stack.devices.items
-  list_below n used = below_by n (length routing.stack.devices.items) (is_left (nat_lt n (length routing.stack.devices.items)) _ used)
+  list_below n used = below_by n (length routing.stack.devices.items) (and_parts (nat_lt n (length routing.stack.devices.items)) _ used).0
 
   disks_are : (disks : List DiskState) (table : List ℕ) → AreDisks routing (length routing.stack.devices.items) disks table
       → look_up disk_number (λ disk. disk) (no_disk routing.stack) disks ≡ no_disk routing.stack
@@ -141,10 +137,10 @@ module _ (routing : Routing) (good : IsStack routing.stack) (scripts : List (Poo
       clash b p q = cc
 
   set_below : (dev : ℕ) → has_set (routing_setup routing) dev ≡ true → dev < length routing.stack.devices.items
-  set_below dev used = below_by dev (length routing.stack.devices.items) (is_left (nat_lt dev (length routing.stack.devices.items)) _ used)
+  set_below dev used = below_by dev (length routing.stack.devices.items) (and_parts (nat_lt dev (length routing.stack.devices.items)) _ used).0
 
   slips_below : (dev : ℕ) → uses_slips routing dev ≡ true → dev < length routing.stack.devices.items
-  slips_below dev used = below_by dev (length routing.stack.devices.items) (is_left (nat_lt dev (length routing.stack.devices.items)) _ used)
+  slips_below dev used = below_by dev (length routing.stack.devices.items) (and_parts (nat_lt dev (length routing.stack.devices.items)) _ used).0
 
   abbrev bios_found : List (SetId × LedgerPool) → ℕ → LedgerPool
   bios_found bios = look_up set_number (λ entry. entry.1) (no_pool routing.stack some) bios

@@ -1,5 +1,5 @@
 -- Reserves of the pools of one thread.
-use Rattle.std.proofs.Common.{◌≡◌, ◌⊎◌, inl, inr, ◌<◌, ◌≤◌, ◌==◌, if◌then◌else◌, ℕ, true, false, List, get_or, set, refl, sym, ap, subst, ◌∙◌, arith}
+use Rattle.std.proofs.Common.{◌≡◌, ◌⊎◌, inl, inr, ◌<◌, ◌≤◌, ◌==◌, if◌then◌else◌, ℕ, false, List, get_or, set, refl, sym, ap, subst, ◌∙◌, arith}
 use Rattle.std.specs.Prelude.{IsTrue, slice_index_or}
 use Rattle.std.proofs.lemmas.Bool.Decides.{nat_tests}
 use Rattle.std.proofs.lemmas.List.{set-get_or}
@@ -23,9 +23,7 @@ use Rattle.task_core.specs.Plains.{set_number, records_number, no_pool, by_kind,
 use Rattle.task_core.proofs.Keeping.{set_is_bios, mirror_is_slips}
 use Rattle.task_core.proofs.own.PlainLemmas.{kept_by, with_bios, with_records, with_vecs, bios_there, bios_entered, bios_move, bios_stage, records_there, records_entered, records_move, records_stage, vecs_entered, vecs_move, vecs_stage}
 use Rattle.task_core.proofs.own.PlainFacts.{set_is}
-
-is_zero : (out : ℕ) → out ≡ 0 → (out == 0) ≡ true
-is_zero out e = grind (e, arith, nat_tests)
+use Rattle.task_core.proofs.NumberTests.{is_itself}
 
 not_zero : (out : ℕ) → 0 < out → (out == 0) ≡ false
 not_zero out lt = grind (lt, arith, nat_tests)
@@ -33,7 +31,7 @@ not_zero out lt = grind (lt, arith, nat_tests)
 -- a resize that was a move, or changed nothing, as what is served
 moved_so : (old new : Objects) (n min out : ℕ) → out ≡ 0 → PoolMoves old n (resizes min) new
     → new ≡ (if out == 0 then record old { pool = upd old.pool n (after_move (old.pool n) (resizes min)) } else old)
-moved_so old new n min out zero move = rw (is_zero out zero) (move.1)
+moved_so old new n min out zero move = rw (is_itself out 0 zero) (move.1)
 
 stayed_so : (old new : Objects) (n min out : ℕ) → 0 < out → new ≡ old
     → new ≡ (if out == 0 then record old { pool = upd old.pool n (after_move (old.pool n) (resizes min)) } else old)
