@@ -2,9 +2,7 @@
 use Rattle.std.proofs.Common.{◌≡◌, ◌+◌, ◌*◌, ◌%◌, ◌^◌, ◌++◌, ℕ, zero, suc, List, ◌∷◌, map, take, drop, replicate, refl, ap, ◌∙◌, Option, None, Some, length, arith}
 use Rattle.std.specs.List.{range_with_len}
 use Rattle.std.proofs.lemmas.List.{take-map, drop-map}
-use Rattle.std.specs.Prelude.{All, remove}
 use Rattle.std.proofs.lemmas.List.{map-append, take-append-le, take_all}
-use Rattle.std.proofs.lemmas.List.Elements.{All-append, All-take, All-drop}
 use Rattle.stack_base.specs.Words.{sector_from, zero_sector}
 use Rattle.stack_base.proofs.SectorLemmas.{sector_from_mod}
 use Rattle.bio_records.specs.declared.bio.Bio.{Bio}
@@ -14,10 +12,6 @@ use Rattle.plain_core.specs.objects.Disks.{sector_of, firsts_after}
 -- a whole list was overwritten
 pub kept_whole : {X : Type 0} (len : ℕ) (xs ys : List X) → length xs ≡ len → take len (xs ++ drop (length xs) ys) ≡ xs
 kept_whole len xs ys is = take-append-le len xs (drop (length xs) ys) (omega arith) ∙ take_all len xs (omega arith)
-
--- what holds of all holds of those that are left
-pub all_but_one : {X : Type 0} (P : X → Type 0) (xs : List X) (index : ℕ) → All P xs → All P (remove xs index)
-all_but_one P xs index all = All-append P (take index xs) (drop (suc index) xs) (All-take P index xs all) (All-drop P (suc index) xs all)
 
 pub zeros : (n : ℕ) → map sector_of (replicate n None) ≡ replicate n zero_sector
 zeros zero = refl

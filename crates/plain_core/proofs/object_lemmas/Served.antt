@@ -26,6 +26,7 @@ use Rattle.run_machine.specs.Requests.{Opening, GiveBio, GiveVec, GiveSlip, Punt
 use Rattle.run_machine.specs.Events.{pool_of, how_of, drop_of, resize_of}
 use Rattle.run_machine.specs.Maps.{upd}
 use Rattle.run_machine.specs.Objects.{Opened}
+use Rattle.run_machine.proofs.Frames.{upd_same}
 use Rattle.plain_core.specs.objects.Books.{ended_of_plain, end_of, IsToldBy}
 use Rattle.plain_core.specs.declared.objects.book.NodeOutcome.{NodeOutcome}
 use Rattle.plain_core.specs.declared.objects.book.NodeOutcome.TheVariants as ended
@@ -34,7 +35,7 @@ use Rattle.plain_core.specs.objects.Told.{MovesAs, IsPunt, Punts, Pops, IsPush, 
 use Rattle.plain_core.specs.steps.Answers.{IsAnswer, Refuses, HasAnswer, AnswersRequest, Lacks}
 use Rattle.plain_core.specs.declared.fault.CoreFault.{CoreFault}
 use Rattle.plain_core.specs.declared.fault.CoreFault.TheVariants as fault
-use Rattle.plain_core.proofs.object_lemmas.Updated.{moves, rescue_set, book_set, disk_set, upd_here}
+use Rattle.plain_core.proofs.object_lemmas.Updated.{moves, rescue_set, book_set, disk_set}
 
 -- what is told is one thing
 pub one : {X : Type 0} {x y : X} → Some x ≡ Some y → y ≡ x
@@ -230,7 +231,7 @@ joined old new writer node opening what t = link old new writer opening what (Ok
 can_link : (old : CoreObjects) (writer : ℕ) (opening : Opening) (what : What) (node : ℕ) (book : BookState) → what ≡ told.Link writer (how_of opening) node
     → Opened (core_book_at old writer) opening (Made node) book → HasAnswer old (Link writer opening) what
 can_link old writer opening what node book is opened =
-    let here = sym (upd_here (core_book_at old) writer book) in
+    let here = sym (upd_same (core_book_at old) writer book) in
     record {
       reply = LinkedTo (Made node);
       new = record (objects_of_core old) { book = upd (core_book_at old) writer book };

@@ -19,11 +19,6 @@ upd_is {X} f g i other = λ p k. at k p
       | inr ne ↦ rw (ne_eqb k i ne) (other k ne)
     ]
 
--- at that place
-pub upd_here : {X : Type 0} (f : ℕ → X) (i : ℕ) (x : X) → upd f i x i ≡ x
-unfolding upd
-upd_here f i x = rw (eq-eqb i i refl) refl
-
 pub pool_set : (old new : CoreObjects) (n : ℕ) → new ≡ with_pool old n (core_pool_at new n) → objects_of_core new ≡ record (objects_of_core old) { pool = upd (core_pool_at old) n (core_pool_at new n) }
 pool_set old new n is =
     ap objects_of_core is

@@ -1,5 +1,5 @@
 -- What is opened of a text is the state in which its runs begin.
-use Rattle.std.proofs.Common.{◌≡◌, ◌+◌, ◌/◌, ◌%◌, ◌<◌, ◌≤◌, ◌==◌, ◌⊎◌, inl, inr, ℕ, Bool, true, false, cond, List, [], ◌∷◌, length, map, find, replicate, refl, sym, ap, ◌∙◌, subst, arith, Option, None, Some}
+use Rattle.std.proofs.Common.{◌≡◌, ◌+◌, ◌/◌, ◌%◌, ◌<◌, ◌≤◌, ◌==◌, inl, inr, ℕ, Bool, true, false, cond, List, [], ◌∷◌, length, map, find, replicate, refl, sym, ap, ◌∙◌, subst, arith, Option, None, Some}
 use Rattle.std.specs.Prelude.{All, slice_get, slice_index_or, filter}
 use Rattle.std.specs.List.{range_with_len}
 use Rattle.std.specs.Option.{option_map_or}
@@ -10,12 +10,12 @@ use Rattle.std.proofs.lemmas.List.FromFn.{get_or-map-range_with_len, length-map-
 use Rattle.std.proofs.lemmas.Option.{slice_get_past}
 use Rattle.fail_script.specs.Script.{Answers, only_tail}
 use Rattle.stack_base.specs.declared.ids.PoolId.{PoolId}
-use Rattle.stack_base.specs.declared.ids.PoolId.TheVariants.{FsBios, FsVecs, Bios, Records}
 use Rattle.stack_base.specs.declared.ids.Status.TheVariants as status
 use Rattle.stack_base.specs.declared.stack.Device.{Device}
 use Rattle.stack_base.specs.declared.stack.Stack.{Stack}
 use Rattle.stack_base.specs.PoolId.{IsOfStack, pool_number}
 use Rattle.stack_base.specs.Tree.{size, tree}
+use Rattle.stack_base.proofs.PoolNumbers.{pool_number_le}
 use Rattle.layout_model.specs.declared.write.Write.{Write}
 use Rattle.layout_model.specs.NeedCounts.{elements, nodes}
 use Rattle.mempool_core.specs.Move.{PoolState, opened}
@@ -38,23 +38,15 @@ use Rattle.task_core.specs.opened.NewTasks.{AreShared}
 use Rattle.task_core.proofs.opened.Behind.{sum_le}
 use Rattle.task_core.proofs.opened.Setups.{no_writer}
 use Rattle.task_core.proofs.opened.Sharing.{share_served}
+use Rattle.task_core.proofs.NumberTests.{lt_or}
 
 abbrev no_bios : List (Item Pad)
 no_bios = []
-
-within_or_past : (k n : ℕ) → (k < n) ⊎ (n ≤ k)
-within_or_past k n = search arith
 
 from_none : (k : ℕ) → 0 + k ≡ k
 from_none k = omega arith
 
 -- pools of no stack have no reserve and no script
-pub small_number : (pool : PoolId) → IsOfStack pool → pool_number pool ≤ 65
-small_number FsBios is = omega arith
-small_number FsVecs is = omega arith
-small_number (Bios dev) is = omega (arith, is)
-small_number (Records dev) is = omega (arith, is)
-
 is_false : (a b : ℕ) → a ≤ 65 → 66 ≤ b → (a == b) ≡ false
 is_false a b small great = grind (arith, nat_tests)
 
@@ -62,7 +54,7 @@ no_script : (scripts : List (PoolId × Answers)) (number : ℕ) → All (λ (scr
     → find (is_numbered number) scripts ≡ None
 no_script [] number are great = refl
 no_script (x ∷ xs) number are great =
-    let e = is_false (pool_number x.0) number (small_number x.0 (All-head (λ (script : PoolId × Answers). IsOfStack script.0) x xs are)) great in
+    let e = is_false (pool_number x.0) number (pool_number_le x.0 (All-head (λ (script : PoolId × Answers). IsOfStack script.0) x xs are)) great in
     rw (e) (no_script xs number (All-tail (λ (script : PoolId × Answers). IsOfStack script.0) x xs are) great)
 
 not_number : (number fixed : ℕ) → fixed ≤ 65 → 66 ≤ number → (number == fixed) ≡ false
@@ -85,7 +77,7 @@ no_reserve stack number few great = by_test (number % 2 == 0) refl
 
 module _ (stack : Stack) (scripts : List (PoolId × Answers)) where
   rescue_is : (dev : ℕ) → slice_index_or (replicate (length stack.devices.items) []) dev [] ≡ no_bios
-  rescue_is dev = elim (within_or_past dev (length stack.devices.items)) [
+  rescue_is dev = elim (lt_or dev (length stack.devices.items)) [
     | inl lt ↦ get_or-replicate (length stack.devices.items) dev [] [] lt
     | inr le ↦ get_or_past (replicate (length stack.devices.items) []) dev [] (omega (arith, le, length-replicate {A = List (Item Pad)} (length stack.devices.items) []))
   ]
@@ -95,7 +87,7 @@ module _ (stack : Stack) (scripts : List (PoolId × Answers)) where
   either_disk false d = refl
 
   disk_is : (dev : ℕ) → disk_or (slice_index_or (new_disks stack (length stack.devices.items)) dev None) (opened_disk stack dev) ≡ opened_disk stack dev
-  disk_is dev = elim (within_or_past dev (length stack.devices.items)) [
+  disk_is dev = elim (lt_or dev (length stack.devices.items)) [
     | inl lt ↦
         ap (λ o. disk_or o (opened_disk stack dev)) (get_or-map-range_with_len (new_disk stack) 0 (length stack.devices.items) dev dev None lt (from_none dev))
         ∙ either_disk (keeps_data (tree stack dev)) (opened_disk stack dev)
@@ -147,7 +139,7 @@ module _ (stack : Stack) (scripts : List (PoolId × Answers)) (work : Work) (can
       }
 
   pool_is : (number : ℕ) → slice_index_or (new_pools stack scripts 66) number no_core_pool ≡ new_pool stack scripts number
-  pool_is number = elim (within_or_past number 66) [
+  pool_is number = elim (lt_or number 66) [
     | inl lt ↦ get_or-map-range_with_len (new_pool stack scripts) 0 66 number number no_core_pool lt (from_none number)
     | inr le ↦
         get_or_past (new_pools stack scripts 66) number no_core_pool (omega (arith, le, length-map-range_with_len (new_pool stack scripts) 0 66))
@@ -158,7 +150,7 @@ module _ (stack : Stack) (scripts : List (PoolId × Answers)) (work : Work) (can
   module _ (places : List ℕ) (placed : (writer : ℕ) → places_at places writer ≡ places_of s writer) where
     book_is : (writer : ℕ) → slice_index_or (new_books places 8) writer (record { writer = writer; nodes = [] })
         ≡ record { writer = writer; nodes = replicate (places_of s writer) None }
-    book_is writer = elim (within_or_past writer 8) [
+    book_is writer = elim (lt_or writer 8) [
       | inl lt ↦
           get_or-map-range_with_len (new_book places) 0 8 writer writer (record { writer = writer; nodes = [] }) lt (from_none writer)
           ∙ ap (λ n. record { writer = writer; nodes = replicate n None }) (placed writer)

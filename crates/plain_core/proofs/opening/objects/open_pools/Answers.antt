@@ -7,13 +7,13 @@ use Rattle.mempool_core.specs.Move.{opened}
 use Rattle.run_machine.specs.Opened.{reserve_of}
 use Rattle.plain_core.specs.opening.Opening.{new_pool}
 use Rattle.plain_core.proofs.opening_lemmas.Counted.{mapped_more}
-use Rattle.plain_core.proofs.opening_lemmas.Opened.{small_number}
+use Rattle.stack_base.proofs.PoolNumbers.{pool_number_le}
 use Rattle.plain_core.proofs.opening.objects.open_pools.Goals as goal
 
 pub script_of-requires : goal.script_of-requires
 script_of-requires c =
     All-weaker (λ (script : PoolId × Answers). IsOfStack script.0) (λ (script : PoolId × Answers). pool_number script.0 < 2 ^ 32)
-    (λ script is. let small = small_number script.0 is in omega (arith, small)) c.args.scripts.now c.requires.scripts
+    (λ script is. let small = pool_number_le script.0 is in omega (arith, small)) c.args.scripts.now c.requires.scripts
 
 pub opening-preserved : goal.opening-preserved
 opening-preserved c =

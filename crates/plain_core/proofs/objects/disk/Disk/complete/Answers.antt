@@ -2,7 +2,7 @@
 use Rattle.std.proofs.Common.{length, subst, sym}
 use Rattle.std.specs.Prelude.{All}
 use Rattle.model_disks.specs.Kept.{IsWithin}
-use Rattle.plain_core.proofs.object_lemmas.Sectors.{all_but_one}
+use Rattle.model_disks.proofs.KeptLemmas.{all_but_one}
 use Rattle.plain_core.proofs.objects.disk.Disk.complete.Goals as goal
 
 pub invariant_of-self : goal.invariant_of-self
