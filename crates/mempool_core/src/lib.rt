@@ -81,14 +81,17 @@ struct Counts {
     spare: u64,
 }
 
-/// A pool of elements with bodies of one type. It keeps the allocator that it was made with.
+/// A pool of elements with bodies of one type. It keeps the allocator that it was made with, so a take is handed none, and a refusal by real memory
+/// is a spare or a miss, never an error.
 ///
-/// What is out of it is the total of its ledger, whoever has the elements.
+/// What is out of it is the total of its ledger, whoever has the elements. Contracts see it as its ledger, its state and the most that its reserve may
+/// be; the state is plain data without the others, for a larger machine.
 pub struct Pool<P: Fresh + Drop> {
     alloc: Global,
     ledger: Ledger,
     script: Script,
-    // Those laid aside, and the spares behind them: a take has the last one, where that is a spare.
+    // Those laid aside, and the spares behind them: a take has the last one, where that is a spare. So a resize moves a border, in constant time and
+    // without memory.
     bodies: Vec<Box<P>>,
     counts: Counts,
 }
