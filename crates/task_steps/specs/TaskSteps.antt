@@ -11,8 +11,9 @@ use Rattle.task_steps.specs.declared.objects.Objects.{Ghosts}
 use Rattle.task_steps.specs.declared.step.Step.{Step}
 use Rattle.run_machine.specs.Requests.{Drop, DroppedTo}
 use Rattle.run_machine.specs.Scene.{Setup}
+use Rattle.run_machine.specs.Submissions.{Submission}
 use Rattle.run_machine.specs.Tasks.{TaskState, Carried, Completer, Duty, Keeper, Keeps}
-use Rattle.task_steps.specs.Homes.{IsTaskOf}
+use Rattle.task_steps.specs.Homes.{IsSubmissionOf, IsTaskOf}
 use Rattle.task_steps.specs.KeeperViews.{keeping_of}
 use Rattle.task_steps.specs.Routed.{Routing, routing_setup}
 use Rattle.task_steps.specs.Stage.{Owes}
@@ -21,6 +22,10 @@ use Rattle.task_steps.specs.Turns.{Asks, Turns, step_of}
 -- objects that hold together, with a task that is one of theirs
 abbrev pub HoldsTask : {S : Type 0} → Ghosts S → S → TaskState → Type 0
 HoldsTask words objects task = words.holds objects × IsTaskOf (words.stage objects) task
+
+-- the same of a task's submission
+abbrev pub HoldsSubmission : {S : Type 0} → Ghosts S → S → Submission → Type 0
+HoldsSubmission words objects submission = words.holds objects × IsSubmissionOf (words.stage objects) submission
 
 -- a step of a task over these objects, which hold together behind it too
 pub record TaskTurns {S : Type 0} (words : Ghosts S) (setup : Setup) (task : TaskState) (old : S) (next : TaskState) (new : S) (step : Step) : Type 0 where

@@ -4,12 +4,12 @@ ghost use Rattle.bio_records.specs.Items.{item_of, IsAlone};
 ghost use Rattle.run_machine.specs.Submissions.{Rests, Drives, Breaks as Breaks', ToCut, settled, rests, doing_breach};
 ghost use Rattle.task_steps.specs.Within.{IsWithinDevice};
 ghost use Rattle.task_steps.specs.Routed.{routing_setup};
-ghost use Rattle.task_steps.specs.Homes.{IsSubmissionOf};
 ghost use Rattle.task_steps.specs.SubmissionViews.{unmade_kept, kept_of, doing_of, submission_of, IsDoingAlone, is_asking};
 ghost use Rattle.task_steps.specs.declared.submission.Doing.TheVariants as doing';
 ghost use Rattle.run_machine.specs.Kept.{bio_kept};
 ghost use Rattle.bio_books.specs.Views.{bio_of};
 ghost use Rattle.task_steps.specs.Answers.{SubmissionDoes};
+ghost use Rattle.task_steps.specs.TaskSteps.{HoldsSubmission};
 
 pub(crate) mod cut;
 pub(crate) mod dispatch;
@@ -241,9 +241,8 @@ impl Submission {
     /// (`submit_bio_noacct`, `block/blk-core.c`, as far as the next place where it takes, links or submits).
     #[inline(never)] // within its callers, each attempt of a task that waits would pay for its registers and its stack
     pub fn step<O: Objects>(&mut self, objects: &mut O, routes: &Routes, task: TaskId) -> Step
-        requires holds { O.holds objects.old }
+        requires ready { HoldsSubmission O.Objects objects.old self.old }
         requires routing { (O.stage objects.old).routing ≡ routes.now }
-        requires submission { IsSubmissionOf (O.stage objects.old) self.old }
         requires asks { is_asking self.old.doing ≡ true }
         ensures does { SubmissionDoes O.Objects routes.now task self.old objects.old self.new objects.new result }
     {
