@@ -19,33 +19,33 @@ use Rattle.object_things.specs.Disks.{DiskLooks}
 use Rattle.object_things.specs.Lists.{ListLooks}
 use Rattle.object_things.specs.Pools.{PoolLooks, TakeFindsNone, MissLooks}
 
-module _ {O : Type 0} (old new : ThingState O) where
-  quiet_none : (told : Option What) → told ≡ None → FindsNone old new → IsQuiet old told new
+module _ {O : Type 0} (old new : ThingState O) {reply : Reply} where
+  quiet_none : (told : Option What) → told ≡ None → FindsNone old new → IsQuiet old reply told new
   quiet_none told is none = record { keeps = inl none.0; spent = λ h. none.1; told = is }
 
-  quiet_look : (told : Option What) → told ≡ None → OnlyLooks old new → IsQuiet old told new
+  quiet_look : (told : Option What) → told ≡ None → OnlyLooks old new → IsQuiet old reply told new
   quiet_look told is only = record { keeps = inl only.0; spent = λ h. only.1 ∙ h; told = is }
 
-pub book_quiet : (old new : ThingState BookState) (asked : Request) (reply : Reply) → BookLooks old asked reply new → IsQuiet old (what_of asked reply) new
+pub book_quiet : (old new : ThingState BookState) (asked : Request) (reply : Reply) → BookLooks old asked reply new → IsQuiet old reply (what_of asked reply) new
 book_quiet old new (Link writer opening) Spent looks = quiet_none old new _ refl looks
 book_quiet old new (Drop writer node status part) Spent looks = quiet_none old new _ refl looks
 book_quiet old new asked reply looks = absurd looks
 
-pub tally_quiet : (old new : ThingState TallyState) (asked : Request) (reply : Reply) → TallyLooks old asked reply new → IsQuiet old (what_of asked reply) new
+pub tally_quiet : (old new : ThingState TallyState) (asked : Request) (reply : Reply) → TallyLooks old asked reply new → IsQuiet old reply (what_of asked reply) new
 tally_quiet old new LookRound (Present round) looks = quiet_look old new _ refl looks.1
 tally_quiet old new LookLeft (LeftOver count) looks = quiet_look old new _ refl looks.1
 tally_quiet old new (Done write status) Spent looks = quiet_none old new _ refl looks
 tally_quiet old new (NextRound round) Spent looks = quiet_none old new _ refl looks
 tally_quiet old new asked reply looks = absurd looks
 
-pub disk_quiet : (old new : ThingState DiskState) (asked : Request) (reply : Reply) → DiskLooks old asked reply new → IsQuiet old (what_of asked reply) new
+pub disk_quiet : (old new : ThingState DiskState) (asked : Request) (reply : Reply) → DiskLooks old asked reply new → IsQuiet old reply (what_of asked reply) new
 disk_quiet old new (Complete disk) (LeftOver count) looks = quiet_look old new _ refl looks.1
 disk_quiet old new (Complete disk) Nothing looks = quiet_look old new _ refl looks.1
 disk_quiet old new (Push bio) Spent looks = quiet_none old new _ refl looks
 disk_quiet old new (Complete disk) Spent looks = quiet_none old new _ refl looks
 disk_quiet old new asked reply looks = absurd looks
 
-pub list_quiet : (old new : ThingState Rescue) (asked : Request) (reply : Reply) → ListLooks old asked reply new → IsQuiet old (what_of asked reply) new
+pub list_quiet : (old new : ThingState Rescue) (asked : Request) (reply : Reply) → ListLooks old asked reply new → IsQuiet old reply (what_of asked reply) new
 list_quiet old new (Pop dev) Nothing looks = quiet_look old new _ refl looks.1
 list_quiet old new (Punt dev moved) Spent looks = quiet_none old new _ refl looks
 list_quiet old new (Pop dev) Spent looks = quiet_none old new _ refl looks
@@ -61,15 +61,15 @@ same_pool old new moves = λ i. record { ledger = moves.ledger i; state = (moves
     state_is : record old.state { facts = record old.state.facts { pos = next_pos old.state.script old.state.facts.pos } } ≡ old.state
     state_is = ap (λ p. record old.state { facts = record old.state.facts { pos = p } }) pos_is
 
-miss_quiet : (old new : ThingState LedgerPool) (waits used : Bool) (pool : PoolId) → MissLooks waits old used new → IsQuiet old (miss_of waits used pool) new
+miss_quiet : (old new : ThingState LedgerPool) (waits used : Bool) (pool : PoolId) → MissLooks waits old used new → IsQuiet old (Missed used) (miss_of waits used pool) new
 miss_quiet old new true false pool looks = quiet_look old new _ refl (same_pool old.object new.object looks.2, looks.3)
 miss_quiet old new true true pool looks = absurd (cc looks.1)
 miss_quiet old new false used pool looks = absurd (cc looks.0)
 
-take_quiet : (old new : ThingState LedgerPool) (told : Option What) → told ≡ None → TakeFindsNone old new → IsQuiet old told new
-take_quiet old new told is none = record { keeps = inr none.1; spent = λ h. none.1; told = is }
+take_quiet : (old new : ThingState LedgerPool) (told : Option What) → told ≡ None → TakeFindsNone old new → IsQuiet old Spent told new
+take_quiet old new told is none = record { keeps = inr (refl, none.1); spent = λ h. none.1; told = is }
 
-pub pool_quiet : (old new : ThingState LedgerPool) (asked : Request) (reply : Reply) → PoolLooks old asked reply new → IsQuiet old (what_of asked reply) new
+pub pool_quiet : (old new : ThingState LedgerPool) (asked : Request) (reply : Reply) → PoolLooks old asked reply new → IsQuiet old reply (what_of asked reply) new
 pool_quiet old new (TakeBio set waits) (Missed used) looks = miss_quiet old new waits used _ looks
 pool_quiet old new TakeVec (Missed used) looks = miss_quiet old new true used _ looks
 pool_quiet old new (TakeSlip dev) (Missed used) looks = miss_quiet old new true used _ looks

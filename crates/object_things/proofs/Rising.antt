@@ -8,7 +8,7 @@ use Rattle.object_things.specs.Stamps.{ThingState, StepOf, Answers}
 use Rattle.object_things.specs.Histories.{Call, IsNextTicket, or_last, TicketsRise, drawn_in, IsQuiet, LeadDrawn, DrawnRun, KeepsHistory, StaysSpent}
 
 module _ {O : Type 0} (serves : O → Request → Reply → O → Type 0) (looks : ThingState O → Request → Reply → ThingState O → Type 0)
-    (quiet : (old new : ThingState O) (asked : Request) (reply : Reply) → looks old asked reply new → IsQuiet old (what_of asked reply) new) where
+    (quiet : (old new : ThingState O) (asked : Request) (reply : Reply) → looks old asked reply new → IsQuiet old reply (what_of asked reply) new) where
   next_of : (old new : ThingState O) (asked : Request) (reply : Reply) (ticket : Option ℕ) → StepOf serves looks old asked reply ticket new
       → IsNextTicket old.note ticket × (new.note ≡ or_last old.note ticket)
   next_of old new asked reply None s = (tt, s.1)
@@ -47,7 +47,7 @@ module _ {O : Type 0} (serves : O → Request → Reply → O → Type 0) (looks
       run = subst (λ x. LeadDrawn serves old.object (cond (is_some x) (c ∷ drawn_in cs) (drawn_in cs)) r.last) (sym t) (subst (λ x. LeadDrawn serves x (drawn_in cs) r.last) same r.run);
       ends = r.ends;
     }
-    | inr spent ↦ (let none = none_drawn mid new cs spent l in record {
+    | inr spent ↦ (let none = none_drawn mid new cs spent.1 l in record {
       last = old.object;
       run = subst (λ x. LeadDrawn serves old.object (cond (is_some x) (c ∷ drawn_in cs) (drawn_in cs)) old.object) (sym t) (subst (λ x. LeadDrawn serves old.object x old.object) (sym none.0) refl);
       ends = λ h. absurd (cc (none.1, h));

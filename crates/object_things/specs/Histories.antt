@@ -31,9 +31,10 @@ abbrev pub drawn_in : List Call → List Call
 drawn_in history = filter (λ (c : Call). is_some c.told.ticket) history
 
 module _ {O : Type 0} where
-  -- What a call that drew no ticket leaves: the object is as before, or no ticket was left. Once none was, none is later. It tells of no event.
-  pub record IsQuiet (old : ThingState O) (what : Option What) (new : ThingState O) : Type 0 where
-    pub keeps : (new.object ≡ old.object) ⊎ (new.spent ≡ true)
+  -- What a call that drew no ticket leaves: the object is as before, but where the call was told that no ticket was left for it. Once none was,
+  -- none is later. It tells of no event.
+  pub record IsQuiet (old : ThingState O) (reply : Reply) (what : Option What) (new : ThingState O) : Type 0 where
+    pub keeps : (new.object ≡ old.object) ⊎ ((reply ≡ Spent) × (new.spent ≡ true))
     pub spent : old.spent ≡ true → new.spent ≡ true
     pub told : what ≡ None
 
@@ -54,7 +55,7 @@ module _ {O : Type 0} (serves : O → Request → Reply → O → Type 0) (looks
   pub record KeepsHistory : Type 0 where
     pub rises : (old new : ThingState O) (history : List Call) → Leads (Answers serves looks) old history new → TicketsRise old.note history new.note
     pub runs : (old new : ThingState O) (history : List Call) → Leads (Answers serves looks) old history new → DrawnRun serves old new history
-    pub quiet : (old new : ThingState O) (asked : Request) (reply : Reply) → looks old asked reply new → IsQuiet old (what_of asked reply) new
+    pub quiet : (old new : ThingState O) (asked : Request) (reply : Reply) → looks old asked reply new → IsQuiet old reply (what_of asked reply) new
 
   -- Once a draw at a thing found no ticket, none is drawn at it: a call that is told so leaves it marked, along each history it stays marked, and
   -- no call with a ticket follows.
