@@ -133,6 +133,7 @@ impl Thing for BookThing {
 
     ghost answers = { BookAnswers };
 
+    #[inline(always)] // a request that is known where it is made then has one arm
     fn serve(&mut self, asking: Asking<BookAsk>) -> Replied<BookSaid> {
         let Asking { pass, ask } = asking;
         match ask {
@@ -162,6 +163,7 @@ impl Thing for BookThing {
 }
 
 // Opens a node, with a ticket.
+#[inline(always)] // as `serve`
 fn link(book: &mut Book, stamp: &mut Stamp, pass: Pass, writer: u32, what: Ask) -> Replied<BookSaid>
     requires clock { pass.clock ≡ stamp.old.common.clock }
     requires own { writer ≡ book.old.writer }
@@ -183,6 +185,7 @@ fn link(book: &mut Book, stamp: &mut Stamp, pass: Pass, writer: u32, what: Ask) 
 }
 
 // Tells a node of an end, with a ticket.
+#[inline(always)] // as `serve`
 fn drop_one(
     book: &mut Book,
     stamp: &mut Stamp,

@@ -123,6 +123,7 @@ impl Thing for DiskThing {
 
     ghost answers = { DiskAnswers };
 
+    #[inline(always)] // a request that is known where it is made then has one arm
     fn serve(&mut self, asking: Asking<DiskAsk>) -> Replied<DiskSaid> {
         let Asking { pass, ask } = asking;
         match ask {
@@ -142,6 +143,7 @@ impl Thing for DiskThing {
 }
 
 // A bio comes to the disk.
+#[inline(always)] // as `serve`
 fn push(disk: &mut Disk, stamp: &mut Stamp, pass: Pass, el: BioElement) -> Replied<DiskSaid>
     requires clock { pass.clock ≡ stamp.old.common.clock }
     requires own { (item_of el).bio.dev.0 ≡ disk.old.dev.0 }
@@ -165,6 +167,7 @@ fn push(disk: &mut Disk, stamp: &mut Stamp, pass: Pass, el: BioElement) -> Repli
 }
 
 // A bio is done, if one waits.
+#[inline(always)] // as `serve`
 fn complete(
     disk: &mut Disk,
     stamp: &mut Stamp,

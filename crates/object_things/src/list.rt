@@ -117,6 +117,7 @@ impl Thing for ListThing {
 
     ghost answers = { ListAnswers };
 
+    #[inline(always)] // a request that is known where it is made then has one arm
     fn serve(&mut self, asking: Asking<ListAsk>) -> Replied<ListSaid> {
         let Asking { pass, ask } = asking;
         match ask {
@@ -127,6 +128,7 @@ impl Thing for ListThing {
 }
 
 // Bios come to the list.
+#[inline(always)] // as `serve`
 fn punt(
     list: &mut RescueList,
     stamp: &mut Stamp,
@@ -156,6 +158,7 @@ fn punt(
 }
 
 // The first bio leaves the list, if there is one.
+#[inline(always)] // as `serve`
 fn pop(list: &mut RescueList, stamp: &mut Stamp, pass: Pass, dev: DevId) -> Replied<ListSaid>
     requires clock { pass.clock ≡ stamp.old.common.clock }
     requires own { dev.0 ≡ list.old.dev.0 }

@@ -124,6 +124,7 @@ impl<P: Fresh + Drop> Thing for PoolThing<P> {
 
     ghost answers = { PoolAnswers };
 
+    #[inline(always)] // a request that is known where it is made then has one arm
     fn serve(&mut self, asking: Asking<PoolAsk<P>>) -> Replied<PoolSaid<P>> {
         let Asking { pass, ask } = asking;
         match ask {
@@ -147,6 +148,7 @@ impl<P: Fresh + Drop> Thing for PoolThing<P> {
 }
 
 // Puts back what a take has had that gets no ticket.
+#[inline(always)] // as `serve`
 fn undo<P: Fresh + Drop>(pool: &mut Pool<P>, taken: Taken<P>)
     requires { TakenOf taken pool.old.ledger }
     ensures { GoesBack taken pool.old pool.new }
@@ -158,6 +160,7 @@ fn undo<P: Fresh + Drop>(pool: &mut Pool<P>, taken: Taken<P>)
 }
 
 // Whether a take is told as nothing.
+#[inline(always)] // as `serve`
 fn is_look<P: Fresh + Drop>(taken: &Taken<P>, waits: bool) -> bool
     ensures { result ≡ is_look waits taken.now }
 {
@@ -168,6 +171,7 @@ fn is_look<P: Fresh + Drop>(taken: &Taken<P>, waits: bool) -> bool
 }
 
 // What a take says.
+#[inline(always)] // as `serve`
 fn took<P: Fresh + Drop>(pool: PoolId, of: Result<Taken<P>, NoTicket>) -> PoolSaid<P>
     ensures { result ≡ said.Took pool of }
 {
@@ -176,6 +180,7 @@ fn took<P: Fresh + Drop>(pool: PoolId, of: Result<Taken<P>, NoTicket>) -> PoolSa
 
 // A take, with its ticket.
 #[tactic(auto, using(crate::proofs::Pooled::took_served, crate::proofs::Pooled::miss_looks, crate::proofs::Pooled::take_spent, crate::proofs::Pooled::undone, crate::proofs::Pooled::took_from, crate::proofs::Pooled::take_stays))]
+#[inline(always)] // as `serve`
 fn take<P: Fresh + Drop>(
     pool: &mut Pool<P>,
     stamp: &mut Stamp,
@@ -207,6 +212,7 @@ fn take<P: Fresh + Drop>(
 
 // A give, with its ticket.
 #[tactic(auto, using(crate::proofs::Pooled::give_served, crate::proofs::Pooled::give_spent))]
+#[inline(always)] // as `serve`
 fn give<P: Fresh + Drop>(
     pool: &mut Pool<P>,
     stamp: &mut Stamp,
@@ -233,6 +239,7 @@ fn give<P: Fresh + Drop>(
 }
 
 // A change of the reserve, with its ticket.
+#[inline(always)] // as `serve`
 fn resize<P: Fresh + Drop>(
     pool: &mut Pool<P>,
     stamp: &mut Stamp,

@@ -148,6 +148,7 @@ impl Stamp {
     }
 
     /// What a call says that only looks: the pass meets the note, and nothing is drawn.
+    #[inline(always)] // as the `serve` of each thing
     pub(crate) fn look<S>(&self, mut pass: Pass, said: S) -> Replied<S>
         ensures { result ≡ looked self.now pass said }
     {
@@ -162,6 +163,7 @@ impl Stamp {
     }
 
     /// The turn of a call that draws a ticket, and the ticket, if there was one.
+    #[inline(always)] // as the `serve` of each thing
     pub(crate) fn turn(&mut self, mut pass: Pass) -> (Turn, Option<u64>)
         requires { pass.clock ≡ self.old.common.clock }
         ensures found { (result.0.note ≡ self.old.note) × (result.0.drew ≡ not self.old.spent) }
@@ -176,6 +178,7 @@ impl Stamp {
     }
 
     // Draws a ticket, if there is one.
+    #[inline(always)] // as the `serve` of each thing
     fn draw(&mut self, pass: &mut Pass) -> Option<u64>
         requires { pass.old.clock ≡ self.old.common.clock }
         ensures ready { IfSome result (λ _. self.old.spent ≡ false) }
@@ -197,6 +200,7 @@ impl Stamp {
 
 impl Turn {
     /// What a call says, with the ticket that it drew.
+    #[inline(always)] // as the `serve` of each thing
     pub(crate) fn reply<S>(self, ticket: Option<u64>, said: S) -> Replied<S>
         ensures { result ≡ record { pass = self.pass; said = said; note = self.note; drew = self.drew; ticket = ticket } }
     {

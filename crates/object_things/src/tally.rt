@@ -126,6 +126,7 @@ impl Thing for TallyThing {
 
     ghost answers = { TallyAnswers };
 
+    #[inline(always)] // a request that is known where it is made then has one arm
     fn serve(&mut self, asking: Asking<TallyAsk>) -> Replied<TallySaid> {
         let Asking { pass, ask } = asking;
         match ask {
@@ -144,6 +145,7 @@ impl Thing for TallyThing {
 }
 
 // A write is done.
+#[inline(always)] // as `serve`
 fn done(
     tally: &mut Tally,
     stamp: &mut Stamp,
@@ -172,6 +174,7 @@ fn done(
 }
 
 // The next round.
+#[inline(always)] // as `serve`
 fn next(tally: &mut Tally, stamp: &mut Stamp, pass: Pass) -> Replied<TallySaid>
     requires clock { pass.clock ≡ stamp.old.common.clock }
     requires of { IsTallyOf (stage_in stamp.old.common) (tally_of tally.old) × IsLater (opened_tally stamp.old.common) (tally_of tally.old) }

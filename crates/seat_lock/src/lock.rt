@@ -118,6 +118,7 @@ impl<T: Thing> SeatLock<T> {
     /// Asks the thing, in a turn of its own. It waits until all who came before were served, and may wait for ever.
     ///
     /// The call joins the history when its turn is passed on, so no other call stands between its request and its reply.
+    #[inline(always)] // a request that is known where it is made has one arm of the thing's `serve`
     pub fn call<R: Wait>(&self, rt: &R, seat: &mut Seat<T>, request: T::Request) -> T::Reply
         requires of { IsOf self.now seat.old }
         requires fits { T.fits (T.mark self.now.key.value) request }
@@ -133,6 +134,7 @@ impl<T: Thing> SeatLock<T> {
     }
 
     // Waits until the turn that a seat has drawn is served: then it has the thing. Where nobody else wants the lock, the first look finds so.
+    #[inline(always)] // as `call`
     fn await_turn<R: Wait>(
         &self,
         rt: &R,
@@ -152,6 +154,7 @@ impl<T: Thing> SeatLock<T> {
     }
 
     // Looks until the turn is served.
+    #[inline(never)] // who finds the turn at once pays for none of its registers
     fn look_on<R: Wait>(
         &self,
         rt: &R,
@@ -187,6 +190,7 @@ impl<T: Thing> SeatLock<T> {
     }
 
     // Serves the request of a seat whose turn it is.
+    #[inline(always)] // as `call`
     fn serve_in_turn(
         &self,
         inner: &mut atomic_table::Seat<T, View<T, T::Asked, T::Told>>,
@@ -210,6 +214,7 @@ impl<T: Thing> SeatLock<T> {
     }
 
     // Passes the turn on, and wakes those who wait for theirs, if there are any. At this step the call joins the history.
+    #[inline(always)] // as `call`
     fn pass_on<B: Call<T::Asked, T::Told>>(
         &self,
         inner: &mut atomic_table::Seat<T, View<T, T::Asked, T::Told>>,

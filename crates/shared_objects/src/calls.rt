@@ -12,6 +12,7 @@ use task_steps::Unmade;
 use tick_clock::Pass;
 
 /// Asks the object behind a lock. The pass goes with what is asked, and comes back.
+#[inline(always)] // what is asked is known where it stands, so that the arms of other requests fall away
 pub(crate) fn call<Q, S, T, R>(
     rt: &R,
     lock: &SeatLock<T>,
@@ -42,6 +43,7 @@ where
 }
 
 /// The same of the object at a place among those of its kind.
+#[inline(always)] // as `call`
 pub(crate) fn call_at<K, Q, S, T, R>(
     rt: &R,
     locks: &[(K, SeatLock<T>)],

@@ -31,6 +31,7 @@ use task_steps::{Ask, Chooser, Objects, Unmade};
 
 impl<'a, R: Wait> Caller<'a, R> {
     // How many bios wait in a disk.
+    #[inline(never)] // as `take_bio`
     fn look_at(&mut self, disk: DevId) -> u64
         requires holds { DeskHolds self.old.locks.now self.old.seats.now }
         requires fits { RequestFits (stage_at self.old.locks.now) (Complete disk) }
@@ -46,6 +47,7 @@ impl<'a, R: Wait> Caller<'a, R> {
     }
 
     // Completes the bio at this place of those that wait, or the last one where there are fewer by now.
+    #[inline(never)] // as `take_bio`
     fn complete_at(&mut self, disk: DevId, index: u64) -> Result<Option<(u64, Done)>, NoTicket>
         requires holds { DeskHolds self.old.locks.now self.old.seats.now }
         requires fits { RequestFits (stage_at self.old.locks.now) (Complete disk) }
@@ -128,6 +130,7 @@ impl<'a, R: Wait> Objects for Caller<'a, R> {
     ghost picks = { λ caller. DeskPicks };
 
     #[tactic(auto, using(crate::proofs::Takes::take_named, crate::proofs::Takes::bios_waits, crate::proofs::Takes::set_is_pool, crate::proofs::Takes::bio_served, crate::proofs::Takes::bio_owed, crate::proofs::Takes::bio_clear, crate::proofs::Takes::back_none, crate::proofs::Takes::desk_numbered))]
+    #[inline(never)] // of what is asked here the lock and the object have one arm, and callers have no copy of it
     fn take_bio(&mut self, set: SetId, waits: bool) -> Result<Taken<BioBody<Pad>>, Unmade> {
         let pool = bios_of(set);
         match self.ask_bios(pool.no(), PoolAsk::Take { pool, waits }) {
@@ -146,6 +149,7 @@ impl<'a, R: Wait> Objects for Caller<'a, R> {
     }
 
     #[tactic(auto, using(crate::proofs::Takes::mirror_is_pool, crate::proofs::Takes::slip_served, crate::proofs::Takes::slip_owed, crate::proofs::Takes::back_none, crate::proofs::Takes::desk_numbered))]
+    #[inline(never)] // as `take_bio`
     fn take_slip(&mut self, dev: DevId) -> Result<Taken<Slip>, Unmade> {
         let pool = PoolId::Records(dev);
         match self.ask_records(pool.no(), PoolAsk::Take { pool, waits: true }) {
@@ -154,6 +158,7 @@ impl<'a, R: Wait> Objects for Caller<'a, R> {
         }
     }
 
+    #[inline(never)] // as `take_bio`
     fn give_bio(&mut self, el: BioElement) -> Result<(), Unmade> {
         // The element knows its pool. The name says only that it is one of bios, as all of a pool's history does.
         let pool = PoolId::FsBios;
@@ -173,6 +178,7 @@ impl<'a, R: Wait> Objects for Caller<'a, R> {
         }
     }
 
+    #[inline(never)] // as `take_bio`
     fn give_slip(&mut self, el: SlipElement) -> Result<(), Unmade> {
         let number = el.no();
         // The pools of records have odd numbers.
@@ -184,6 +190,7 @@ impl<'a, R: Wait> Objects for Caller<'a, R> {
         }
     }
 
+    #[inline(never)] // as `take_bio`
     fn punt(&mut self, dev: DevId, moved: BioList) -> Result<(), Unmade> {
         match self.ask_list(dev, ListAsk::Punt { dev, moved }) {
             ListSaid::Punted(Ok(())) => Ok(()),
@@ -192,6 +199,7 @@ impl<'a, R: Wait> Objects for Caller<'a, R> {
         }
     }
 
+    #[inline(never)] // as `take_bio`
     fn pop(&mut self, dev: DevId) -> Result<Option<BioElement>, Unmade> {
         match self.ask_list(dev, ListAsk::Pop { dev }) {
             ListSaid::Popped(result) => or_unmade(result),
@@ -199,6 +207,7 @@ impl<'a, R: Wait> Objects for Caller<'a, R> {
         }
     }
 
+    #[inline(never)] // as `take_bio`
     fn push(&mut self, el: BioElement) -> Result<(), Unmade> {
         let disk = dev_of(&el);
         match self.ask_disk(disk, DiskAsk::Push { el }) {
@@ -221,6 +230,7 @@ impl<'a, R: Wait> Objects for Caller<'a, R> {
         or_unmade(self.complete_at(disk, index))
     }
 
+    #[inline(never)] // as `take_bio`
     fn link(&mut self, writer: u32, ask: Ask) -> Result<Link, Unmade> {
         match self.ask_book(writer, BookAsk::Link { writer, ask }) {
             BookSaid::Linked(result) => result,
@@ -228,6 +238,7 @@ impl<'a, R: Wait> Objects for Caller<'a, R> {
         }
     }
 
+    #[inline(never)] // as `take_bio`
     fn drop_one(
         &mut self,
         writer: u32,
@@ -270,6 +281,7 @@ impl<'a, R: Wait> Objects for Caller<'a, R> {
         }
     }
 
+    #[inline(never)] // as `take_bio`
     fn left(&mut self) -> u32 {
         match self.ask_tally(TallyAsk::Left) {
             TallySaid::Left(count) => count,
@@ -277,6 +289,7 @@ impl<'a, R: Wait> Objects for Caller<'a, R> {
         }
     }
 
+    #[inline(never)] // as `take_bio`
     fn round(&mut self) -> u32 {
         match self.ask_tally(TallyAsk::Round) {
             TallySaid::Round(round) => round,
