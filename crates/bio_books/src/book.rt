@@ -94,6 +94,7 @@ impl Book {
     }
 
     /// Opens the top node of a write, which holds its vector and waits for one end. With no vacant place it hands the vector back.
+    #[inline(always)] // what it answers is then made where it goes
     pub fn open_write(&mut self, write: u32, vector: Option<VecElement>) -> Link
         ensures opens { Opens self.old write (vector_of vector) (linked_of result) self.new }
         ensures alone { IsLinkAlone result }
@@ -105,6 +106,7 @@ impl Book {
     }
 
     /// Opens a child of a node, of the same write and of one end, for which the node waits too (`bio_chain`, `block/bio.c`).
+    #[inline(always)] // as `open_write`
     pub fn chain(&mut self, parent: u32) -> Link
         ensures chains { Chains self.old parent (linked_of result) self.new }
         ensures alone { IsLinkAlone result }
@@ -128,6 +130,7 @@ impl Book {
     /// Opens the master of a mirror, which stands for the own part of a node and waits for an end of each leg. It holds the record, which has
     /// the number of legs from then on. The node keeps the part, in place of one that it kept, and waits for as many ends as before
     /// (`raid1_write_request`, `drivers/md/raid1.c`). Where no master is opened, the part and the record come back as they were.
+    #[inline(always)] // as `open_write`
     pub fn master(&mut self, parent: u32, part: BioElement, slip: SlipElement, legs: u32) -> Link
         requires part { IsAlone part }
         requires legs { 1 ≤ legs }
@@ -152,6 +155,7 @@ impl Book {
 
     /// Opens a leg of a master, of the same write and of one end. The master waits for it already. It is for the caller to open as many legs
     /// as the master waits for, and to name a master: a leg of any other open node is opened too, and that node does not wait for it.
+    #[inline(always)] // as `open_write`
     pub fn leg(&mut self, master: u32) -> Link
         ensures legs { Legs self.old master (linked_of result) self.new }
         ensures alone { IsLinkAlone result }

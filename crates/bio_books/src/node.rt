@@ -209,7 +209,7 @@ impl Node {
     }
 
     /// Keeps the first end that failed, and the last part that came (`__bio_chain_endio`, `block/bio.c`).
-    #[inline]
+    #[inline(always)] // as `alter`
     pub(crate) fn tell(&mut self, status: Status, part: Option<BioElement>)
         requires { IsAlonePart part }
         ensures { self.new ≡ told self.old status (bio_of part) }
@@ -292,6 +292,7 @@ impl Change<Node> for Lower {
 
     ghost after = { λ end node. lowered (told node end.status (bio_of end.part)) };
 
+    #[inline(always)] // as `alter`
     fn change(self, node: &mut Node) {
         let Lower { status, part } = self;
         node.tell(status, part);
