@@ -38,7 +38,7 @@ fn open_one<K: Copy + Drop, T: Thing + Drop>(
 /// # Errors
 ///
 /// Where there is no memory for them. The things are dropped then.
-#[tactic(auto, using(crate::proofs::Places::three_more))]
+#[tactic(auto, using(crate::proofs::row_lemmas::GrowingRows::three_more))]
 pub fn open_row<K: Copy + Drop, T: Thing + Drop>(
     alloc: Global,
     things: Vec<(K, T)>,

@@ -24,7 +24,7 @@ use Rattle.run_machine.specs.Scene.{Scene}
 use Rattle.run_machine.proofs.Turns.{follow, turns_run, does_step}
 use Rattle.run_machine.proofs.cases.RoundsRun.{a, bio, closed, events, ledger, rounds_run, scenario, scene, scene_is, setup, start, start_is, turns}
 use Rattle.shared_objects.specs.Calls.{is_same_object}
-use Rattle.shared_objects.proofs.Naming.{same_is}
+use Rattle.shared_objects.proofs.SameNames.{same_is}
 use Rattle.run_merge.specs.Entries.{Entry, entries_in}
 use Rattle.run_merge.specs.Machines.{entries_at}
 use Rattle.run_merge.specs.Products.{entries_by, IsProduct, AreOfRun}

@@ -6,8 +6,8 @@ use Rattle.run_machine.specs.Scene.{Setup}
 use Rattle.run_machine.specs.Tasks.{TaskState, request, answered, is_broken}
 use Rattle.shared_objects.specs.Calls.{struck}
 use Rattle.shared_objects.specs.Logs.{is_stop}
-use Rattle.shared_objects.proofs.Breaking as tasks
-use Rattle.shared_objects.proofs.Staying.{stop_struck}
+use Rattle.shared_objects.proofs.steps.BrokenRests as tasks
+use Rattle.shared_objects.proofs.steps.GlanceStays.{stop_struck}
 
 -- whatever stops a task breaks it off
 pub stop_breaks : (setup : Setup) (task : TaskState) (asked : Request) (reply : Reply) → asked ≡ struck (request setup task) → (object_of asked ≡ OfNone → ⊥)

@@ -9,7 +9,7 @@ use Rattle.object_things.specs.Histories.{Call}
 use Rattle.shared_objects.specs.Calls.{is_same_object}
 use Rattle.shared_objects.specs.Names.{Apart}
 use Rattle.shared_objects.specs.Logs.{is_event, events_in}
-use Rattle.shared_objects.proofs.Naming.{same_is}
+use Rattle.shared_objects.proofs.SameNames.{same_is}
 use Rattle.run_merge.specs.Merging.{Ticketed, all_of, history_of, AreOfDifferentObjects, AreTagged}
 use Rattle.run_merge.specs.SharedObjects.{ticketed}
 use Rattle.run_merge.proofs.closes.Events.{ticketed_events, event_histories}

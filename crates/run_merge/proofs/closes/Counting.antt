@@ -23,10 +23,10 @@ use Rattle.shared_objects.specs.Closes.{Returned, ClosesAs}
 use Rattle.shared_objects.specs.Kinds.{ThingAt, serves_at, looks_at, opened_at, unasked}
 use Rattle.shared_objects.specs.Logs.{is_event, is_refused, is_stop, is_glance, events_in, tickets_in, LogLeads}
 use Rattle.shared_objects.specs.Passes.{numbers_of}
-use Rattle.shared_objects.proofs.Leading.{event_first, kinds, quiet_first, stop_kind}
-use Rattle.shared_objects.proofs.Drawn.{drawn_of, drew_of, numbers_is}
-use Rattle.shared_objects.proofs.Owners.{logged, kept, IsInPlace, in_place}
-use Rattle.shared_objects.proofs.Refusing.{served_refused}
+use Rattle.shared_objects.proofs.logs.CallsLead.{event_first, kinds, quiet_first, stop_kind}
+use Rattle.shared_objects.proofs.tickets.TicketsOfCalls.{drawn_of, drew_of, numbers_is}
+use Rattle.shared_objects.proofs.tickets.CallOwners.{logged, kept, IsInPlace, in_place}
+use Rattle.shared_objects.proofs.steps.EventOrRefused.{served_refused}
 use Rattle.run_merge.specs.Entries.{Entry}
 use Rattle.run_merge.specs.Merging.{Ticketed, RiseFrom, without_tickets, all_of, done_by}
 use Rattle.run_merge.specs.Products.{is_next_round}
@@ -42,8 +42,8 @@ use Rattle.run_merge.proofs.closes.Rounds.{starts_left, task_starts, tally_start
 use Rattle.run_merge.proofs.closes.Sorting.{picks_mine, events_to, done_is}
 use Rattle.run_merge.proofs.closes.Walks.{is_told, AskSome, Walked, walk}
 use Rattle.run_merge.proofs.closing.Counts.{sorted_length}
-use Rattle.shared_objects.proofs.FewTasks.{few_of}
-use Rattle.shared_objects.proofs.Breaking.{broken_rests}
+use Rattle.shared_objects.proofs.sharing.FewTasks.{few_of}
+use Rattle.shared_objects.proofs.steps.BrokenRests.{broken_rests}
 use Rattle.run_merge.proofs.merging.Picked.{is_at, is_by, entries_filter, filter_swap}
 
 -- a call that left its task as it was drew no ticket

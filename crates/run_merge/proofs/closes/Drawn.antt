@@ -7,7 +7,7 @@ use Rattle.std.proofs.lemmas.List.{map-append}
 use Rattle.std.proofs.lemmas.List.Elements.{All-head, All-tail, All-cons, All-nil, filter-append}
 use Rattle.object_things.specs.Histories.{Call, IsNextTicket, or_last, TicketsRise}
 use Rattle.shared_objects.specs.Logs.{events_in}
-use Rattle.shared_objects.proofs.Leading.{event_first, quiet_first}
+use Rattle.shared_objects.proofs.logs.CallsLead.{event_first, quiet_first}
 use Rattle.run_merge.specs.Merging.{Ticketed, RiseFrom}
 use Rattle.run_merge.specs.SharedObjects.{ticketed}
 use Rattle.run_merge.proofs.closes.Events.{ticketed_events}

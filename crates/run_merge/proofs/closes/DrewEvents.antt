@@ -15,10 +15,10 @@ use Rattle.shared_objects.specs.Closes.{Returned, ClosesAs}
 use Rattle.shared_objects.specs.Kinds.{ThingAt, serves_at, looks_at}
 use Rattle.shared_objects.specs.Led.{BrokeOff, IsLed}
 use Rattle.shared_objects.specs.Logs.{is_stop}
-use Rattle.shared_objects.proofs.Leading.{logs_lead}
-use Rattle.shared_objects.proofs.Drawn.{keeps}
-use Rattle.shared_objects.proofs.Owners.{logged, IsOwned, owner, IsInPlace, in_place}
-use Rattle.shared_objects.proofs.Refusing.{served_refused}
+use Rattle.shared_objects.proofs.logs.CallsLead.{logs_lead}
+use Rattle.shared_objects.proofs.tickets.TicketsOfCalls.{keeps}
+use Rattle.shared_objects.proofs.tickets.CallOwners.{logged, IsOwned, owner, IsInPlace, in_place}
+use Rattle.shared_objects.proofs.steps.EventOrRefused.{served_refused}
 use Rattle.run_merge.specs.SharedObjects.{DrewAsEvent}
 use Rattle.run_merge.proofs.closes.Counting.{refused_stops}
 use Rattle.run_merge.proofs.closes.Walks.{is_told}

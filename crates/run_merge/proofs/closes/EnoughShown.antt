@@ -29,8 +29,8 @@ use Rattle.shared_objects.specs.Closes.{Returned, ClosesAs}
 use Rattle.shared_objects.specs.Kinds.{ThingAt, opened_at, unasked}
 use Rattle.shared_objects.specs.Logs.{LogLeads}
 use Rattle.shared_objects.specs.Passes.{found_by, numbers_of}
-use Rattle.shared_objects.proofs.Drawn.{in_row, keeps}
-use Rattle.shared_objects.proofs.Owners.{logged}
+use Rattle.shared_objects.proofs.tickets.TicketsOfCalls.{in_row, keeps}
+use Rattle.shared_objects.proofs.tickets.CallOwners.{logged}
 use Rattle.run_merge.specs.Closing.{IsThrough, WasRefused, HasLast, IsClosed, MergeIsEndedRun}
 use Rattle.run_merge.specs.Machines.{LeadsObject}
 use Rattle.run_merge.specs.Merging.{Ticketed, RiseFrom, without_tickets, history_of, done_by, LetsAsk, Shown}

@@ -19,8 +19,8 @@ use Rattle.object_things.specs.Tallies as things
 use Rattle.shared_objects.specs.Closes.{Returned, ClosesAs}
 use Rattle.shared_objects.specs.Kinds.{ThingAt, opened_at, unasked}
 use Rattle.shared_objects.specs.Logs.{is_event, Looked}
-use Rattle.shared_objects.proofs.Drawn.{keeps}
-use Rattle.shared_objects.proofs.Owners.{kept, IsInPlace, in_place}
+use Rattle.shared_objects.proofs.tickets.TicketsOfCalls.{keeps}
+use Rattle.shared_objects.proofs.tickets.CallOwners.{kept, IsInPlace, in_place}
 use Rattle.run_merge.specs.Machines.{TallyMachine, LeadsObject}
 use Rattle.run_merge.specs.Merging.{Ticketed, without_tickets, history_of, TallyThen, LetsAsk}
 use Rattle.run_merge.specs.ObjectsByName.{get}

@@ -14,7 +14,7 @@ use Rattle.object_things.specs.Tallies.{TallyServes, TallyLooks}
 use Rattle.object_things.specs.Histories.{Call, drawn_in, LeadDrawn}
 use Rattle.object_things.specs.Stamps.{ThingState, StepOf}
 use Rattle.shared_objects.specs.Kinds.{ThingAt, serves_at, looks_at, answers_at}
-use Rattle.shared_objects.proofs.Drawn.{keeps}
+use Rattle.shared_objects.proofs.tickets.TicketsOfCalls.{keeps}
 use Rattle.run_merge.specs.Machines.{ServesAt, LeadsObject}
 use Rattle.run_merge.specs.Merging.{without_tickets}
 use Rattle.run_merge.specs.Products.{is_next_round}

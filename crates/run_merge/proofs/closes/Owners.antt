@@ -13,8 +13,8 @@ use Rattle.object_things.specs.Stamps.{ThingState}
 use Rattle.shared_objects.specs.Calls.{is_same_object}
 use Rattle.shared_objects.specs.Closes.{Returned, ClosesAs}
 use Rattle.shared_objects.specs.Kinds.{ThingAt}
-use Rattle.shared_objects.proofs.Naming.{same_self, same_is}
-use Rattle.shared_objects.proofs.Owners.{filter_there, logged, kept}
+use Rattle.shared_objects.proofs.SameNames.{same_self, same_is}
+use Rattle.shared_objects.proofs.tickets.CallOwners.{filter_there, logged, kept}
 use Rattle.run_merge.proofs.closes.Walks.{AskSome}
 
 pub or_first : (a b : Bool) → (a || b) ≡ false → a ≡ false

@@ -12,7 +12,7 @@ use Rattle.object_things.specs.Histories.{Call}
 use Rattle.shared_objects.specs.Calls.{calls_to, is_same_object}
 use Rattle.shared_objects.specs.Names.{Apart}
 use Rattle.shared_objects.specs.Logs.{events_in}
-use Rattle.shared_objects.proofs.Naming.{same_is}
+use Rattle.shared_objects.proofs.SameNames.{same_is}
 use Rattle.run_merge.specs.Merging.{Ticketed, insert, sorted, RiseFrom, all_of, done_by}
 use Rattle.run_merge.specs.SharedObjects.{ticketed}
 use Rattle.run_merge.proofs.closes.Drawn.{events_told, events_untold, rises_above}

@@ -20,7 +20,7 @@ use Rattle.object_things.specs.Stamps.{ThingState, StepOf, is_spent}
 use Rattle.object_things.specs.Tallies.{TallyServes, TallyLooks}
 use Rattle.shared_objects.specs.Kinds.{ThingAt, serves_at, looks_at, answers_at}
 use Rattle.shared_objects.specs.Logs.{is_stop, FoundNone}
-use Rattle.shared_objects.proofs.Owners.{first_there}
+use Rattle.shared_objects.proofs.tickets.CallOwners.{first_there}
 
 -- a look that finds a ticket, or needs none, leaves the object with as many
 pool_keeps : (old new : ThingState LedgerPool) (asked : Request) (reply : Reply) → PoolLooks old asked reply new → is_spent reply ≡ false → new.spent ≡ old.spent

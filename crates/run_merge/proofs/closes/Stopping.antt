@@ -18,8 +18,8 @@ use Rattle.shared_objects.specs.Closes.{Returned, ClosesAs}
 use Rattle.shared_objects.specs.Kinds.{ThingAt, serves_at, looks_at, opened_at, unasked}
 use Rattle.shared_objects.specs.Logs.{HasStopped}
 use Rattle.shared_objects.specs.Passes.{found_by, numbers_of}
-use Rattle.shared_objects.proofs.Drawn.{last_drawn, keeps}
-use Rattle.shared_objects.proofs.Owners.{first_there, logged, kept, IsInPlace, in_place}
+use Rattle.shared_objects.proofs.tickets.TicketsOfCalls.{last_drawn, keeps}
+use Rattle.shared_objects.proofs.tickets.CallOwners.{first_there, logged, kept, IsInPlace, in_place}
 use Rattle.run_merge.specs.Closing.{IsThrough, WasRefused, HasLast}
 use Rattle.run_merge.specs.Machines.{ServesAt, TallyMachine, LeadsObject}
 use Rattle.run_merge.specs.Merging.{Ticketed, without_tickets, done_by}

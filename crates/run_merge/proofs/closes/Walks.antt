@@ -10,8 +10,8 @@ use Rattle.run_machine.specs.Tasks.{TaskState, request, look_of, answered, is_br
 use Rattle.object_things.specs.Histories.{Call}
 use Rattle.shared_objects.specs.Calls.{struck}
 use Rattle.shared_objects.specs.Logs.{is_event, is_stop, events_in, Looked, LogLeads}
-use Rattle.shared_objects.proofs.Leading.{event_first, kinds, quiet_first, stop_kind}
-use Rattle.shared_objects.proofs.Breaking.{broken_rests}
+use Rattle.shared_objects.proofs.logs.CallsLead.{event_first, kinds, quiet_first, stop_kind}
+use Rattle.shared_objects.proofs.steps.BrokenRests.{broken_rests}
 use Rattle.run_merge.specs.Merging.{Ticketed, without_tickets}
 use Rattle.run_merge.specs.Products.{LeadsTask, led_by}
 use Rattle.run_merge.specs.SharedObjects.{ticketed}

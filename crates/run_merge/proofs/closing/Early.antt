@@ -11,7 +11,7 @@ use Rattle.run_machine.specs.Runs.{State}
 use Rattle.run_machine.specs.Tasks.{TaskState, look_of}
 use Rattle.shared_objects.specs.Calls.{is_same_object}
 use Rattle.shared_objects.specs.Logs.{is_event}
-use Rattle.shared_objects.proofs.Naming.{same_is}
+use Rattle.shared_objects.proofs.SameNames.{same_is}
 use Rattle.run_merge.specs.Machines.{LeadsObject}
 use Rattle.run_merge.specs.Merging.{Ticketed, Histories, without_tickets, sorted, RiseFrom, all_of, history_of, AreOfDifferentObjects, AreTagged, done_by, LetsAsk, Shown}
 use Rattle.run_merge.specs.ObjectsByName.{StateAt, get, put_object, made_of}

@@ -18,7 +18,7 @@ use Rattle.shared_objects.specs.Rows.{Abreast}
 use Rattle.shared_objects.specs.declared.closed.Closed.{Closed}
 use Rattle.shared_objects.specs.declared.closed.ClosedTask.{ClosedTask}
 use Rattle.shared_objects.specs.declared.noted.Noted.{Noted}
-use Rattle.shared_objects.proofs.Noting.{whole_notes}
+use Rattle.shared_objects.proofs.logs.StepNotes.{whole_notes}
 use Rattle.run_merge.specs.Joining.{IsJoined}
 use Rattle.run_merge.specs.Listing.{IsList, WholeRises, list_in, AreWhole, noted_in}
 use Rattle.run_merge.specs.Merging.{without_tickets, sorted, all_of}

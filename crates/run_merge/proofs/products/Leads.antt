@@ -23,7 +23,7 @@ use Rattle.block_core.specs.Scenarios.{IsScenario, IsNaming}
 use Rattle.block_core.proofs.moves.Sums.{below_or}
 use Rattle.shared_objects.specs.Calls.{is_same_object, struck}
 use Rattle.shared_objects.specs.Logs.{is_event}
-use Rattle.shared_objects.proofs.Naming.{same_is, same_self}
+use Rattle.shared_objects.proofs.SameNames.{same_is, same_self}
 use Rattle.run_merge.specs.Entries.{Entry, AreEvents}
 use Rattle.run_merge.specs.Machines.{ServesAt, LeadsObject, entries_at}
 use Rattle.run_merge.specs.ObjectsByName.{StateAt, get, put_object}

@@ -16,7 +16,7 @@ use Rattle.run_machine.proofs.Frames.{upd_same, upd_other}
 use Rattle.block_core.specs.Scenarios.{IsScenario, IsNaming}
 use Rattle.shared_objects.specs.Calls.{is_same_object, struck}
 use Rattle.shared_objects.specs.Logs.{is_event}
-use Rattle.shared_objects.proofs.Naming.{same_is}
+use Rattle.shared_objects.proofs.SameNames.{same_is}
 use Rattle.run_merge.specs.Entries.{Entry, AreEvents, entries_in}
 use Rattle.run_merge.specs.Machines.{ServesAt, LeadsObject, entries_at}
 use Rattle.run_merge.specs.ObjectsByName.{get}

@@ -5,8 +5,8 @@ use Rattle.std.specs.List.Sorted.{IsNonDecreasingBy}
 use Rattle.std.proofs.lemmas.Bool.{eq-eqb, eqb-false}
 use Rattle.std.proofs.lemmas.List.Elements.{All-head, All-tail, All-cons, All-nil, All-map, All-contains, Contains-append_right}
 use Rattle.std.proofs.lemmas.List.Sums.{sum_by-cons}
-use Rattle.shared_objects.proofs.Drawn.{map_there}
-use Rattle.shared_objects.proofs.Owners.{first_there}
+use Rattle.shared_objects.proofs.tickets.TicketsOfCalls.{map_there}
+use Rattle.shared_objects.proofs.tickets.CallOwners.{first_there}
 
 -- how often a number stands in a list
 abbrev pub is_hit : ℕ → ℕ → ℕ

@@ -21,7 +21,7 @@ use Rattle.shared_objects.specs.Closes.{Returned, ClosesAs}
 use Rattle.shared_objects.specs.Kinds.{ThingAt}
 use Rattle.shared_objects.specs.Logs.{tickets_in}
 use Rattle.shared_objects.specs.Passes.{numbers_of}
-use Rattle.shared_objects.proofs.Drawn.{drawn_of, drew_of, numbers_is}
+use Rattle.shared_objects.proofs.tickets.TicketsOfCalls.{drawn_of, drew_of, numbers_is}
 use Rattle.run_merge.specs.Merging.{Ticketed, sorted, all_of}
 use Rattle.run_merge.specs.SharedObjects.{ticketed}
 use Rattle.run_merge.proofs.closes.Counting.{done_at, image_at, all_placed, log_drew}

@@ -26,8 +26,8 @@ use Rattle.shared_objects.specs.Closes.{Returned, ClosesAs}
 use Rattle.shared_objects.specs.Kinds.{ThingAt, opened_at, unasked}
 use Rattle.shared_objects.specs.Logs.{is_event, events_in}
 use Rattle.shared_objects.specs.Noting.{notes_of}
-use Rattle.shared_objects.proofs.Drawn.{flat_there}
-use Rattle.shared_objects.proofs.Owners.{logged}
+use Rattle.shared_objects.proofs.tickets.TicketsOfCalls.{flat_there}
+use Rattle.shared_objects.proofs.tickets.CallOwners.{logged}
 use Rattle.run_merge.specs.Entries.{Entry, AreEvents, entries_in}
 use Rattle.run_merge.specs.Joining.{IsJoined}
 use Rattle.run_merge.specs.Merging.{Ticketed, all_of, done_by, without_tickets, sorted}

@@ -17,7 +17,7 @@ use Rattle.run_machine.proofs.Frames.{upd_same, upd_other}
 use Rattle.object_things.specs.Histories.{Call, or_last}
 use Rattle.shared_objects.specs.Logs.{is_event, is_stop, LogLeads}
 use Rattle.shared_objects.specs.Noting.{noted_as, notes_of}
-use Rattle.shared_objects.proofs.Leading.{kinds, stop_kind}
+use Rattle.shared_objects.proofs.logs.CallsLead.{kinds, stop_kind}
 use Rattle.run_merge.specs.Entries.{Entry, entries_in}
 use Rattle.run_merge.specs.Merging.{Ticketed, without_tickets}
 use Rattle.run_merge.specs.SharedObjects.{ticketed}

@@ -64,7 +64,7 @@ impl<'a, R: Wait> Caller<'a, R> {
     }
 
     // Sets the reserve of a set's pool of bios, where nothing of it is out.
-    #[tactic(auto, using(crate::proofs::Takes::set_has_pool))]
+    #[tactic(auto, using(crate::proofs::asking::PoolReplies::set_has_pool))]
     fn resize_bios(&mut self, set: SetId, min: u32) -> Result<u64, Unmade>
         requires holds { DeskHolds self.old.locks.now self.old.seats.now }
         requires fits { RequestFits (stage_at self.old.locks.now) (Resize (bios_of set) min) }
@@ -99,7 +99,7 @@ impl<'a, R: Wait> Caller<'a, R> {
     }
 
     // The same of the pool of a mirror's records.
-    #[tactic(auto, using(crate::proofs::Takes::mirror_is_pool))]
+    #[tactic(auto, using(crate::proofs::asking::PoolReplies::mirror_is_pool))]
     fn resize_records(&mut self, dev: DevId, min: u32) -> Result<u64, Unmade>
         requires holds { DeskHolds self.old.locks.now self.old.seats.now }
         requires fits { RequestFits (stage_at self.old.locks.now) (Resize (Records dev) min) }
@@ -129,7 +129,7 @@ impl<'a, R: Wait> Objects for Caller<'a, R> {
 
     ghost picks = { λ caller. DeskPicks };
 
-    #[tactic(auto, using(crate::proofs::Takes::take_named, crate::proofs::Takes::bios_waits, crate::proofs::Takes::set_is_pool, crate::proofs::Takes::bio_served, crate::proofs::Takes::bio_owed, crate::proofs::Takes::bio_clear, crate::proofs::Takes::back_none, crate::proofs::Takes::desk_numbered))]
+    #[tactic(auto, using(crate::proofs::asking::PoolReplies::take_named, crate::proofs::asking::PoolReplies::bios_waits, crate::proofs::asking::PoolReplies::set_is_pool, crate::proofs::asking::PoolReplies::bio_served, crate::proofs::asking::PoolReplies::bio_owed, crate::proofs::asking::PoolReplies::bio_clear, crate::proofs::asking::PoolReplies::back_none, crate::proofs::asking::PoolReplies::desk_numbered))]
     #[inline(never)] // of what is asked here the lock and the object have one arm, and callers have no copy of it
     fn take_bio(&mut self, set: SetId, waits: bool) -> Result<Taken<BioBody<Pad>>, Unmade> {
         let pool = bios_of(set);
@@ -139,7 +139,7 @@ impl<'a, R: Wait> Objects for Caller<'a, R> {
         }
     }
 
-    #[tactic(auto, using(crate::proofs::Takes::vec_served, crate::proofs::Takes::vec_owed, crate::proofs::Takes::back_none, crate::proofs::Takes::desk_numbered))]
+    #[tactic(auto, using(crate::proofs::asking::PoolReplies::vec_served, crate::proofs::asking::PoolReplies::vec_owed, crate::proofs::asking::PoolReplies::back_none, crate::proofs::asking::PoolReplies::desk_numbered))]
     fn take_vec(&mut self) -> Result<Taken<Vector>, Unmade> {
         let pool = PoolId::FsVecs;
         match self.ask_vecs(PoolAsk::Take { pool, waits: true }) {
@@ -148,7 +148,7 @@ impl<'a, R: Wait> Objects for Caller<'a, R> {
         }
     }
 
-    #[tactic(auto, using(crate::proofs::Takes::mirror_is_pool, crate::proofs::Takes::slip_served, crate::proofs::Takes::slip_owed, crate::proofs::Takes::back_none, crate::proofs::Takes::desk_numbered))]
+    #[tactic(auto, using(crate::proofs::asking::PoolReplies::mirror_is_pool, crate::proofs::asking::PoolReplies::slip_served, crate::proofs::asking::PoolReplies::slip_owed, crate::proofs::asking::PoolReplies::back_none, crate::proofs::asking::PoolReplies::desk_numbered))]
     #[inline(never)] // as `take_bio`
     fn take_slip(&mut self, dev: DevId) -> Result<Taken<Slip>, Unmade> {
         let pool = PoolId::Records(dev);

@@ -1,7 +1,7 @@
 use Rattle.std.proofs.Common.{◌++◌, [], ◌∷◌, sym, subst}
 use Rattle.std.specs.Prelude.{All}
 use Rattle.std.proofs.lemmas.List.Elements.{All-nil}
-use Rattle.shared_objects.proofs.Guarding.{next_of, others_of}
+use Rattle.shared_objects.proofs.row_lemmas.MadeOneByOne.{next_of, others_of}
 use Rattle.run_merge.specs.Listing.{AreWholeLists}
 use Rattle.run_merge.proofs.tracing.Lists.{ListRises, TaskRises, no_lists, one_more, rises_more}
 use Rattle.run_merge.proofs.trace.lists_of.Goals as goal

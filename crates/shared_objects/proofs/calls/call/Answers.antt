@@ -1,6 +1,6 @@
 use Rattle.std.proofs.Common.{rules, ◌≡◌, ◌∙◌, sym, refl}
 use Rattle.shared_objects.specs.Calling.{HasAsked}
-use Rattle.shared_objects.proofs.Knowing.{only_seen}
+use Rattle.shared_objects.proofs.asking.OnlySeen.{only_seen}
 use Rattle.shared_objects.proofs.calls.call.Goals as goal
 
 pub returns-clause-asked : goal.returns-clause-asked

@@ -1,6 +1,6 @@
 use Rattle.std.proofs.Common.{rules, arith, ◌≡◌, ◌<◌, ◌++◌, ◌∷◌, [], length, vec_capacity}
 use Rattle.shared_objects.specs.Rows.{IsAt, CanClose}
-use Rattle.shared_objects.proofs.Pairs.{none_taken, pair_abreast, other_so, has_room, one_taken, all_taken}
+use Rattle.shared_objects.proofs.row_lemmas.PairedRows.{none_taken, pair_abreast, other_so, has_room, one_taken, all_taken}
 use Rattle.shared_objects.proofs.closing.close_disks.Goals as goal
 
 pub closing-init : goal.closing-init

@@ -1,6 +1,6 @@
 use Rattle.std.proofs.Common.{◌≤◌, vec_capacity}
 use Rattle.shared_objects.specs.Shutting.{IsShutDisk}
-use Rattle.shared_objects.proofs.Pairs.{Taken}
+use Rattle.shared_objects.proofs.row_lemmas.PairedRows.{Taken}
 use Rattle.shared_objects.proofs.closing.close_disks.Given as goal
 
 abbrev pub invariant-closing : goal.invariant-closing

@@ -3,7 +3,7 @@ use Rattle.object_things.specs.Lists.{ListAnswers, list_mark}
 use Rattle.object_things.specs.Books.{BookAnswers, book_mark}
 use Rattle.shared_objects.specs.Rows.{IsShutAt}
 use Rattle.shared_objects.specs.Shutting.{thing_of}
-use Rattle.shared_objects.proofs.Shutting.{all_added, shut_disks}
+use Rattle.shared_objects.proofs.leaving.LeftRows.{all_added, shut_disks}
 use Rattle.shared_objects.proofs.closing.close_locks.Goals as goal
 
 pub returns-clause-shut : goal.returns-clause-shut

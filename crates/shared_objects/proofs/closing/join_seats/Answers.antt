@@ -1,5 +1,5 @@
 use Rattle.std.proofs.Common.{rules}
-use Rattle.shared_objects.proofs.Joining.{of_row, others_of}
+use Rattle.shared_objects.proofs.leaving.JoinedSeats.{of_row, others_of}
 use Rattle.shared_objects.proofs.closing.join_seats.Goals as goal
 
 pub join_row-requires-clause-others : goal.join_row-requires-clause-others

@@ -1,7 +1,7 @@
 use Rattle.std.proofs.Common.{rules, arith, ◌≡◌, ◌<◌, ◌++◌, ◌∷◌, [], length, vec_capacity, Some, sym, ◌∙◌, ap, subst}
 use Rattle.shared_objects.specs.Joining.{ArePutAway, IsHereOf}
-use Rattle.shared_objects.proofs.Joining.{none_put_away, one_put_away, as_many}
-use Rattle.shared_objects.proofs.Places.{in_list, next_is, part_more}
+use Rattle.shared_objects.proofs.leaving.JoinedSeats.{none_put_away, one_put_away, as_many}
+use Rattle.shared_objects.proofs.row_lemmas.GrowingRows.{in_list, next_is, part_more}
 use Rattle.shared_objects.proofs.closing.join_tasks.Goals as goal
 
 pub joining-init : goal.joining-init

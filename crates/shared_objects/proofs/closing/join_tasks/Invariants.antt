@@ -1,6 +1,6 @@
 use Rattle.std.proofs.Common.{◌≤◌, length, vec_capacity}
 use Rattle.shared_objects.specs.Joining.{ArePutAway}
-use Rattle.shared_objects.proofs.Places.{Part}
+use Rattle.shared_objects.proofs.row_lemmas.GrowingRows.{Part}
 use Rattle.shared_objects.proofs.closing.join_tasks.Given as goal
 
 abbrev pub invariant-joining : goal.invariant-joining

@@ -1,4 +1,4 @@
-use Rattle.shared_objects.proofs.Logging.{one_call}
+use Rattle.shared_objects.proofs.logs.OneMoreCall.{one_call}
 use Rattle.shared_objects.proofs.laws.calls_are_logged.Goals as goal
 
 -- src/laws.rt

@@ -1,4 +1,4 @@
-use Rattle.shared_objects.proofs.Tickets.{closes_show_tickets}
+use Rattle.shared_objects.proofs.tickets.CloseTickets.{closes_show_tickets}
 use Rattle.shared_objects.proofs.laws.closes_show_tickets.Goals as goal
 
 pub returns : goal.returns

@@ -1,4 +1,4 @@
-use Rattle.shared_objects.proofs.Leading.{logs_lead}
+use Rattle.shared_objects.proofs.logs.CallsLead.{logs_lead}
 use Rattle.shared_objects.proofs.laws.logs_lead.Goals as goal
 
 -- src/laws.rt

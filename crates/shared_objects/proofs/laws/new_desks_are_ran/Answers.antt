@@ -1,4 +1,4 @@
-use Rattle.shared_objects.proofs.Running.{new_desks_are_ran}
+use Rattle.shared_objects.proofs.logs.StepKeeps.{new_desks_are_ran}
 use Rattle.shared_objects.proofs.laws.new_desks_are_ran.Goals as goal
 
 -- src/laws.rt

@@ -1,4 +1,4 @@
-use Rattle.shared_objects.proofs.Stepping.{steps_are_logged}
+use Rattle.shared_objects.proofs.logs.StepCalls.{steps_are_logged}
 use Rattle.shared_objects.proofs.laws.steps_are_logged.Goals as goal
 
 -- src/laws.rt

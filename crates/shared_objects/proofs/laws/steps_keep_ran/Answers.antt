@@ -1,4 +1,4 @@
-use Rattle.shared_objects.proofs.Running.{steps_keep_ran}
+use Rattle.shared_objects.proofs.logs.StepKeeps.{steps_keep_ran}
 use Rattle.shared_objects.proofs.laws.steps_keep_ran.Goals as goal
 
 -- src/laws.rt

@@ -3,10 +3,10 @@ use Rattle.object_things.specs.Stamps.{CommonState}
 use Rattle.shared_objects.specs.Opening.{AreFirst, AreTasksAt, CanShare, IsRoomWith, IsTaskFor}
 use Rattle.shared_objects.specs.Sharing.{AreOfOpened}
 use Rattle.shared_objects.specs.Rans.{most_tasks}
-use Rattle.shared_objects.proofs.FewTasks.{few_tasks}
-use Rattle.shared_objects.proofs.JustShared.{shared_holds, tasks_for}
-use Rattle.shared_objects.proofs.Locking.{locks_hold}
-use Rattle.shared_objects.proofs.OpenedRows.{can_share}
+use Rattle.shared_objects.proofs.sharing.FewTasks.{few_tasks}
+use Rattle.shared_objects.proofs.sharing.JustShared.{shared_holds, tasks_for}
+use Rattle.shared_objects.proofs.sharing.LocksOfOpened.{locks_hold}
+use Rattle.shared_objects.proofs.sharing.OpenedRows.{can_share}
 use Rattle.shared_objects.proofs.opening.share.Goals as goal
 
 pub lock_objects-requires-clause-can : goal.lock_objects-requires-clause-can

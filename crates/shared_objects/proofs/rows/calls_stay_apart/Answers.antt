@@ -1,4 +1,4 @@
-use Rattle.shared_objects.proofs.Taking.{stay_apart}
+use Rattle.shared_objects.proofs.row_lemmas.SplitAndJoined.{stay_apart}
 use Rattle.shared_objects.proofs.rows.calls_stay_apart.Goals as goal
 
 pub returns : goal.returns

@@ -1,6 +1,6 @@
 use Rattle.std.proofs.Common.{◌≤◌, vec_capacity}
 use Rattle.shared_objects.specs.Rows.{IsShutAt}
-use Rattle.shared_objects.proofs.Pairs.{Taken}
+use Rattle.shared_objects.proofs.row_lemmas.PairedRows.{Taken}
 use Rattle.shared_objects.proofs.rows.close_row.Given as goal
 
 abbrev pub invariant-closing : goal.invariant-closing

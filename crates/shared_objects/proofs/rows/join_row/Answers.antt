@@ -1,7 +1,7 @@
 use Rattle.std.proofs.Common.{arith, ◌≡◌, ◌+◌, ◌++◌, ◌∷◌, [], length, ap, ◌∙◌}
 use Rattle.std.proofs.lemmas.List.{length-append}
 use Rattle.shared_objects.specs.Rows.{AreChanged, IsAt, IsOther, IsJoined}
-use Rattle.shared_objects.proofs.Places.{was_abreast, changes_here, news_are, next_so, next_abreast, in_rows, part_more, part_all}
+use Rattle.shared_objects.proofs.row_lemmas.GrowingRows.{was_abreast, changes_here, news_are, next_so, next_abreast, in_rows, part_more, part_all}
 use Rattle.shared_objects.proofs.rows.join_row.Goals as goal
 
 pub join_one-requires-clause-of : goal.join_one-requires-clause-of

@@ -1,6 +1,6 @@
 use Rattle.std.proofs.Common.{◌≡◌, length}
 use Rattle.shared_objects.specs.Rows.{AreChanged, IsJoined}
-use Rattle.shared_objects.proofs.Places.{Part}
+use Rattle.shared_objects.proofs.row_lemmas.GrowingRows.{Part}
 use Rattle.shared_objects.proofs.rows.join_row.Given as goal
 
 abbrev pub invariant-joining : goal.invariant-joining

@@ -1,6 +1,6 @@
 use Rattle.std.proofs.Common.{rules, arith, ◌≡◌, ◌++◌, ◌∷◌, [], sym, subst}
 use Rattle.shared_objects.specs.Rows.{AbreastThree, IsOpened}
-use Rattle.shared_objects.proofs.Places.{three_more, part_more, part_all}
+use Rattle.shared_objects.proofs.row_lemmas.GrowingRows.{three_more, part_more, part_all}
 use Rattle.shared_objects.proofs.rows.open_row.Goals as goal
 
 pub opening-preserved : goal.opening-preserved

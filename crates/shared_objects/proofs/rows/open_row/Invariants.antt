@@ -1,5 +1,5 @@
 use Rattle.shared_objects.specs.Rows.{AbreastThree, IsOpened}
-use Rattle.shared_objects.proofs.Places.{Part}
+use Rattle.shared_objects.proofs.row_lemmas.GrowingRows.{Part}
 use Rattle.shared_objects.proofs.rows.open_row.Given as goal
 
 abbrev pub invariant-opening : goal.invariant-opening

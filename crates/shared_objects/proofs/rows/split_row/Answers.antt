@@ -1,6 +1,6 @@
 use Rattle.std.proofs.Common.{rules, arith, ◌≡◌, ◌++◌, ◌∷◌, [], sym, subst, set}
 use Rattle.shared_objects.specs.Rows.{AreChanged, IsAt, CanSplit, IsSplit}
-use Rattle.shared_objects.proofs.Places.{was_abreast, was_so, changes_here, news_are, others_are}
+use Rattle.shared_objects.proofs.row_lemmas.GrowingRows.{was_abreast, was_so, changes_here, news_are, others_are}
 use Rattle.shared_objects.proofs.rows.split_row.Goals as goal
 
 pub split_one-seat-requires-clause-of : goal.split_one-seat-requires-clause-of

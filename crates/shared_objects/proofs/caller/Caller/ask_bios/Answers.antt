@@ -1,5 +1,5 @@
 use Rattle.std.proofs.Common.{rules}
-use Rattle.shared_objects.proofs.DeskedPools.{bios_seated, bios_fits, bios_called, bios_holds, bios_says}
+use Rattle.shared_objects.proofs.asking.PoolCalls.{bios_seated, bios_fits, bios_called, bios_holds, bios_says}
 use Rattle.shared_objects.proofs.caller.Caller.ask_bios.Goals as goal
 
 pub call_at-requires-clause-seated : goal.call_at-requires-clause-seated

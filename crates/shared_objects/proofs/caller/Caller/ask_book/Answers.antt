@@ -1,5 +1,5 @@
 use Rattle.std.proofs.Common.{rules}
-use Rattle.shared_objects.proofs.Desked.{book_seated, book_fits, book_called, book_holds, book_owed, book_says}
+use Rattle.shared_objects.proofs.asking.ObjectCalls.{book_seated, book_fits, book_called, book_holds, book_owed, book_says}
 use Rattle.shared_objects.proofs.caller.Caller.ask_book.Goals as goal
 
 pub call_at-requires-clause-seated : goal.call_at-requires-clause-seated

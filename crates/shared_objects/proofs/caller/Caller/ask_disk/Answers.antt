@@ -1,5 +1,5 @@
 use Rattle.std.proofs.Common.{rules}
-use Rattle.shared_objects.proofs.Desked.{disk_seated, disk_fits, disk_called, disk_holds, disk_says}
+use Rattle.shared_objects.proofs.asking.ObjectCalls.{disk_seated, disk_fits, disk_called, disk_holds, disk_says}
 use Rattle.shared_objects.proofs.caller.Caller.ask_disk.Goals as goal
 
 pub call_at-requires-clause-seated : goal.call_at-requires-clause-seated

@@ -1,5 +1,5 @@
 use Rattle.std.proofs.Common.{rules}
-use Rattle.shared_objects.proofs.Desked.{list_seated, list_fits, list_called, list_holds, list_owed, list_says}
+use Rattle.shared_objects.proofs.asking.ObjectCalls.{list_seated, list_fits, list_called, list_holds, list_owed, list_says}
 use Rattle.shared_objects.proofs.caller.Caller.ask_list.Goals as goal
 
 pub call_at-requires-clause-seated : goal.call_at-requires-clause-seated

@@ -1,5 +1,5 @@
 use Rattle.std.proofs.Common.{rules}
-use Rattle.shared_objects.proofs.DeskedPools.{slips_seated, slips_fits, slips_called, slips_holds, slips_says}
+use Rattle.shared_objects.proofs.asking.PoolCalls.{slips_seated, slips_fits, slips_called, slips_holds, slips_says}
 use Rattle.shared_objects.proofs.caller.Caller.ask_records.Goals as goal
 
 pub call_at-requires-clause-seated : goal.call_at-requires-clause-seated

@@ -1,5 +1,5 @@
 use Rattle.std.proofs.Common.{rules}
-use Rattle.shared_objects.proofs.Desked.{tally_fits, tally_called, tally_holds, tally_owed, tally_says}
+use Rattle.shared_objects.proofs.asking.ObjectCalls.{tally_fits, tally_called, tally_holds, tally_owed, tally_says}
 use Rattle.shared_objects.proofs.caller.Caller.ask_tally.Goals as goal
 
 pub call-requires-clause-fits : goal.call-requires-clause-fits

@@ -1,5 +1,5 @@
 use Rattle.std.proofs.Common.{rules}
-use Rattle.shared_objects.proofs.DeskedPools.{vecs_fits, vecs_called, vecs_holds, vecs_says}
+use Rattle.shared_objects.proofs.asking.PoolCalls.{vecs_fits, vecs_called, vecs_holds, vecs_says}
 use Rattle.shared_objects.proofs.caller.Caller.ask_vecs.Goals as goal
 
 pub call-requires-clause-fits : goal.call-requires-clause-fits

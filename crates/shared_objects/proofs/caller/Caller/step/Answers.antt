@@ -3,7 +3,7 @@ use Rattle.task_steps.specs.Stage.{Owes}
 use Rattle.task_steps.specs.Routed.{routing_setup}
 use Rattle.shared_objects.specs.Desks.{DeskServes}
 use Rattle.shared_objects.specs.Holding.{desk_of, stage_at}
-use Rattle.shared_objects.proofs.Turning.{turns_keep, turns_seen}
+use Rattle.shared_objects.proofs.steps.TurnsSeen.{turns_keep, turns_seen}
 use Rattle.shared_objects.proofs.caller.Caller.step.Goals as goal
 
 -- src/caller/steps.rt

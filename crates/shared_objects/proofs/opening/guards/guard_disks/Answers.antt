@@ -7,7 +7,7 @@ use Rattle.object_things.specs.Stamps.{stage_in}
 use Rattle.shared_objects.specs.Guards.{guarded}
 use Rattle.shared_objects.specs.Opening.{guarded_row}
 use Rattle.shared_objects.specs.Sharing.{disks_by_device}
-use Rattle.shared_objects.proofs.Guarding.{next_of, others_of, one_made}
+use Rattle.shared_objects.proofs.row_lemmas.MadeOneByOne.{next_of, others_of, one_made}
 use Rattle.shared_objects.proofs.opening.guards.guard_disks.Goals as goal
 
 pub guarding-init : goal.guarding-init

@@ -2,7 +2,7 @@ use Rattle.std.proofs.Common.{rules, ◌≡◌, ◌++◌, ◌∷◌, [], All, ap
 use Rattle.task_steps.specs.Stage.{AreServed}
 use Rattle.object_things.specs.Stamps.{stage_in}
 use Rattle.shared_objects.specs.Guards.{guarded}
-use Rattle.shared_objects.proofs.Guarding.{next_of, others_of, one_made}
+use Rattle.shared_objects.proofs.row_lemmas.MadeOneByOne.{next_of, others_of, one_made}
 use Rattle.shared_objects.proofs.opening.guards.guard_lists.Goals as goal
 
 pub guarding-init : goal.guarding-init

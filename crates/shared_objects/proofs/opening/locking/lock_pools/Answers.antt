@@ -1,7 +1,7 @@
 use Rattle.std.proofs.lemmas.Result.{IfOk-weaker}
 use Rattle.shared_objects.specs.Guards.{guarded}
 use Rattle.shared_objects.specs.Sharing.{AreRound}
-use Rattle.shared_objects.proofs.FirstSeats.{round_objects}
+use Rattle.shared_objects.proofs.sharing.FirstSeats.{round_objects}
 use Rattle.shared_objects.proofs.opening.locking.lock_pools.Goals as goal
 
 pub returns-clause-round : goal.returns-clause-round

@@ -2,7 +2,7 @@ use Rattle.std.proofs.lemmas.Result.{IfOk-weaker}
 use Rattle.shared_objects.specs.Opening.{IsFirstAt}
 use Rattle.shared_objects.specs.Rows.{Abreast, AbreastThree, IsOpened}
 use Rattle.shared_objects.specs.Sharing.{AreRound}
-use Rattle.shared_objects.proofs.FirstSeats.{firsts_of, round_things}
+use Rattle.shared_objects.proofs.sharing.FirstSeats.{firsts_of, round_things}
 use Rattle.shared_objects.proofs.opening.locking.lock_row.Goals as goal
 
 pub returns-clause-round : goal.returns-clause-round

@@ -1,5 +1,5 @@
 use Rattle.std.proofs.Common.{rules}
-use Rattle.shared_objects.proofs.NewDesks.{desk_holds, new_desk, other_pass, task_is}
+use Rattle.shared_objects.proofs.sharing.NewDesks.{desk_holds, new_desk, other_pass, task_is}
 use Rattle.shared_objects.proofs.opening.splitting.share_task.Goals as goal
 
 pub new-requires-clause-desk : goal.new-requires-clause-desk

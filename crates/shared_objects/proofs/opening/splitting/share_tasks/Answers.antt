@@ -1,6 +1,6 @@
 use Rattle.std.proofs.Common.{rules, arith, ◌≡◌, ◌++◌, ◌∷◌, [], Some, refl, sym, ap, subst, ◌∙◌}
 use Rattle.shared_objects.specs.Opening.{AreTasksAt}
-use Rattle.shared_objects.proofs.TaskRows.{Standing, no_tasks, task_for, few_before, stands_too, all_stand, all_split}
+use Rattle.shared_objects.proofs.sharing.TaskRows.{Standing, no_tasks, task_for, few_before, stands_too, all_stand, all_split}
 use Rattle.shared_objects.proofs.opening.splitting.share_tasks.Goals as goal
 
 pub sharing-init : goal.sharing-init

@@ -1,5 +1,5 @@
 use Rattle.shared_objects.specs.Opening.{AreFirst}
-use Rattle.shared_objects.proofs.TaskRows.{Standing}
+use Rattle.shared_objects.proofs.sharing.TaskRows.{Standing}
 use Rattle.shared_objects.proofs.opening.splitting.share_tasks.Given as goal
 
 abbrev pub invariant-sharing : goal.invariant-sharing

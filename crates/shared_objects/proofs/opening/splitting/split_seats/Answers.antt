@@ -1,5 +1,5 @@
 use Rattle.std.proofs.Common.{rules, ◌≡◌, Some}
-use Rattle.shared_objects.proofs.Splitting.{can_split, first_now, firsts_now, pass_fresh, pass_more, seat_now, seats_now}
+use Rattle.shared_objects.proofs.sharing.SplitSeats.{can_split, first_now, firsts_now, pass_fresh, pass_more, seat_now, seats_now}
 use Rattle.shared_objects.proofs.opening.splitting.split_seats.Goals as goal
 
 pub split_row-requires-clause-few : goal.split_row-requires-clause-few

@@ -1,4 +1,4 @@
-use Rattle.shared_objects.proofs.Rans.{new_holds}
+use Rattle.shared_objects.proofs.logs.RanHolds.{new_holds}
 use Rattle.shared_objects.proofs.ran.Ran.new.Goals as goal
 
 -- src/ran.rt

@@ -1,7 +1,7 @@
 use Rattle.std.proofs.Common.{sym, ◌∙◌, ap, subst}
 use Rattle.shared_objects.specs.Noting.{NotesStep}
 use Rattle.shared_objects.specs.Rans.{ran_key}
-use Rattle.shared_objects.proofs.Rans.{calls_keep, calls_keep_number}
+use Rattle.shared_objects.proofs.logs.RanHolds.{calls_keep, calls_keep_number}
 use Rattle.shared_objects.proofs.ran.Ran.step.Goals as goal
 
 -- src/ran.rt

@@ -1,7 +1,7 @@
 use Rattle.std.proofs.Common.{length, sym, subst}
 use Rattle.shared_objects.specs.Joining.{ArePutAway}
-use Rattle.shared_objects.proofs.Ending.{are_here, can_end, has_closed}
-use Rattle.shared_objects.proofs.Tickets.{shows_its_tickets}
+use Rattle.shared_objects.proofs.leaving.CloseShows.{are_here, can_end, has_closed}
+use Rattle.shared_objects.proofs.tickets.CloseTickets.{shows_its_tickets}
 use Rattle.shared_objects.proofs.shared.Shared.close.Goals as goal
 
 pub join_tasks-requires-clause-here : goal.join_tasks-requires-clause-here

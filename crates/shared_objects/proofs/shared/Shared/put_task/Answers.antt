@@ -2,7 +2,7 @@ use Rattle.std.proofs.Common.{◌≡◌, ◌<◌, Some, arith, refl, sym, ap, su
 use Rattle.std.specs.Prelude.{slice_index_or, slice_set}
 use Rattle.shared_objects.specs.Rans.{ran_key}
 use Rattle.shared_objects.specs.Shared.{ran_key_at}
-use Rattle.shared_objects.proofs.Handing.{slot_holds}
+use Rattle.shared_objects.proofs.sharing.HandedOut.{slot_holds}
 use Rattle.shared_objects.proofs.shared.Shared.put_task.Goals as goal
 
 -- src/shared.rt

@@ -1,7 +1,7 @@
 use Rattle.std.proofs.Common.{◌≡◌, ◌<◌, length, None, arith, refl, sym, ap, subst}
 use Rattle.std.specs.Prelude.{slice_index_or, slice_set}
 use Rattle.std.proofs.lemmas.List.{length-set}
-use Rattle.shared_objects.proofs.Handing.{hands_out, slot_holds}
+use Rattle.shared_objects.proofs.sharing.HandedOut.{hands_out, slot_holds}
 use Rattle.shared_objects.proofs.shared.Shared.take_task.Goals as goal
 
 -- src/shared.rt

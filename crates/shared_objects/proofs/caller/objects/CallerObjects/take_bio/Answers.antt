@@ -4,7 +4,7 @@ use Rattle.task_steps.specs.Views.{took_bio}
 use Rattle.object_things.specs.Stamps.{or_unmade}
 use Rattle.shared_objects.specs.Desks.{HasCalled}
 use Rattle.shared_objects.specs.Holding.{desk_of, stage_at}
-use Rattle.shared_objects.proofs.Takes.{bio_served}
+use Rattle.shared_objects.proofs.asking.PoolReplies.{bio_served}
 use Rattle.shared_objects.proofs.caller.objects.CallerObjects.take_bio.Goals as goal
 
 pub returns-clause-serves : goal.returns-clause-serves

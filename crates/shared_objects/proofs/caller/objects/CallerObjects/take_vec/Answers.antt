@@ -4,7 +4,7 @@ use Rattle.task_steps.specs.Stage.{Owes}
 use Rattle.task_steps.specs.Views.{took_vec}
 use Rattle.object_things.specs.Stamps.{or_unmade}
 use Rattle.shared_objects.specs.Holding.{stage_at}
-use Rattle.shared_objects.proofs.Takes.{vec_owed}
+use Rattle.shared_objects.proofs.asking.PoolReplies.{vec_owed}
 use Rattle.shared_objects.proofs.caller.objects.CallerObjects.take_vec.Goals as goal
 
 pub returns-clause-owed : goal.returns-clause-owed

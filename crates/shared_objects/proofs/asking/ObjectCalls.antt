@@ -1,0 +1,255 @@
+-- What one call makes of what holds of a desk, and of the calls that its task has made: for books, disks, lists of rescuers and the tally.
+use Rattle.std.proofs.Common.{◌≡◌, ◌+◌, ◌++◌, ℕ, List, [], ◌∷◌, Option, sym, ap, subst}
+use Rattle.std.specs.Prelude.{IsTrue, slice_index_or}
+use Rattle.std.specs.Global.{Vec}
+use Rattle.tick_clock.specs.Tickets.{PassState}
+use Rattle.seat_lock.specs.Seats.{LockId, SeatState, IsOf}
+use Rattle.stack_base.specs.declared.ids.DevId.{DevId}
+use Rattle.run_machine.specs.Laws.{OfRescuer, OfDisk, OfBook, OfTally, object_of}
+use Rattle.run_machine.specs.Maps.{upd}
+use Rattle.run_machine.specs.Opened.{at}
+use Rattle.run_machine.specs.Requests.{Request}
+use Rattle.task_steps.specs.Stage.{RequestFits, Owes, has_book, has_disk, has_rescuer}
+use Rattle.object_things.specs.declared.book.BookThing.{BookThing}
+use Rattle.object_things.specs.declared.book.BookAsk.{BookAsk}
+use Rattle.object_things.specs.declared.book.BookSaid.{BookSaid}
+use Rattle.object_things.specs.declared.disk.DiskThing.{DiskThing}
+use Rattle.object_things.specs.declared.disk.DiskAsk.{DiskAsk}
+use Rattle.object_things.specs.declared.disk.DiskSaid.{DiskSaid}
+use Rattle.object_things.specs.declared.list.ListThing.{ListThing}
+use Rattle.object_things.specs.declared.list.ListAsk.{ListAsk}
+use Rattle.object_things.specs.declared.list.ListSaid.{ListSaid}
+use Rattle.object_things.specs.declared.stamp.Asking.{Asking}
+use Rattle.object_things.specs.declared.tally.TallyThing.{TallyThing}
+use Rattle.object_things.specs.declared.tally.TallyAsk.{TallyAsk}
+use Rattle.object_things.specs.declared.tally.TallySaid.{TallySaid}
+use Rattle.object_things.specs.Histories.{Call}
+use Rattle.object_things.specs.Stamps.{MarkState, Told, stage_in}
+use Rattle.object_things.specs.Books.{BookAskAlone, BookFits, BookOwes, BookSays, book_asked, book_mark, book_replied, book_told}
+use Rattle.object_things.specs.Disks.{DiskAskAlone, DiskFits, DiskOwes, DiskSays, disk_asked, disk_mark, disk_replied, disk_told}
+use Rattle.object_things.specs.Lists.{ListFits, ListOwes, ListSays, list_asked, list_mark, list_replied, list_told}
+use Rattle.object_things.specs.Tallies.{TallyFits, TallyOwes, TallySays, tally_asked, tally_mark, tally_replied, tally_told}
+use Rattle.shared_objects.specs.declared.locks.Locks.{Locks}
+use Rattle.shared_objects.specs.declared.seats.TaskSeats.{TaskSeats}
+use Rattle.shared_objects.specs.Calling.{AreSeatedAt, FitsWith, HasAsked, HasAskedAt}
+use Rattle.shared_objects.specs.Desks.{HasCalled}
+use Rattle.shared_objects.specs.Holding.{AreLocked, AreSeatsOf, DeskHolds, calls_in, calls_of, desk_of, dev_key, stage_at, writer_key}
+use Rattle.shared_objects.proofs.asking.PassAndCalls.{SeatCalls, fits_with, has_called, home_again, numbered_stays, owed_of, seat_calls}
+use Rattle.shared_objects.proofs.asking.RowCalls.{mark_as, row_call, row_calls, row_fits, row_owed, row_seats}
+use Rattle.shared_objects.proofs.asking.RowSeats.{seated_at}
+
+module _ (locks : Locks) (seats : TaskSeats) (holds : DeskHolds locks seats) where
+  -- books of writers
+  module _ (rows : List (ℕ × LockId BookThing)) (rows_are : rows ≡ locks.books.items) (n place : ℕ) (is : IsTrue (has_book (stage_at locks) n)) (there : place ≡ slice_index_or locks.index.books n 0) (ask : BookAsk)
+      (named : object_of (book_asked ask) ≡ OfBook n) where
+    book_locked : AreLocked writer_key book_mark OfBook locks.common.value (has_book (stage_at locks)) locks.index.books rows
+    book_locked = subst (AreLocked writer_key book_mark OfBook locks.common.value (has_book (stage_at locks)) locks.index.books) (sym rows_are) holds.locked.books
+
+    book_seats : AreSeatsOf seats.number rows seats.books.items
+    book_seats = subst (λ r. AreSeatsOf seats.number r seats.books.items) (sym rows_are) holds.seated.books
+
+    pub book_seated : AreSeatedAt rows seats.books.items place
+    book_seated = seated_at book_locked book_seats n place is there
+
+    pub book_fits : RequestFits (stage_at locks) (book_asked ask) → BookAskAlone ask → (lock : ℕ × LockId BookThing) → lock ≡ slice_index_or rows place lock
+        → FitsWith (BookFits (book_mark lock.1.key.value)) seats.pass ask
+    book_fits fits alone =
+        row_fits book_locked book_seats n place is there BookFits seats.pass ask holds.passed (λ pass clock. (clock, named, fits, alone))
+
+    module _ (said : BookSaid) (new : Vec (ℕ × SeatState BookThing Request Told)) (after : Option PassState)
+        (made : HasAskedAt (λ (asking : Asking BookAsk). book_asked asking.ask) book_told (λ (thing : BookThing). BookOwes (book_mark thing)) place
+        rows seats.books.items seats.pass ask said new.items after) where
+      abbrev with_book : TaskSeats
+      with_book = record seats { pass = after; books = new }
+
+      abbrev book_call : SeatCalls seats.number made.seat.1.known made.now.known seats.pass (book_asked ask) (book_replied said) after
+      book_call =
+          row_call book_locked book_seats n place is there book_asked book_replied BookOwes made (λ m asking replied owed. owed.pass)
+
+      book_calls : calls_in writer_key new.items ≡ upd (calls_in writer_key seats.books.items) n (calls_in writer_key seats.books.items n ++ record { by = seats.number + 1; asked = book_asked ask; told = book_call.told } ∷ [])
+      book_calls =
+          row_calls book_locked book_seats n place is there book_asked book_replied BookOwes made (λ m asking replied owed. owed.pass)
+
+      pub book_called : HasCalled (desk_of seats) (book_asked ask) (book_replied said) (desk_of with_book)
+      book_called = has_called (OfBook n) (calls_of seats) (calls_of with_book) named book_call (ap (λ (f : ℕ → List Call). record (calls_of seats) { book = f }) book_calls)
+
+      pub book_holds : DeskHolds locks with_book
+      book_holds = record {
+        locked = holds.locked;
+        seated = record {
+          bios = holds.seated.bios;
+          vecs = holds.seated.vecs;
+          records = holds.seated.records;
+          lists = holds.seated.lists;
+          disks = holds.seated.disks;
+          books = subst (λ r. AreSeatsOf seats.number r new.items) rows_are (row_seats book_locked book_seats n place is there book_asked book_replied BookOwes made);
+          tally = holds.seated.tally;
+        };
+        passed = home_again locks.common.value.clock book_call holds.passed;
+      }
+
+      pub book_owed : Owes (stage_at locks) (book_asked ask) (book_replied said)
+      book_owed =
+          row_owed book_locked book_seats n place is there book_asked book_replied BookOwes made
+          (λ m s. Owes (stage_in m.common) (book_asked ask) (book_replied s)) (λ m pass replied owed. owed.owed)
+
+      pub book_says : BookSays ask said
+      book_says =
+          row_owed book_locked book_seats n place is there book_asked book_replied BookOwes made
+          (λ m s. BookSays ask s) (λ m pass replied owed. owed.says)
+
+  -- disks
+  module _ (rows : List (DevId × LockId DiskThing)) (rows_are : rows ≡ locks.disks.items) (n place : ℕ) (is : IsTrue (has_disk (stage_at locks) (at n))) (there : place ≡ slice_index_or locks.index.disks n 0) (ask : DiskAsk)
+      (named : object_of (disk_asked ask) ≡ OfDisk n) where
+    disk_locked : AreLocked dev_key disk_mark OfDisk locks.common.value (λ dev. has_disk (stage_at locks) (at dev)) locks.index.disks rows
+    disk_locked = subst (AreLocked dev_key disk_mark OfDisk locks.common.value (λ dev. has_disk (stage_at locks) (at dev)) locks.index.disks) (sym rows_are) holds.locked.disks
+
+    disk_seats : AreSeatsOf seats.number rows seats.disks.items
+    disk_seats = subst (λ r. AreSeatsOf seats.number r seats.disks.items) (sym rows_are) holds.seated.disks
+
+    pub disk_seated : AreSeatedAt rows seats.disks.items place
+    disk_seated = seated_at disk_locked disk_seats n place is there
+
+    pub disk_fits : RequestFits (stage_at locks) (disk_asked ask) → DiskAskAlone ask → (lock : DevId × LockId DiskThing) → lock ≡ slice_index_or rows place lock
+        → FitsWith (DiskFits (disk_mark lock.1.key.value)) seats.pass ask
+    disk_fits fits alone =
+        row_fits disk_locked disk_seats n place is there DiskFits seats.pass ask holds.passed (λ pass clock. (clock, named, fits, alone))
+
+    module _ (said : DiskSaid) (new : Vec (DevId × SeatState DiskThing Request Told)) (after : Option PassState)
+        (made : HasAskedAt (λ (asking : Asking DiskAsk). disk_asked asking.ask) disk_told (λ (thing : DiskThing). DiskOwes (disk_mark thing)) place
+        rows seats.disks.items seats.pass ask said new.items after) where
+      abbrev with_disk : TaskSeats
+      with_disk = record seats { pass = after; disks = new }
+
+      abbrev disk_call : SeatCalls seats.number made.seat.1.known made.now.known seats.pass (disk_asked ask) (disk_replied said) after
+      disk_call =
+          row_call disk_locked disk_seats n place is there disk_asked disk_replied DiskOwes made (λ m asking replied owed. owed.pass)
+
+      disk_calls : calls_in dev_key new.items ≡ upd (calls_in dev_key seats.disks.items) n (calls_in dev_key seats.disks.items n ++ record { by = seats.number + 1; asked = disk_asked ask; told = disk_call.told } ∷ [])
+      disk_calls =
+          row_calls disk_locked disk_seats n place is there disk_asked disk_replied DiskOwes made (λ m asking replied owed. owed.pass)
+
+      pub disk_called : HasCalled (desk_of seats) (disk_asked ask) (disk_replied said) (desk_of with_disk)
+      disk_called = has_called (OfDisk n) (calls_of seats) (calls_of with_disk) named disk_call (ap (λ (f : ℕ → List Call). record (calls_of seats) { disk = f }) disk_calls)
+
+      pub disk_holds : DeskHolds locks with_disk
+      disk_holds = record {
+        locked = holds.locked;
+        seated = record {
+          bios = holds.seated.bios;
+          vecs = holds.seated.vecs;
+          records = holds.seated.records;
+          lists = holds.seated.lists;
+          disks = subst (λ r. AreSeatsOf seats.number r new.items) rows_are (row_seats disk_locked disk_seats n place is there disk_asked disk_replied DiskOwes made);
+          books = holds.seated.books;
+          tally = holds.seated.tally;
+        };
+        passed = home_again locks.common.value.clock disk_call holds.passed;
+      }
+
+      pub disk_says : DiskSays (stage_at locks) ask said
+      disk_says =
+          row_owed disk_locked disk_seats n place is there disk_asked disk_replied DiskOwes made
+          (λ m s. DiskSays (stage_in m.common) ask s) (λ m pass replied owed. owed.says)
+
+  -- lists of rescuers
+  module _ (rows : List (DevId × LockId ListThing)) (rows_are : rows ≡ locks.lists.items) (n place : ℕ) (is : IsTrue (has_rescuer (stage_at locks) (at n))) (there : place ≡ slice_index_or locks.index.lists n 0) (ask : ListAsk)
+      (named : object_of (list_asked ask) ≡ OfRescuer n) where
+    list_locked : AreLocked dev_key list_mark OfRescuer locks.common.value (λ dev. has_rescuer (stage_at locks) (at dev)) locks.index.lists rows
+    list_locked = subst (AreLocked dev_key list_mark OfRescuer locks.common.value (λ dev. has_rescuer (stage_at locks) (at dev)) locks.index.lists) (sym rows_are) holds.locked.lists
+
+    list_seats : AreSeatsOf seats.number rows seats.lists.items
+    list_seats = subst (λ r. AreSeatsOf seats.number r seats.lists.items) (sym rows_are) holds.seated.lists
+
+    pub list_seated : AreSeatedAt rows seats.lists.items place
+    list_seated = seated_at list_locked list_seats n place is there
+
+    pub list_fits : RequestFits (stage_at locks) (list_asked ask) → (lock : DevId × LockId ListThing) → lock ≡ slice_index_or rows place lock
+        → FitsWith (ListFits (list_mark lock.1.key.value)) seats.pass ask
+    list_fits fits =
+        row_fits list_locked list_seats n place is there ListFits seats.pass ask holds.passed (λ pass clock. (clock, named, fits))
+
+    module _ (said : ListSaid) (new : Vec (DevId × SeatState ListThing Request Told)) (after : Option PassState)
+        (made : HasAskedAt (λ (asking : Asking ListAsk). list_asked asking.ask) list_told (λ (thing : ListThing). ListOwes (list_mark thing)) place
+        rows seats.lists.items seats.pass ask said new.items after) where
+      abbrev with_list : TaskSeats
+      with_list = record seats { pass = after; lists = new }
+
+      abbrev list_call : SeatCalls seats.number made.seat.1.known made.now.known seats.pass (list_asked ask) (list_replied said) after
+      list_call =
+          row_call list_locked list_seats n place is there list_asked list_replied ListOwes made (λ m asking replied owed. owed.pass)
+
+      list_calls : calls_in dev_key new.items ≡ upd (calls_in dev_key seats.lists.items) n (calls_in dev_key seats.lists.items n ++ record { by = seats.number + 1; asked = list_asked ask; told = list_call.told } ∷ [])
+      list_calls =
+          row_calls list_locked list_seats n place is there list_asked list_replied ListOwes made (λ m asking replied owed. owed.pass)
+
+      pub list_called : HasCalled (desk_of seats) (list_asked ask) (list_replied said) (desk_of with_list)
+      list_called = has_called (OfRescuer n) (calls_of seats) (calls_of with_list) named list_call (ap (λ (f : ℕ → List Call). record (calls_of seats) { rescue = f }) list_calls)
+
+      pub list_holds : DeskHolds locks with_list
+      list_holds = record {
+        locked = holds.locked;
+        seated = record {
+          bios = holds.seated.bios;
+          vecs = holds.seated.vecs;
+          records = holds.seated.records;
+          lists = subst (λ r. AreSeatsOf seats.number r new.items) rows_are (row_seats list_locked list_seats n place is there list_asked list_replied ListOwes made);
+          disks = holds.seated.disks;
+          books = holds.seated.books;
+          tally = holds.seated.tally;
+        };
+        passed = home_again locks.common.value.clock list_call holds.passed;
+      }
+
+      pub list_owed : Owes (stage_at locks) (list_asked ask) (list_replied said)
+      list_owed =
+          row_owed list_locked list_seats n place is there list_asked list_replied ListOwes made
+          (λ m s. Owes (stage_in m.common) (list_asked ask) (list_replied s)) (λ m pass replied owed. owed.owed)
+
+      pub list_says : ListSays ask said
+      list_says =
+          row_owed list_locked list_seats n place is there list_asked list_replied ListOwes made
+          (λ m s. ListSays ask s) (λ m pass replied owed. owed.says)
+
+  -- the tally
+  module _ (ask : TallyAsk) (named : object_of (tally_asked ask) ≡ OfTally) where
+    pub tally_fits : RequestFits (stage_at locks) (tally_asked ask) → FitsWith (TallyFits (tally_mark locks.tally.key.value)) seats.pass ask
+    tally_fits fits =
+        subst (λ (m : MarkState). FitsWith (TallyFits m) seats.pass ask) (sym holds.locked.tally)
+        (fits_with (TallyFits (mark_as locks.common.value OfTally)) locks.common.value.clock seats.pass ask holds.passed (λ pass clock. (clock, named, fits)))
+
+    module _ (said : TallySaid) (new : SeatState TallyThing Request Told) (after : Option PassState) (of : IsOf locks.tally new)
+        (made : HasAsked (λ (asking : Asking TallyAsk). tally_asked asking.ask) tally_told (TallyOwes (tally_mark locks.tally.key.value)) seats.tally.known seats.pass ask said new.known after) where
+      abbrev with_tally : TaskSeats
+      with_tally = record seats { pass = after; tally = new }
+
+      abbrev tally_call : SeatCalls seats.number seats.tally.known new.known seats.pass (tally_asked ask) (tally_replied said) after
+      tally_call = seat_calls tally_asked tally_replied made seats.number holds.seated.tally.numbered (λ owed. owed.pass)
+
+      pub tally_called : HasCalled (desk_of seats) (tally_asked ask) (tally_replied said) (desk_of with_tally)
+      tally_called = has_called (OfTally) (calls_of seats) (calls_of with_tally) named tally_call (ap (λ (xs : List Call). record (calls_of seats) { tally = xs }) tally_call.calls)
+
+      pub tally_holds : DeskHolds locks with_tally
+      tally_holds = record {
+        locked = holds.locked;
+        seated = record {
+          bios = holds.seated.bios;
+          vecs = holds.seated.vecs;
+          records = holds.seated.records;
+          lists = holds.seated.lists;
+          disks = holds.seated.disks;
+          books = holds.seated.books;
+          tally = record { of = of; numbered = numbered_stays seats.number seats.tally.known new.known made.same holds.seated.tally.numbered };
+        };
+        passed = home_again locks.common.value.clock tally_call holds.passed;
+      }
+
+      pub tally_owed : Owes (stage_at locks) (tally_asked ask) (tally_replied said)
+      tally_owed =
+          subst (λ (m : MarkState). Owes (stage_in m.common) (tally_asked ask) (tally_replied said)) holds.locked.tally
+          (owed_of tally_asked tally_replied made (λ s. Owes (stage_in (tally_mark locks.tally.key.value).common) (tally_asked ask) (tally_replied s)) (λ owed. owed.owed))
+
+      pub tally_says : TallySays ask said
+      tally_says =
+          subst (λ (m : MarkState). TallySays ask said) holds.locked.tally
+          (owed_of tally_asked tally_replied made (λ s. TallySays ask s) (λ owed. owed.says))

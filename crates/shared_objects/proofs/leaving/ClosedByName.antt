@@ -1,0 +1,315 @@
+-- What a close shows, object by object.
+use Rattle.std.proofs.Common.{◌≡◌, ◌<◌, ◌≤◌, ◌+◌, ◌==◌, ℕ, zero, suc, Bool, true, false, List, [], ◌∷◌, All, arith, refl, sym, ◌∙◌, ap, subst, length, map, get_or, filter, Option, Some, None, true≢false, ap₂}
+use Rattle.std.specs.Prelude.{◌||◌, ◌++◌, if◌then◌else◌, slice_get, slice_index_or}
+use Rattle.std.specs.List.{flat_map, list_any}
+use Rattle.std.proofs.lemmas.List.{length-map}
+use Rattle.std.proofs.lemmas.Bool.Decides.{nat_tests}
+use Rattle.std.proofs.lemmas.Option.{get_or_from_slice_get, slice_get-get_or, slice_get_within}
+use Rattle.seat_lock.specs.History.{Leads, calls_by, count}
+use Rattle.seat_lock.specs.Seats.{LockId, SeatState, own}
+use Rattle.stack_base.specs.declared.ids.DevId.{DevId}
+use Rattle.model_disks.specs.Disks.{DiskState}
+use Rattle.run_machine.specs.Laws.{Object, OfPool, OfRescuer, OfDisk, OfBook, OfTally, OfNone, object_of}
+use Rattle.run_machine.specs.Requests.{Request}
+use Rattle.mempool_core.specs.Pool.{LedgerPool}
+use Rattle.task_core.specs.declared.plain.Plain.{Plain}
+use Rattle.task_core.specs.Plains.{bios_at, book_number, by_kind, disk_number, is_bios_number, list_number, no_book, no_disk, no_pool, records_at, records_number, set_number, tally_of}
+use Rattle.object_things.specs.Histories.{Call}
+use Rattle.object_things.specs.Stamps.{Told, ThingState}
+use Rattle.object_things.specs.Pools.{PoolAnswers}
+use Rattle.object_things.specs.Lists.{ListAnswers}
+use Rattle.object_things.specs.Disks.{DiskAnswers}
+use Rattle.object_things.specs.Books.{BookAnswers}
+use Rattle.object_things.specs.Tallies.{TallyAnswers}
+use Rattle.task_core.specs.Tables.{look_up}
+use Rattle.shared_objects.specs.Calls.{calls_at, calls_to, is_same_object}
+use Rattle.shared_objects.specs.ClosedByName.{history_in, object_left_in, names_in, names_of, state_of_held}
+use Rattle.shared_objects.specs.Closes.{ClosesAs, Returned}
+use Rattle.shared_objects.specs.Holding.{AreSeatsOf, SeatsHold, by_pool, calls_in, desk_of, dev_key, set_key, slip_key, writer_key}
+use Rattle.shared_objects.specs.Kinds.{answers_at, no_list, opened_at, unasked}
+use Rattle.shared_objects.specs.Rows.{Abreast, AbreastThree}
+use Rattle.shared_objects.specs.Sharing.{AreOfOpened}
+use Rattle.shared_objects.specs.Shutting.{HasShut}
+use Rattle.shared_objects.specs.Taking.{HasTakenPasses, PassHasTaken, TakenHold}
+use Rattle.shared_objects.specs.Passes.{drawn_by}
+use Rattle.shared_objects.specs.Desks.{DeskState}
+use Rattle.shared_objects.specs.Logs.{HasStopped, IsLogged}
+use Rattle.tick_clock.specs.declared.ticking.Rank.TheVariants as pass_rank
+use Rattle.tick_clock.specs.declared.ticking.Ticket.{Ticket}
+use Rattle.tick_clock.specs.Tickets.{PassState}
+use Rattle.run_machine.specs.Scene.{Setup}
+use Rattle.shared_objects.specs.declared.closed.Closed.{Closed}
+use Rattle.shared_objects.specs.declared.locks.Locks.{Locks}
+use Rattle.shared_objects.specs.declared.seats.TaskSeats.{TaskSeats}
+use Rattle.shared_objects.specs.Guards.{guarded}
+use Rattle.shared_objects.specs.Joins.{HasTaken, IsOfThese}
+use Rattle.shared_objects.specs.Shutting.{IsShutOf}
+use Rattle.shared_objects.specs.Taking.{AreTaken}
+use Rattle.object_things.specs.Stamps.{CommonState, Held, MarkState}
+use Rattle.object_things.specs.Pools.{pool_mark}
+use Rattle.object_things.specs.Lists.{list_mark}
+use Rattle.object_things.specs.Disks.{disk_mark}
+use Rattle.object_things.specs.Books.{book_mark}
+use Rattle.object_things.specs.Tallies.{tally_mark}
+use Rattle.seat_lock.specs.declared.view.Known.{Known}
+use Rattle.shared_objects.proofs.leaving.LeftOfKind.{IsLeftOf, left_with_key, thing_led, numbers_by_number, task_calls}
+use Rattle.shared_objects.proofs.row_lemmas.AbreastRows.{front, none_left, none_right, of_made, some_of, weaker_two, weaker_three}
+use Rattle.shared_objects.proofs.SameNames.{same_is, same_self}
+use Rattle.shared_objects.proofs.leaving.Unshared.{others_in}
+use Rattle.shared_objects.proofs.row_lemmas.CallsApart.{all_by_tasks, all_more, not_once, once_apart}
+use Rattle.shared_objects.proofs.row_lemmas.SplitAndJoined.{stay_apart}
+
+mapped_at : {X Y : Type 0} (f : X → Y) (xs : List X) (k : ℕ) (x : X) (y : Y) → k < length xs → get_or (map f xs) k y ≡ f (get_or xs k x)
+mapped_at f [] k x y lt = absurd (omega (arith, lt))
+mapped_at f (a ∷ xs) zero x y lt = refl
+mapped_at f (a ∷ xs) (suc k) x y lt = mapped_at f xs k x y (omega (arith, lt))
+
+-- what is left of one lock, into whose first seat those of all tasks were joined
+module _ {O : Type 0} (mark : Held O → MarkState) (answers : ThingState O → Request → Told → ThingState O → Type 0) (common : CommonState) (object : O) (lock : LockId (Held O))
+    (first : SeatState (Held O) Request Told) (thing : Held O) (told : SeatState (Held O) Request Told) (seats : List (Known (Held O) Request Told))
+    (round : lock.key.value ≡ guarded common object) (shut : IsShutOf mark answers lock first thing told) (taken : HasTaken (length seats) seats first.known) where
+  one_led : Leads answers (unasked object) told.known.seen (state_of_held thing)
+  one_led =
+      subst (λ history. Leads answers (unasked object) history (state_of_held thing)) (sym (ap (λ (s : SeatState (Held O) Request Told). s.known.seen) shut.told_is))
+      (subst (λ start. Leads answers start first.known.seen (state_of_held thing)) (ap state_of_held round) shut.left.0)
+
+  one_of_these : IsOfThese seats told.known.seen
+  one_of_these =
+      subst (IsOfThese seats) (sym (ap (λ (s : SeatState (Held O) Request Told). s.known.seen) shut.told_is))
+      (((stay_apart (Held O) answers).ends seats first.known taken).1 shut.all)
+
+-- what stands for a number among pools
+pub pool_by : {X : Type 0} (P : X → Type 0) (vecs bios records : X) (is_vecs of_set : Bool) → P vecs → P bios → P records
+    → P (if is_vecs then vecs else if of_set then bios else records)
+pool_by P vecs bios records true of_set v b r = v
+pool_by P vecs bios records false true v b r = b
+pool_by P vecs bios records false false v b r = r
+
+module _ (opened : Plain) (locks : Locks) (firsts : TaskSeats) (closed : Closed) (all : List TaskSeats)
+    (of : AreOfOpened opened locks) (shut : HasShut locks firsts closed) (taken : TakenHold (length all) locks all firsts) where
+  pub bios_left : IsLeftOf PoolAnswers set_key set_number (λ entry. set_key entry.0) (λ entry. entry.1) (λ entry. entry.1.thing) (λ entry. entry.1.told.value.known.seen) locks.common.value
+      opened.bios.items locks.bios.items firsts.bios.items closed.bios.items (map (λ (seats : TaskSeats). seats.bios.items) all)
+  bios_left = record {
+    round = weaker_two _ _ (λ entry lock is. (ap set_key is.0, is.1)) opened.bios.items locks.bios.items of.bios;
+    shut = weaker_three _ _ (λ lock first entry is. left_with_key set_key pool_mark PoolAnswers lock first entry.0 entry.1.thing entry.1.told.value is.0 is.1)
+        locks.bios.items firsts.bios.items closed.bios.items shut.bios;
+    taken = subst (λ n. AreTaken n (map (λ (seats : TaskSeats). seats.bios.items) all) firsts.bios.items) (sym (length-map all _)) taken.bios;
+  }
+
+  pub records_left : IsLeftOf PoolAnswers slip_key records_number (λ entry. slip_key entry.0) (λ entry. entry.1) (λ entry. entry.1.thing) (λ entry. entry.1.told.value.known.seen) locks.common.value
+      opened.records.items locks.records.items firsts.records.items closed.records.items (map (λ (seats : TaskSeats). seats.records.items) all)
+  records_left = record {
+    round = weaker_two _ _ (λ entry lock is. (ap slip_key is.0, is.1)) opened.records.items locks.records.items of.records;
+    shut = weaker_three _ _ (λ lock first entry is. left_with_key slip_key pool_mark PoolAnswers lock first entry.0 entry.1.thing entry.1.told.value is.0 is.1)
+        locks.records.items firsts.records.items closed.records.items shut.records;
+    taken = subst (λ n. AreTaken n (map (λ (seats : TaskSeats). seats.records.items) all) firsts.records.items) (sym (length-map all _)) taken.records;
+  }
+
+  pub lists_left : IsLeftOf ListAnswers dev_key list_number (λ entry. dev_key entry.0) (λ entry. entry.1) (λ entry. entry.1.thing) (λ entry. entry.1.told.value.known.seen) locks.common.value
+      opened.lists.items locks.lists.items firsts.lists.items closed.lists.items (map (λ (seats : TaskSeats). seats.lists.items) all)
+  lists_left = record {
+    round = weaker_two _ _ (λ entry lock is. (ap dev_key is.0, is.1)) opened.lists.items locks.lists.items of.lists;
+    shut = weaker_three _ _ (λ lock first entry is. left_with_key dev_key list_mark ListAnswers lock first entry.0 entry.1.thing entry.1.told.value is.0 is.1)
+        locks.lists.items firsts.lists.items closed.lists.items shut.lists;
+    taken = subst (λ n. AreTaken n (map (λ (seats : TaskSeats). seats.lists.items) all) firsts.lists.items) (sym (length-map all _)) taken.lists;
+  }
+
+  pub disks_left : IsLeftOf DiskAnswers dev_key disk_number (λ shut. shut.thing.object.dev.0) (λ disk. disk) (λ shut. shut.thing) (λ shut. shut.told.value.known.seen) locks.common.value
+      opened.disks.items locks.disks.items firsts.disks.items closed.disks.items (map (λ (seats : TaskSeats). seats.disks.items) all)
+  disks_left = record {
+    round = weaker_two _ _ (λ disk lock is. (ap dev_key is.0, is.1)) opened.disks.items locks.disks.items
+        (of_made (λ (disk : DiskState). (disk.dev, disk)) (λ entry lock. (lock.0 ≡ entry.0) × (lock.1.key.value ≡ guarded locks.common.value entry.1)) opened.disks.items locks.disks.items of.disks);
+    shut = weaker_three _ _ (λ lock first left is. (
+      is.0,
+      (left_with_key dev_key disk_mark DiskAnswers lock first lock.0 left.thing left.told.value refl is.1).1,
+      (left_with_key dev_key disk_mark DiskAnswers lock first lock.0 left.thing left.told.value refl is.1).2,
+      (left_with_key dev_key disk_mark DiskAnswers lock first lock.0 left.thing left.told.value refl is.1).3,
+    ))
+        locks.disks.items firsts.disks.items closed.disks.items shut.disks;
+    taken = subst (λ n. AreTaken n (map (λ (seats : TaskSeats). seats.disks.items) all) firsts.disks.items) (sym (length-map all _)) taken.disks;
+  }
+
+  pub books_left : IsLeftOf BookAnswers writer_key book_number (λ entry. writer_key entry.0) (λ entry. entry.1) (λ entry. entry.1.thing) (λ entry. entry.1.told.value.known.seen) locks.common.value
+      opened.books.items locks.books.items firsts.books.items closed.books.items (map (λ (seats : TaskSeats). seats.books.items) all)
+  books_left = record {
+    round = weaker_two _ _ (λ entry lock is. (ap writer_key is.0, is.1)) opened.books.items locks.books.items of.books;
+    shut = weaker_three _ _ (λ lock first entry is. left_with_key writer_key book_mark BookAnswers lock first entry.0 entry.1.thing entry.1.told.value is.0 is.1)
+        locks.books.items firsts.books.items closed.books.items shut.books;
+    taken = subst (λ n. AreTaken n (map (λ (seats : TaskSeats). seats.books.items) all) firsts.books.items) (sym (length-map all _)) taken.books;
+  }
+
+  vecs_taken : HasTaken (length (map (λ (seats : TaskSeats). seats.vecs.known) all)) (map (λ (seats : TaskSeats). seats.vecs.known) all) firsts.vecs.known
+  vecs_taken = subst (λ n. HasTaken n (map (λ (seats : TaskSeats). seats.vecs.known) all) firsts.vecs.known) (sym (length-map all _)) taken.vecs
+
+  tally_taken : HasTaken (length (map (λ (seats : TaskSeats). seats.tally.known) all)) (map (λ (seats : TaskSeats). seats.tally.known) all) firsts.tally.known
+  tally_taken = subst (λ n. HasTaken n (map (λ (seats : TaskSeats). seats.tally.known) all) firsts.tally.known) (sym (length-map all _)) taken.tally
+
+  -- each object is what its whole history leaves of it
+  abbrev seen_bios : ℕ → List Call
+  seen_bios = look_up (λ entry. set_key entry.0) (λ entry. entry.1.told.value.known.seen) (λ n. []) closed.bios.items
+
+  abbrev seen_records : ℕ → List Call
+  seen_records = look_up (λ entry. slip_key entry.0) (λ entry. entry.1.told.value.known.seen) (λ n. []) closed.records.items
+
+  abbrev left_bios : ℕ → ThingState LedgerPool
+  left_bios = look_up (λ entry. set_key entry.0) (λ entry. state_of_held entry.1.thing) (λ n. unasked (no_pool opened.stage.value.stack opened.vecs.ledger n)) closed.bios.items
+
+  abbrev left_records : ℕ → ThingState LedgerPool
+  left_records = look_up (λ entry. slip_key entry.0) (λ entry. state_of_held entry.1.thing) (λ n. unasked (no_pool opened.stage.value.stack opened.vecs.ledger n)) closed.records.items
+
+  pools_led : (n : ℕ) (is_vecs of_set : Bool)
+      → Leads PoolAnswers (unasked (if is_vecs then opened.vecs else if of_set then bios_at opened n else records_at opened n))
+      (if is_vecs then closed.vecs.told.value.known.seen else if of_set then seen_bios n else seen_records n)
+      (if is_vecs then state_of_held closed.vecs.thing else if of_set then left_bios n else left_records n)
+  pools_led n true of_set =
+      one_led pool_mark PoolAnswers locks.common.value opened.vecs locks.vecs firsts.vecs closed.vecs.thing closed.vecs.told.value (map (λ (seats : TaskSeats). seats.vecs.known) all) of.vecs shut.vecs vecs_taken
+  pools_led n false true = thing_led bios_left (no_pool opened.stage.value.stack opened.vecs.ledger) n
+  pools_led n false false = thing_led records_left (no_pool opened.stage.value.stack opened.vecs.ledger) n
+
+  pub things_led : (name : Object) → Leads (answers_at name) (unasked (opened_at opened name)) (history_in closed name) (object_left_in closed opened name)
+  things_led (OfPool n) = pools_led n (n == 64) (is_bios_number n)
+  things_led (OfRescuer dev) = thing_led lists_left no_list dev
+  things_led (OfDisk dev) = thing_led disks_left (no_disk opened.stage.value.stack) dev
+  things_led (OfBook writer) = thing_led books_left no_book writer
+  things_led OfTally =
+      one_led tally_mark TallyAnswers locks.common.value (tally_of opened.tally) locks.tally firsts.tally closed.tally.thing closed.tally.told.value (map (λ (seats : TaskSeats). seats.tally.known) all) of.tally shut.tally tally_taken
+  things_led OfNone = refl
+
+  -- each call of each history is of a task
+  abbrev IsOfTask : Call → Type 0
+  IsOfTask call = (0 < call.by) × (call.by ≤ length all)
+
+  by_rows : {X Y : Type 0} (f : X → Y) (xs : List X) (history : List Call) → All (λ (call : Call). (0 < call.by) × (call.by ≤ length (map f xs))) history
+      → All (λ (call : Call). (0 < call.by) × (call.by ≤ length xs)) history
+  by_rows f xs history = subst (λ n. All (λ (call : Call). (0 < call.by) × (call.by ≤ n)) history) (length-map xs f)
+
+  pub numbers_of : (name : Object) → All IsOfTask (history_in closed name)
+  numbers_of (OfPool n) =
+      pool_by (All IsOfTask) closed.vecs.told.value.known.seen (seen_bios n) (seen_records n) (n == 64) (is_bios_number n)
+      (by_rows _ all closed.vecs.told.value.known.seen
+      (one_of_these pool_mark PoolAnswers locks.common.value opened.vecs locks.vecs firsts.vecs closed.vecs.thing closed.vecs.told.value (map (λ (seats : TaskSeats). seats.vecs.known) all) of.vecs shut.vecs vecs_taken).all)
+      (by_rows _ all _ (numbers_by_number bios_left n)) (by_rows _ all _ (numbers_by_number records_left n))
+  numbers_of (OfRescuer dev) = by_rows _ all _ (numbers_by_number lists_left dev)
+  numbers_of (OfDisk dev) = by_rows _ all _ (numbers_by_number disks_left dev)
+  numbers_of (OfBook writer) = by_rows _ all _ (numbers_by_number books_left writer)
+  numbers_of OfTally =
+      by_rows _ all closed.tally.told.value.known.seen
+      (one_of_these tally_mark TallyAnswers locks.common.value (tally_of opened.tally) locks.tally firsts.tally closed.tally.thing closed.tally.told.value (map (λ (seats : TaskSeats). seats.tally.known) all) of.tally shut.tally tally_taken).all
+  numbers_of OfNone = λ k d lt. absurd (omega (arith, lt))
+
+  module _ (seated : All (SeatsHold locks) all) where
+    -- the seats of one task
+    module _ (k : ℕ) (none : TaskSeats) (lt : k < length all) where
+      abbrev mine : TaskSeats
+      mine = get_or all k none
+
+      hold : SeatsHold locks mine
+      hold = seated k none lt
+
+      keys_of : {K T : Type 0} (key : K → ℕ) (rows : List (K × LockId T)) (seats row : List (K × SeatState T Request Told)) → row ≡ seats → AreSeatsOf mine.number rows seats
+          → Abreast (λ (lock : K × LockId T) (seat : K × SeatState T Request Told). key seat.0 ≡ key lock.0) rows row
+      keys_of {K = K} {T = T} key rows seats row same are =
+          subst (λ (row : List (K × SeatState T Request Told)). Abreast (λ (lock : K × LockId T) (seat : K × SeatState T Request Told). key seat.0 ≡ key lock.0) rows row) (sym same)
+          (weaker_two _ _ (λ lock seat is. ap key is.0) rows seats are)
+
+      many : {X : Type 0} (f : TaskSeats → X) → k < length (map f all)
+      many f = let l = length-map all f in omega (arith, lt, l)
+
+      vecs_calls : calls_by ((k + 1) ∷ []) closed.vecs.told.value.known.seen ≡ own mine.vecs.known
+      vecs_calls =
+          (one_of_these pool_mark PoolAnswers locks.common.value opened.vecs locks.vecs firsts.vecs closed.vecs.thing closed.vecs.told.value (map (λ (seats : TaskSeats). seats.vecs.known) all) of.vecs shut.vecs vecs_taken).each
+          k mine.vecs.known (many (λ (seats : TaskSeats). seats.vecs.known))
+          ∙ ap own (mapped_at (λ (seats : TaskSeats). seats.vecs.known) all k none mine.vecs.known lt)
+
+      tally_calls : calls_by ((k + 1) ∷ []) closed.tally.told.value.known.seen ≡ own mine.tally.known
+      tally_calls =
+          (one_of_these tally_mark TallyAnswers locks.common.value (tally_of opened.tally) locks.tally firsts.tally closed.tally.thing closed.tally.told.value (map (λ (seats : TaskSeats). seats.tally.known) all) of.tally shut.tally tally_taken).each
+          k mine.tally.known (many (λ (seats : TaskSeats). seats.tally.known))
+          ∙ ap own (mapped_at (λ (seats : TaskSeats). seats.tally.known) all k none mine.tally.known lt)
+
+      -- of a kind
+      kind_calls : {K E Z O : Type 0} {answers : ThingState O → Request → Told → ThingState O → Type 0} {skey : K → ℕ} {ekey : E → ℕ} {zkey : Z → ℕ} {value : E → O}
+          {thing : Z → Held O} {seen : Z → List Call} {common : CommonState} {es : List E} {rows : List (K × LockId (Held O))}
+          {first_row : List (K × SeatState (Held O) Request Told)} {zs : List Z} (row : TaskSeats → List (K × SeatState (Held O) Request Told))
+          → IsLeftOf answers skey ekey zkey value thing seen common es rows first_row zs (map row all) → AreSeatsOf mine.number rows (row mine)
+          → (n : ℕ) → calls_by ((k + 1) ∷ []) (look_up zkey seen (λ m. []) zs n) ≡ calls_in skey (row mine) n
+      kind_calls {skey = skey} {rows = rows} row left are n =
+          let same = mapped_at row all k none [] lt in
+          task_calls left k [] (many row) (keys_of skey rows (row mine) (get_or (map row all) k []) same are) n
+          ∙ ap (λ seats. calls_in skey seats n) same
+
+      pool_calls : (n : ℕ) (is_vecs of_set : Bool)
+          → calls_by ((k + 1) ∷ []) (if is_vecs then closed.vecs.told.value.known.seen else if of_set then seen_bios n else seen_records n)
+          ≡ (if is_vecs then own mine.vecs.known else if of_set then calls_in set_key mine.bios.items n else calls_in slip_key mine.records.items n)
+      pool_calls n true of_set = vecs_calls
+      pool_calls n false true = kind_calls (λ seats. seats.bios.items) bios_left hold.bios n
+      pool_calls n false false = kind_calls (λ seats. seats.records.items) records_left hold.records n
+
+      pub calls_here : (name : Object) → calls_by ((k + 1) ∷ []) (history_in closed name) ≡ calls_at (desk_of mine).calls name
+      calls_here (OfPool n) = pool_calls n (n == 64) (is_bios_number n)
+      calls_here (OfRescuer dev) = kind_calls (λ seats. seats.lists.items) lists_left hold.lists dev
+      calls_here (OfDisk dev) = kind_calls (λ seats. seats.disks.items) disks_left hold.disks dev
+      calls_here (OfBook writer) = kind_calls (λ seats. seats.books.items) books_left hold.books writer
+      calls_here OfTally = tally_calls
+      calls_here OfNone = refl
+
+-- all of it
+module _ (setup : Setup) (opened : Plain) (locks : Locks) (firsts : TaskSeats) (closed : Closed) (all : List TaskSeats) (returned : List Returned) (pass : PassState)
+    (of : AreOfOpened opened locks) (shut : HasShut locks firsts closed) (taken : TakenHold (length all) locks all firsts) (seated : All (SeatsHold locks) all)
+    (same : Abreast (λ (seats : TaskSeats) (task : Returned). task.desk ≡ desk_of seats) all returned)
+    (logged : All (λ (task : Returned). IsLogged setup task.first task.log task.task task.desk × HasStopped setup task.log task.task) returned)
+    (passes : firsts.pass ≡ Some pass) where
+  calls_of : (name : Object) (place : ℕ) (task : Returned) → slice_get returned place ≡ Some task → calls_by ((place + 1) ∷ []) (history_in closed name) ≡ calls_to name task.log
+  calls_of name place task found =
+      let lt : place < length returned = slice_get_within returned place task found in
+      let is : get_or returned place task ≡ task = get_or_from_slice_get returned place task task found in
+      let l = same.lens in
+      let seats = some_of all place (omega (arith, lt, l)) in
+      let desk : task.desk ≡ desk_of (get_or all place seats) = ap (λ (t : Returned). t.desk) (sym is) ∙ same.each place seats task (omega (arith, lt, l)) in
+      let log = subst (λ (t : Returned). IsLogged setup t.first t.log t.task t.desk × HasStopped setup t.log t.task) is (logged place task lt) in
+      calls_here opened locks firsts closed all of shut taken seated place seats (omega (arith, lt, l)) name
+      ∙ ap (λ (d : DeskState). calls_at d.calls name) (sym desk) ∙ log.0.calls name
+
+  by_returned : (name : Object) → All (λ (call : Call). (0 < call.by) × (call.by ≤ length returned)) (history_in closed name)
+  by_returned name =
+      let l = same.lens in
+      subst (λ n. All (λ (call : Call). (0 < call.by) × (call.by ≤ n)) (history_in closed name)) (sym l) (numbers_of opened locks firsts closed all of shut taken name)
+
+  named_so : (name : Object) (calls : List Call) → All (λ (call : Call). object_of call.asked ≡ name) (calls_to name calls)
+  named_so name [] = λ k d lt. absurd (omega (arith, lt))
+  named_so name (call ∷ calls) = by_case (is_same_object name (object_of call.asked)) refl (named_so name calls)
+    where
+      by_case : (b : Bool) → is_same_object name (object_of call.asked) ≡ b → All (λ (c : Call). object_of c.asked ≡ name) (calls_to name calls)
+          → All (λ (c : Call). object_of c.asked ≡ name) (calls_to name (call ∷ calls))
+      by_case true e rest = rw (e) (all_more (λ (c : Call). object_of c.asked ≡ name) call (calls_to name calls) (sym (same_is name (object_of call.asked) e)) rest)
+      by_case false e rest = rw (e) rest
+
+  named_in : (name : Object) → All (λ (call : Call). object_of call.asked ≡ name) (history_in closed name)
+  named_in name =
+      all_by_tasks (λ (call : Call). object_of call.asked ≡ name) (length returned) (history_in closed name) (by_returned name)
+      (λ k lt.
+      let task = get_or returned k (some_of returned k lt) in
+      subst (All (λ (call : Call). object_of call.asked ≡ name)) (sym (calls_of name k task (slice_get-get_or returned k (some_of returned k lt) lt))) (named_so name task.log))
+
+  drawn_of : (xs : List TaskSeats) (ys : List Returned) → Abreast (λ (seats : TaskSeats) (task : Returned). task.desk ≡ desk_of seats) xs ys
+      → flat_map (λ (seats : TaskSeats). drawn_by seats.pass) xs ≡ flat_map (λ (task : Returned). drawn_by task.desk.pass) ys
+  drawn_of [] [] are = refl
+  drawn_of [] (y ∷ ys) are = absurd (none_left (λ (seats : TaskSeats) (task : Returned). task.desk ≡ desk_of seats) y ys are)
+  drawn_of (x ∷ xs) [] are = absurd (none_right (λ (seats : TaskSeats) (task : Returned). task.desk ≡ desk_of seats) x xs are)
+  drawn_of (x ∷ xs) (y ∷ ys) are =
+      let parts = front (λ (seats : TaskSeats) (task : Returned). task.desk ≡ desk_of seats) x y xs ys are in
+      ap₂ (λ (a b : List Ticket). a ++ b) (ap (λ (d : DeskState). drawn_by d.pass) (sym parts.0)) (drawn_of xs ys parts.1)
+
+  pub closes_as : ClosesAs setup opened (names_in closed) (history_in closed) (object_left_in closed opened) returned pass
+  closes_as =
+      let first : PassHasTaken (length all) all pass = subst (HasTakenPasses (length all) all) passes taken.passes in record {
+        apart = once_apart is_same_object same_self same_is (names_of closed);
+        others = λ name none. others_in closed name (not_once is_same_object same_self same_is name (names_of closed) none);
+        things = things_led opened locks firsts closed all of shut taken;
+        named = named_in;
+        numbers = by_returned;
+        calls = calls_of;
+        logged = logged;
+        all = (first.rank ∙ ap pass_rank.First (sym first.joined), first.shows);
+        drawn = first.drawn ∙ drawn_of all returned same;
+      }

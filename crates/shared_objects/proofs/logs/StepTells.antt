@@ -1,0 +1,143 @@
+-- What the calls of a step show of its answer.
+use Rattle.std.proofs.Common.{◌≡◌, ℕ, ◌<◌, ◌≤◌, ◌⊎◌, inl, inr, ◌==◌, ◌||◌, Bool, true, false, not, cond, if◌then◌else◌, List, [], ◌∷◌, ◌++◌, Option, Some, None, arith, refl, sym, ◌∙◌, ap, subst}
+use Rattle.std.specs.Prelude.{All, Contains, IfSome, IsTrue, max}
+use Rattle.std.proofs.lemmas.List.{append-nil, append_assoc}
+use Rattle.std.proofs.lemmas.List.Elements.{Contains-push, Contains-append_left, Contains-append_right, All-contains}
+use Rattle.std.proofs.lemmas.Bool.Decides.{nat_tests}
+use Rattle.std.specs.Option.{is_some}
+use Rattle.stack_base.specs.declared.ids.PoolId.{PoolId}
+use Rattle.bio_books.specs.Drops as end
+use Rattle.bio_books.specs.Links.{NoRoom, Stray}
+use Rattle.run_machine.specs.declared.event.Breach.{Breach}
+use Rattle.run_machine.specs.declared.event.What.{What}
+use Rattle.task_steps.specs.declared.step.Step.TheVariants.{Stepped, Blocked, Waiting, Ended, Broken}
+use Rattle.tick_clock.specs.Tickets.{PassState}
+use Rattle.task_steps.specs.declared.step.Step.{Step}
+use Rattle.stack_base.specs.declared.ids.DevId.{DevId}
+use Rattle.run_machine.specs.Submissions.{Doing, Rests}
+use Rattle.run_machine.specs.Requests.{Request, Reply, TakeBio, TakeVec, TakeSlip, GiveBio, GiveVec, GiveSlip, Punt, Pop, Push, Complete, Link, Drop, Done, Resize, NextRound, LookRound, LookLeft, Rest, Missed, LinkedTo, DroppedTo, OutIs, LeftOver, Nothing, Spent}
+use Rattle.run_machine.specs.declared.event.TaskId.{TaskId}
+use Rattle.run_machine.specs.Events.{id_of, what_of, resize_of}
+use Rattle.run_machine.specs.Laws.{Object, OfNone, object_of}
+use Rattle.run_machine.specs.Scene.{Setup}
+use Rattle.task_steps.specs.Stage.{Stage, Owes}
+use Rattle.run_machine.specs.Tasks.{Todo, Gathered, NoBio, HasBio, HasBoth, Carried, Empty, Brings, Carries, Fails, Duty, Keeping, Keeps, carried_answered, carried_request, Stops, TaskState, Writer, Rescuer, Completer, Keeper, writer_look, request, look_of, lets, answered}
+use Rattle.task_steps.specs.Turns.{silent_step, step_by, step_of, resting_step, idle_step}
+use Rattle.object_things.specs.Stamps.{is_spent, PassBy}
+use Rattle.object_things.specs.Histories.{Call}
+use Rattle.shared_objects.specs.Calls.{struck}
+use Rattle.shared_objects.specs.Desks.{DeskState, HasCalled, PassOn, LooksAndCompletes, DeskServes}
+use Rattle.shared_objects.specs.Logs.{is_event, is_stop, is_glance, events_in, Looked, LogLeads, IsMet, HasPass, IsMade, IsLogged, HasStopped, seen_by, ShowsStep, StepsAreLogged}
+use Rattle.shared_objects.proofs.steps.GlanceStays.{event_struck, glance_struck, glance_kinds, glance_stays}
+use Rattle.shared_objects.proofs.steps.BrokenRests.{broken_rests, stop_breaks, spent_breaks_off}
+
+-- what the calls for a request show of the event that it is, if it is one
+abbrev pub Tells : Option What → Request → Reply → ℕ → List Call → Type 0
+Tells None asked reply seen calls = events_in calls ≡ []
+Tells (Some what) asked reply seen calls = (call : Call) × (events_in calls ≡ call ∷ []) × (call.asked ≡ struck asked) × (call.told.reply ≡ reply)
+    × IfSome call.told.ticket (λ n. n ≡ seen)
+
+-- a ticket is the last thing that its pass has seen
+seen_last : (pass after : PassState) (note : ℕ) (spent drew : Bool) (ticket : Option ℕ) → PassBy pass note spent drew ticket after → IfSome ticket (λ n. n ≡ after.seen)
+seen_last pass after note spent drew None by = tt
+seen_last pass after note spent drew (Some n) by = sym (ap (λ (p : PassState). p.seen) by.2)
+
+pub seen_made : (pass after : Option PassState) (note : ℕ) (spent drew : Bool) (ticket : Option ℕ) → PassOn pass note spent drew ticket after → IfSome ticket (λ n. n ≡ seen_by after)
+seen_made None after note spent drew ticket by = absurd by
+seen_made (Some pass) None note spent drew ticket by = absurd by
+seen_made (Some pass) (Some after) note spent drew ticket by = seen_last pass after note spent drew ticket by
+
+same_event : (call : Call) (asked : Request) (reply : Reply) → call.asked ≡ struck asked → call.told.reply ≡ reply → is_event call.asked call.told.reply ≡ is_event asked reply
+same_event call asked reply asks replies =
+    ap (λ a. is_event a call.told.reply) asks ∙ ap (is_event (struck asked)) replies ∙ event_struck asked reply
+
+event_alone : (call : Call) (b : Bool) → is_event call.asked call.told.reply ≡ b → events_in (call ∷ []) ≡ cond b (call ∷ []) []
+event_alone call b is = ap (λ (e : Bool). cond e (call ∷ []) []) is
+
+pub tells_one : (told : Option What) (call : Call) (asked : Request) (reply : Reply) (seen : ℕ) → what_of asked reply ≡ told → call.asked ≡ struck asked
+    → call.told.reply ≡ reply → IfSome call.told.ticket (λ n. n ≡ seen) → Tells told asked reply seen (call ∷ [])
+tells_one None call asked reply seen is asks replies last = event_alone call false (same_event call asked reply asks replies ∙ ap is_some is)
+tells_one (Some what) call asked reply seen is asks replies last =
+    (call, event_alone call true (same_event call asked reply asks replies ∙ ap is_some is), asks, replies, last)
+
+-- glances in front and behind are no events
+pub quiet_first : (look : Call) (calls : List Call) → is_event look.asked look.told.reply ≡ false → events_in (look ∷ calls) ≡ events_in calls
+quiet_first look calls is = ap (λ (e : Bool). cond e (look ∷ events_in calls) (events_in calls)) is
+
+pub tells_further : (told : Option What) (look : Call) (asked : Request) (reply : Reply) (seen : ℕ) (calls : List Call) → is_event look.asked look.told.reply ≡ false
+    → Tells told asked reply seen calls → Tells told asked reply seen (look ∷ calls)
+tells_further None look asked reply seen calls quiet tells = quiet_first look calls quiet ∙ tells
+tells_further (Some what) look asked reply seen calls quiet tells = (tells.0, quiet_first look calls quiet ∙ tells.1, tells.2, tells.3, tells.4)
+
+pub no_event : (call : Call) → is_glance call.asked call.told.reply ≡ true → is_event call.asked call.told.reply ≡ false
+no_event call is = (glance_kinds (is_event call.asked call.told.reply) (is_stop call.asked call.told.reply) is).0
+
+pub shows_further : (setup : Setup) (task next : TaskState) (seen : ℕ) (look : Call) (calls : List Call) (step : Step) → is_event look.asked look.told.reply ≡ false
+    → ShowsStep setup task next seen calls step → ShowsStep setup task next seen (look ∷ calls) step
+shows_further setup task next seen look calls (Stepped event) quiet shows = (shows.0, quiet_first look calls quiet ∙ shows.1, shows.2, shows.3, shows.4, shows.5)
+shows_further setup task next seen look calls Ended quiet shows = (
+  quiet_first look calls quiet ∙ shows.0,
+  elim shows.1 [
+    | inl rests ↦ inl rests
+    | inr saw ↦ inr (saw.0, Contains-append_right (look ∷ []) calls saw.0 saw.1, saw.2, saw.3)
+  ],
+)
+shows_further setup task next seen look calls (Broken breach) quiet shows = (quiet_first look calls quiet ∙ shows.0, shows.1)
+shows_further setup task next seen look calls Waiting quiet shows = quiet_first look calls quiet ∙ shows
+shows_further setup task next seen look calls (Blocked pool) quiet shows = quiet_first look calls quiet ∙ shows
+
+-- what a step comes to that is no event
+resize_stops : (home : Bool) (pool : PoolId) (min : ℕ) → resize_of home pool min ≡ None → (not home || false) ≡ true
+resize_stops true pool min is = absurd (cc is)
+resize_stops false pool min is = refl
+
+silent_shows : (setup : Setup) (task next : TaskState) (seen : ℕ) (calls : List Call) (asked : Request) (reply : Reply) → what_of asked reply ≡ None → events_in calls ≡ []
+    → (reply ≡ Spent → request setup next ≡ Rest) → (is_stop asked reply ≡ true → request setup next ≡ Rest)
+    → ShowsStep setup task next seen calls (silent_step setup asked reply)
+silent_shows setup task next seen calls asked Spent none quiet spent stop = (quiet, spent refl)
+silent_shows setup task next seen calls (Link writer opening) (LinkedTo (NoRoom back)) none quiet spent stop = (quiet, stop refl)
+silent_shows setup task next seen calls (Link writer opening) (LinkedTo (Stray back)) none quiet spent stop = (quiet, stop refl)
+silent_shows setup task next seen calls (Drop writer node status part) (DroppedTo (end.Stray back)) none quiet spent stop = (quiet, stop refl)
+silent_shows setup task next seen calls (Resize pool min) (OutIs out) none quiet spent stop = (quiet, stop (resize_stops (out == 0) pool min none))
+silent_shows setup task next seen calls (TakeBio set waits) (Missed used) none quiet spent stop = quiet
+silent_shows setup task next seen calls TakeVec (Missed used) none quiet spent stop = quiet
+silent_shows setup task next seen calls (TakeSlip dev) (Missed used) none quiet spent stop = quiet
+silent_shows setup task next seen calls asked reply none quiet spent stop = quiet
+
+pub shows_step : (setup : Setup) (task next : TaskState) (seen : ℕ) (calls : List Call) (told : Option What) (asked : Request) (reply : Reply) → asked ≡ request setup task
+    → what_of asked reply ≡ told → Tells told asked reply seen calls → (reply ≡ Spent → request setup next ≡ Rest) → (is_stop asked reply ≡ true → request setup next ≡ Rest)
+    → ShowsStep setup task next seen calls (step_by (id_of task) told (silent_step setup asked reply))
+shows_step setup task next seen calls None asked reply same is tells spent stop = silent_shows setup task next seen calls asked reply is tells spent stop
+shows_step setup task next seen calls (Some what) asked reply same is tells spent stop =
+    (tells.0, tells.1, tells.2 ∙ ap struck same, ap (what_of (request setup task)) tells.3 ∙ subst (λ a. what_of a reply ≡ Some what) same is, refl, tells.4)
+
+-- a task that asks for nothing has ended, or broken off
+pub rests_shows : (setup : Setup) (task next : TaskState) (seen : ℕ) (breach : Option Breach) → request setup next ≡ Rest → ShowsStep setup task next seen [] (resting_step breach)
+rests_shows setup task next seen None rests = (refl, inl rests)
+rests_shows setup task next seen (Some breach) rests = (refl, rests)
+
+pub idle_shows : (setup : Setup) (task next : TaskState) (seen : ℕ) (calls : List Call) (look : Call) (left : ℕ) (none : Bool) → (left == 0) ≡ none → events_in calls ≡ []
+    → look.asked ≡ LookLeft → look.told.reply ≡ LeftOver left → Contains calls look → ShowsStep setup task next seen calls (if none then Ended else Waiting)
+idle_shows setup task next seen calls look left true is quiet asks replies within =
+    (quiet, inr (look, within, asks, replies ∙ ap LeftOver (grind (arith, nat_tests, is))))
+idle_shows setup task next seen calls look left false is quiet asks replies within = quiet
+
+pub nothing_none : (asked : Request) → what_of asked Nothing ≡ None
+nothing_none (TakeBio set waits) = refl
+nothing_none TakeVec = refl
+nothing_none (TakeSlip dev) = refl
+nothing_none (GiveBio bio) = refl
+nothing_none (GiveVec vector) = refl
+nothing_none (GiveSlip slip) = refl
+nothing_none (Punt dev moved) = refl
+nothing_none (Pop dev) = refl
+nothing_none (Push bio) = refl
+nothing_none (Complete disk) = refl
+nothing_none (Link writer opening) = refl
+nothing_none (Drop writer node status part) = refl
+nothing_none (Done write status) = refl
+nothing_none (Resize pool min) = refl
+nothing_none (NextRound round) = refl
+nothing_none LookRound = refl
+nothing_none LookLeft = refl
+nothing_none Rest = refl
