@@ -24,3 +24,4 @@ pub mod Left
 pub mod Tickets
 pub mod Parted
 pub mod Opening
+pub mod Callers

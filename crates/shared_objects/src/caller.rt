@@ -8,8 +8,8 @@ ghost use Rattle.object_things.specs.Disks.{DiskAskAlone, DiskSays, disk_asked, 
 ghost use Rattle.object_things.specs.Lists.{ListSays, list_asked, list_replied};
 ghost use Rattle.object_things.specs.Pools.{PoolAskFits, PoolSays, pool_asked, pool_replied};
 ghost use Rattle.object_things.specs.Tallies.{TallySays, tally_asked, tally_replied};
-ghost use Rattle.shared_objects.specs.Desks.{HasCalled};
-ghost use Rattle.shared_objects.specs.Holding.{DeskHolds, IsClearSlip, IsClearVector, desk_of, stage_at};
+ghost use Rattle.shared_objects.specs.Callers.{CallerHasCalled};
+ghost use Rattle.shared_objects.specs.Holding.{DeskHolds, IsClearSlip, IsClearVector, stage_at};
 
 pub mod objects;
 pub mod steps;
@@ -42,11 +42,8 @@ impl<'a, R: Wait> Caller<'a, R> {
         requires pool { IsTrue (is_bios (stage_at self.old.locks.now) number) }
         requires named { object_of (pool_asked ask) ≡ OfPool number }
         requires fits { PoolAskFits (stage_at self.old.locks.now) ask }
-        ensures calls { HasCalled (desk_of self.old.seats.now) (pool_asked ask) (pool_replied result) (desk_of self.new.seats.now) }
+        ensures called { CallerHasCalled self.old (pool_asked ask) (pool_replied result) self.new }
         ensures says { PoolSays IsClearBody ((stage_at self.old.locks.now).ledger number) ask result }
-        ensures kept { DeskHolds self.old.locks.now self.new.seats.now }
-        ensures same { self.new.locks.now ≡ self.old.locks.now }
-        ensures lent { self.new.seats.ghost_name ≡ self.old.seats.ghost_name }
     {
         let locks = self.locks;
         let seats = &mut *self.seats;
@@ -67,11 +64,8 @@ impl<'a, R: Wait> Caller<'a, R> {
         requires holds { DeskHolds self.old.locks.now self.old.seats.now }
         requires named { object_of (pool_asked ask) ≡ OfPool 64 }
         requires fits { PoolAskFits (stage_at self.old.locks.now) ask }
-        ensures calls { HasCalled (desk_of self.old.seats.now) (pool_asked ask) (pool_replied result) (desk_of self.new.seats.now) }
+        ensures called { CallerHasCalled self.old (pool_asked ask) (pool_replied result) self.new }
         ensures says { PoolSays IsClearVector ((stage_at self.old.locks.now).ledger 64) ask result }
-        ensures kept { DeskHolds self.old.locks.now self.new.seats.now }
-        ensures same { self.new.locks.now ≡ self.old.locks.now }
-        ensures lent { self.new.seats.ghost_name ≡ self.old.seats.ghost_name }
     {
         let seats = &mut *self.seats;
         call(
@@ -90,11 +84,8 @@ impl<'a, R: Wait> Caller<'a, R> {
         requires pool { IsTrue (is_slips (stage_at self.old.locks.now) number) }
         requires named { object_of (pool_asked ask) ≡ OfPool number }
         requires fits { PoolAskFits (stage_at self.old.locks.now) ask }
-        ensures calls { HasCalled (desk_of self.old.seats.now) (pool_asked ask) (pool_replied result) (desk_of self.new.seats.now) }
+        ensures called { CallerHasCalled self.old (pool_asked ask) (pool_replied result) self.new }
         ensures says { PoolSays IsClearSlip ((stage_at self.old.locks.now).ledger number) ask result }
-        ensures kept { DeskHolds self.old.locks.now self.new.seats.now }
-        ensures same { self.new.locks.now ≡ self.old.locks.now }
-        ensures lent { self.new.seats.ghost_name ≡ self.old.seats.ghost_name }
     {
         let locks = self.locks;
         let seats = &mut *self.seats;
@@ -116,12 +107,9 @@ impl<'a, R: Wait> Caller<'a, R> {
         requires rescuer { IsTrue (has_rescuer (stage_at self.old.locks.now) dev) }
         requires named { object_of (list_asked ask) ≡ OfRescuer dev.0 }
         requires fits { RequestFits (stage_at self.old.locks.now) (list_asked ask) }
-        ensures calls { HasCalled (desk_of self.old.seats.now) (list_asked ask) (list_replied result) (desk_of self.new.seats.now) }
+        ensures called { CallerHasCalled self.old (list_asked ask) (list_replied result) self.new }
         ensures owed { Owes (stage_at self.old.locks.now) (list_asked ask) (list_replied result) }
         ensures says { ListSays ask result }
-        ensures kept { DeskHolds self.old.locks.now self.new.seats.now }
-        ensures same { self.new.locks.now ≡ self.old.locks.now }
-        ensures lent { self.new.seats.ghost_name ≡ self.old.seats.ghost_name }
     {
         let locks = self.locks;
         let seats = &mut *self.seats;
@@ -144,11 +132,8 @@ impl<'a, R: Wait> Caller<'a, R> {
         requires named { object_of (disk_asked ask) ≡ OfDisk disk.0 }
         requires fits { RequestFits (stage_at self.old.locks.now) (disk_asked ask) }
         requires alone { DiskAskAlone ask }
-        ensures calls { HasCalled (desk_of self.old.seats.now) (disk_asked ask) (disk_replied result) (desk_of self.new.seats.now) }
+        ensures called { CallerHasCalled self.old (disk_asked ask) (disk_replied result) self.new }
         ensures says { DiskSays (stage_at self.old.locks.now) ask result }
-        ensures kept { DeskHolds self.old.locks.now self.new.seats.now }
-        ensures same { self.new.locks.now ≡ self.old.locks.now }
-        ensures lent { self.new.seats.ghost_name ≡ self.old.seats.ghost_name }
     {
         let locks = self.locks;
         let seats = &mut *self.seats;
@@ -171,12 +156,9 @@ impl<'a, R: Wait> Caller<'a, R> {
         requires named { object_of (book_asked ask) ≡ OfBook writer }
         requires fits { RequestFits (stage_at self.old.locks.now) (book_asked ask) }
         requires alone { BookAskAlone ask }
-        ensures calls { HasCalled (desk_of self.old.seats.now) (book_asked ask) (book_replied result) (desk_of self.new.seats.now) }
+        ensures called { CallerHasCalled self.old (book_asked ask) (book_replied result) self.new }
         ensures owed { Owes (stage_at self.old.locks.now) (book_asked ask) (book_replied result) }
         ensures says { BookSays ask result }
-        ensures kept { DeskHolds self.old.locks.now self.new.seats.now }
-        ensures same { self.new.locks.now ≡ self.old.locks.now }
-        ensures lent { self.new.seats.ghost_name ≡ self.old.seats.ghost_name }
     {
         let locks = self.locks;
         let seats = &mut *self.seats;
@@ -197,12 +179,9 @@ impl<'a, R: Wait> Caller<'a, R> {
         requires holds { DeskHolds self.old.locks.now self.old.seats.now }
         requires named { object_of (tally_asked ask) ≡ OfTally }
         requires fits { RequestFits (stage_at self.old.locks.now) (tally_asked ask) }
-        ensures calls { HasCalled (desk_of self.old.seats.now) (tally_asked ask) (tally_replied result) (desk_of self.new.seats.now) }
+        ensures called { CallerHasCalled self.old (tally_asked ask) (tally_replied result) self.new }
         ensures owed { Owes (stage_at self.old.locks.now) (tally_asked ask) (tally_replied result) }
         ensures says { TallySays ask result }
-        ensures kept { DeskHolds self.old.locks.now self.new.seats.now }
-        ensures same { self.new.locks.now ≡ self.old.locks.now }
-        ensures lent { self.new.seats.ghost_name ≡ self.old.seats.ghost_name }
     {
         let seats = &mut *self.seats;
         call(

@@ -10,8 +10,8 @@ ghost use Rattle.object_things.specs.declared.disk.DiskAsk.TheVariants as asks;
 ghost use Rattle.object_things.specs.declared.disk.DiskSaid.TheVariants as says;
 ghost use Rattle.object_things.specs.Disks.{DiskSays};
 ghost use Rattle.object_things.specs.Stamps.{or_unmade};
-ghost use Rattle.shared_objects.specs.Desks.{HasCalled};
-ghost use Rattle.shared_objects.specs.Holding.{DeskHolds, desk_of, stage_at};
+ghost use Rattle.shared_objects.specs.Callers.{CallerHasCalled};
+ghost use Rattle.shared_objects.specs.Holding.{DeskHolds, stage_at};
 
 use crate::caller::Caller;
 use crate::calls::or_unmade;
@@ -35,10 +35,7 @@ impl<'a, R: Wait> Caller<'a, R> {
     fn look_at(&mut self, disk: DevId) -> u64
         requires holds { DeskHolds self.old.locks.now self.old.seats.now }
         requires fits { RequestFits (stage_at self.old.locks.now) (Complete disk) }
-        ensures calls { HasCalled (desk_of self.old.seats.now) (Complete disk) (LeftOver result) (desk_of self.new.seats.now) }
-        ensures kept { DeskHolds self.old.locks.now self.new.seats.now }
-        ensures same { self.new.locks.now ≡ self.old.locks.now }
-        ensures lent { self.new.seats.ghost_name ≡ self.old.seats.ghost_name }
+        ensures called { CallerHasCalled self.old (Complete disk) (LeftOver result) self.new }
     {
         match self.ask_disk(disk, DiskAsk::Look { disk }) {
             DiskSaid::Waiting(count) => count,
@@ -51,11 +48,8 @@ impl<'a, R: Wait> Caller<'a, R> {
     fn complete_at(&mut self, disk: DevId, index: u64) -> Result<Option<(u64, Done)>, NoTicket>
         requires holds { DeskHolds self.old.locks.now self.old.seats.now }
         requires fits { RequestFits (stage_at self.old.locks.now) (Complete disk) }
-        ensures calls { HasCalled (desk_of self.old.seats.now) (Complete disk) (completed_reply (or_unmade result)) (desk_of self.new.seats.now) }
+        ensures called { CallerHasCalled self.old (Complete disk) (completed_reply (or_unmade result)) self.new }
         ensures says { DiskSays (stage_at self.old.locks.now) (asks.Complete disk index) (says.Completed result) }
-        ensures kept { DeskHolds self.old.locks.now self.new.seats.now }
-        ensures same { self.new.locks.now ≡ self.old.locks.now }
-        ensures lent { self.new.seats.ghost_name ≡ self.old.seats.ghost_name }
     {
         match self.ask_disk(disk, DiskAsk::Complete { disk, index }) {
             DiskSaid::Completed(result) => result,
@@ -68,11 +62,8 @@ impl<'a, R: Wait> Caller<'a, R> {
     fn resize_bios(&mut self, set: SetId, min: u32) -> Result<u64, Unmade>
         requires holds { DeskHolds self.old.locks.now self.old.seats.now }
         requires fits { RequestFits (stage_at self.old.locks.now) (Resize (bios_of set) min) }
-        ensures calls { HasCalled (desk_of self.old.seats.now) (Resize (bios_of set) min) (resized_reply result) (desk_of self.new.seats.now) }
+        ensures called { CallerHasCalled self.old (Resize (bios_of set) min) (resized_reply result) self.new }
         ensures back { IfErr result (λ back. back ≡ unmade.Nothing) }
-        ensures kept { DeskHolds self.old.locks.now self.new.seats.now }
-        ensures same { self.new.locks.now ≡ self.old.locks.now }
-        ensures lent { self.new.seats.ghost_name ≡ self.old.seats.ghost_name }
     {
         let pool = bios_of(set);
         match self.ask_bios(pool.no(), PoolAsk::Resize { pool, min }) {
@@ -85,11 +76,8 @@ impl<'a, R: Wait> Caller<'a, R> {
     fn resize_vecs(&mut self, min: u32) -> Result<u64, Unmade>
         requires holds { DeskHolds self.old.locks.now self.old.seats.now }
         requires fits { RequestFits (stage_at self.old.locks.now) (Resize FsVecs min) }
-        ensures calls { HasCalled (desk_of self.old.seats.now) (Resize FsVecs min) (resized_reply result) (desk_of self.new.seats.now) }
+        ensures called { CallerHasCalled self.old (Resize FsVecs min) (resized_reply result) self.new }
         ensures back { IfErr result (λ back. back ≡ unmade.Nothing) }
-        ensures kept { DeskHolds self.old.locks.now self.new.seats.now }
-        ensures same { self.new.locks.now ≡ self.old.locks.now }
-        ensures lent { self.new.seats.ghost_name ≡ self.old.seats.ghost_name }
     {
         let pool = PoolId::FsVecs;
         match self.ask_vecs(PoolAsk::Resize { pool, min }) {
@@ -103,11 +91,8 @@ impl<'a, R: Wait> Caller<'a, R> {
     fn resize_records(&mut self, dev: DevId, min: u32) -> Result<u64, Unmade>
         requires holds { DeskHolds self.old.locks.now self.old.seats.now }
         requires fits { RequestFits (stage_at self.old.locks.now) (Resize (Records dev) min) }
-        ensures calls { HasCalled (desk_of self.old.seats.now) (Resize (Records dev) min) (resized_reply result) (desk_of self.new.seats.now) }
+        ensures called { CallerHasCalled self.old (Resize (Records dev) min) (resized_reply result) self.new }
         ensures back { IfErr result (λ back. back ≡ unmade.Nothing) }
-        ensures kept { DeskHolds self.old.locks.now self.new.seats.now }
-        ensures same { self.new.locks.now ≡ self.old.locks.now }
-        ensures lent { self.new.seats.ghost_name ≡ self.old.seats.ghost_name }
     {
         let pool = PoolId::Records(dev);
         match self.ask_records(pool.no(), PoolAsk::Resize { pool, min }) {

@@ -1,4 +1,4 @@
-use Rattle.std.proofs.Common.{rules}
+use Rattle.std.proofs.Common.{refl, rules}
 use Rattle.shared_objects.proofs.asking.ObjectCalls.{book_seated, book_fits, book_called, book_holds, book_owed, book_says}
 use Rattle.shared_objects.proofs.caller.Caller.ask_book.Goals as goal
 
@@ -11,15 +11,17 @@ call_at-requires-clause-fits g c =
     book_fits c.args.self.now.locks.now c.args.self.now.seats.now c.requires.holds c.deref.result.now c.deref.ensures.value c.args.writer c.place-at.result c.requires.book c.place-at.ensures c.args.ask c.requires.named
     c.requires.fits c.requires.alone
 
-pub returns-clause-calls : goal.returns-clause-calls
-returns-clause-calls g c =
-    book_called c.args.self.now.locks.now c.args.self.now.seats.now c.requires.holds c.deref.result.now c.deref.ensures.value c.args.writer c.place-at.result c.requires.book c.place-at.ensures c.args.ask c.requires.named
-    c.call_at.result c.call_at.new.seats c.call_at.new.pass c.call_at.ensures
-
-pub returns-clause-kept : goal.returns-clause-kept
-returns-clause-kept g c =
-    book_holds c.args.self.now.locks.now c.args.self.now.seats.now c.requires.holds c.deref.result.now c.deref.ensures.value c.args.writer c.place-at.result c.requires.book c.place-at.ensures c.args.ask c.requires.named
-    c.call_at.result c.call_at.new.seats c.call_at.new.pass c.call_at.ensures
+pub returns-clause-called : goal.returns-clause-called
+returns-clause-called g c = record {
+  calls =
+      book_called c.args.self.now.locks.now c.args.self.now.seats.now c.requires.holds c.deref.result.now c.deref.ensures.value c.args.writer c.place-at.result c.requires.book c.place-at.ensures c.args.ask c.requires.named
+      c.call_at.result c.call_at.new.seats c.call_at.new.pass c.call_at.ensures;
+  kept =
+      book_holds c.args.self.now.locks.now c.args.self.now.seats.now c.requires.holds c.deref.result.now c.deref.ensures.value c.args.writer c.place-at.result c.requires.book c.place-at.ensures c.args.ask c.requires.named
+      c.call_at.result c.call_at.new.seats c.call_at.new.pass c.call_at.ensures;
+  same = refl;
+  lent = refl;
+}
 
 pub returns-clause-owed : goal.returns-clause-owed
 returns-clause-owed g c =

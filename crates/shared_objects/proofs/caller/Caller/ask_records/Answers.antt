@@ -1,4 +1,4 @@
-use Rattle.std.proofs.Common.{rules}
+use Rattle.std.proofs.Common.{refl, rules}
 use Rattle.shared_objects.proofs.asking.PoolCalls.{slips_seated, slips_fits, slips_called, slips_holds, slips_says}
 use Rattle.shared_objects.proofs.caller.Caller.ask_records.Goals as goal
 
@@ -11,15 +11,17 @@ call_at-requires-clause-fits g c =
     slips_fits c.args.self.now.locks.now c.args.self.now.seats.now c.requires.holds c.deref.result.now c.deref.ensures.value c.args.number c.place-at.result c.requires.pool c.place-at.ensures c.args.ask c.requires.named
     c.requires.fits
 
-pub returns-clause-calls : goal.returns-clause-calls
-returns-clause-calls g c =
-    slips_called c.args.self.now.locks.now c.args.self.now.seats.now c.requires.holds c.deref.result.now c.deref.ensures.value c.args.number c.place-at.result c.requires.pool c.place-at.ensures c.args.ask c.requires.named
-    c.call_at.result c.call_at.new.seats c.call_at.new.pass c.call_at.ensures
-
-pub returns-clause-kept : goal.returns-clause-kept
-returns-clause-kept g c =
-    slips_holds c.args.self.now.locks.now c.args.self.now.seats.now c.requires.holds c.deref.result.now c.deref.ensures.value c.args.number c.place-at.result c.requires.pool c.place-at.ensures c.args.ask c.requires.named
-    c.call_at.result c.call_at.new.seats c.call_at.new.pass c.call_at.ensures
+pub returns-clause-called : goal.returns-clause-called
+returns-clause-called g c = record {
+  calls =
+      slips_called c.args.self.now.locks.now c.args.self.now.seats.now c.requires.holds c.deref.result.now c.deref.ensures.value c.args.number c.place-at.result c.requires.pool c.place-at.ensures c.args.ask c.requires.named
+      c.call_at.result c.call_at.new.seats c.call_at.new.pass c.call_at.ensures;
+  kept =
+      slips_holds c.args.self.now.locks.now c.args.self.now.seats.now c.requires.holds c.deref.result.now c.deref.ensures.value c.args.number c.place-at.result c.requires.pool c.place-at.ensures c.args.ask c.requires.named
+      c.call_at.result c.call_at.new.seats c.call_at.new.pass c.call_at.ensures;
+  same = refl;
+  lent = refl;
+}
 
 pub returns-clause-says : goal.returns-clause-says
 returns-clause-says g c =

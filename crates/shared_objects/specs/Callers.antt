@@ -1,0 +1,14 @@
+-- What a call says of the caller that made it.
+use Rattle.std.specs.Prelude.{◌≡◌}
+use Rattle.run_machine.specs.Requests.{Request, Reply}
+use Rattle.shared_objects.specs.declared.caller.Caller.{Caller}
+use Rattle.shared_objects.specs.Desks.{HasCalled}
+use Rattle.shared_objects.specs.Holding.{DeskHolds, desk_of}
+
+-- A caller made one call of an object, for the task whose seats it was lent: the call stands last among those of the task, and what holds of a
+-- desk holds still. The locks are as they were, and the seats are the place that was lent.
+pub record CallerHasCalled {R : Type 0} (old : Caller R) (asked : Request) (reply : Reply) (new : Caller R) : Type 0 where
+  pub calls : HasCalled (desk_of old.seats.now) asked reply (desk_of new.seats.now)
+  pub kept : DeskHolds old.locks.now new.seats.now
+  pub same : new.locks.now ≡ old.locks.now
+  pub lent : new.seats.ghost_name ≡ old.seats.ghost_name
