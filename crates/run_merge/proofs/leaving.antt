@@ -1,10 +1,10 @@
 -- What closed objects leave.
 pub mod StackHasNamed
 pub mod Falls
-pub mod Looking
+pub mod FoundByKey
 pub mod Devices
 pub mod PoolRows
-pub mod Counted
-pub mod Left
-pub mod Traced
+pub mod EventsOfTasks
+pub mod LeftByRun
+pub mod TraceOfRun
 pub mod MergeOfClosed

@@ -1,6 +1,6 @@
 -- The merge of histories is the entries of a run.
-pub mod Tickets
+pub mod TicketOrder
 pub mod Picked
-pub mod Splits
-pub mod Tally
+pub mod TwoParts
+pub mod TallyAlone
 pub mod MergeIsRun

@@ -1,12 +1,12 @@
 -- A list of entries is that of a run exactly where it is a product.
 pub mod ObjectNames
 pub mod Served
-pub mod Ends
+pub mod WritesEnd
 pub mod Stages
-pub mod Known
-pub mod Asking
-pub mod Lets
-pub mod Behind
-pub mod Leads
-pub mod Parts
+pub mod KnownBehind
+pub mod KeeperAsks
+pub mod LookLets
+pub mod StateBehind
+pub mod ProductIsRun
+pub mod RunIsProduct
 pub mod RoundOrder

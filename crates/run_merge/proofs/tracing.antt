@@ -1,6 +1,6 @@
 -- What tasks noted, joined by tickets, are the events of the run.
-pub mod Climbing
+pub mod RisingLists
 pub mod DrawnOnce
-pub mod Walking
-pub mod Notes
-pub mod Lists
+pub mod NotedEntries
+pub mod NotesOfRun
+pub mod WholeLists

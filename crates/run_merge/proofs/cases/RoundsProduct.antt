@@ -29,7 +29,7 @@ use Rattle.run_merge.specs.Entries.{Entry, entries_in}
 use Rattle.run_merge.specs.Machines.{entries_at}
 use Rattle.run_merge.specs.Products.{entries_by, IsProduct, AreOfRun}
 use Rattle.run_merge.proofs.cases.RoundsScenario.{is_scenario}
-use Rattle.run_merge.proofs.products.Parts.{runs_are_products}
+use Rattle.run_merge.proofs.products.RunIsProduct.{runs_are_products}
 
 abbrev entry : ℕ → Request → Reply → Entry
 entry place asked reply = record { place = place; asked = asked; reply = reply }

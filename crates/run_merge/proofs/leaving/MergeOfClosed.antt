@@ -37,14 +37,14 @@ use Rattle.run_merge.specs.Merging.{Ticketed, all_of, done_by, sorted}
 use Rattle.run_merge.specs.ObjectsByName.{made_of}
 use Rattle.run_merge.specs.Outcomes.{shared_scenario, shared_ledger, histories_in, histories_by, state_in, IsOutcomeOf}
 use Rattle.run_merge.specs.SharedObjects.{DrewAsEvent, entry_histories, seen_at, state_left, ticketed}
-use Rattle.run_merge.proofs.closes.EnoughShown.{closes_are_runs}
-use Rattle.run_merge.proofs.closes.Events.{histories_are}
-use Rattle.run_merge.proofs.closes.Sorting.{picks_mine}
-use Rattle.run_merge.proofs.closing.Counts.{merge_length}
-use Rattle.run_merge.proofs.leaving.Counted.{all_tasks, sums_stop}
-use Rattle.run_merge.proofs.leaving.Left.{pools_in, pools_are, disks_are}
+use Rattle.run_merge.proofs.enough_shown.ClosesAreRuns.{closes_are_runs}
+use Rattle.run_merge.proofs.enough_shown.CallEvents.{histories_are}
+use Rattle.run_merge.proofs.enough_shown.SortedByTicket.{picks_mine}
+use Rattle.run_merge.proofs.closing.EventsAndEntries.{merge_length}
+use Rattle.run_merge.proofs.leaving.EventsOfTasks.{all_tasks, sums_stop}
+use Rattle.run_merge.proofs.leaving.LeftByRun.{pools_in, pools_are, disks_are}
 use Rattle.run_merge.proofs.leaving.StackHasNamed.{run_named}
-use Rattle.run_merge.proofs.leaving.Traced.{trace_is}
+use Rattle.run_merge.proofs.leaving.TraceOfRun.{trace_is}
 use Rattle.run_merge.proofs.merging.Picked.{is_by}
 
 -- rows of which this is the same at each place

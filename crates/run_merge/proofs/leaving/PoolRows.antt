@@ -17,7 +17,7 @@ use Rattle.task_steps.specs.Routed.{Routing, routing_setup}
 use Rattle.shared_objects.specs.Holding.{by_pool, set_key, slip_key}
 use Rattle.run_merge.proofs.Fronts.{first_or, behind_first, has_some}
 use Rattle.run_merge.proofs.leaving.Devices.{has_records}
-use Rattle.run_merge.proofs.leaving.Looking.{AreDistinct, looked, numbers_apart, pairs}
+use Rattle.run_merge.proofs.leaving.FoundByKey.{AreDistinct, looked, numbers_apart, pairs}
 
 -- numbers of pools
 twice_apart : (m n : ℕ) → m < n → 2 * m ≢ 2 * n

@@ -26,7 +26,7 @@ use Rattle.task_core.specs.Plains.{stage_of}
 use Rattle.task_core.specs.opened.OfOne.{IsOpened, scenario_in, tasks_at}
 use Rattle.task_core.proofs.Keeping.{objects_stay, objects_owe}
 use Rattle.task_core.proofs.opened.Begins.{run_begins, scene_is}
-use Rattle.run_merge.proofs.closes.Counting.{image_at, image_none}
+use Rattle.run_merge.proofs.enough_shown.TaskCounts.{image_at, image_none}
 
 -- what holds behind each event
 pub record IsKept (stage : Stage) (state : State) : Type 0 where

@@ -20,14 +20,14 @@ use Rattle.run_merge.specs.ObjectsByName.{get}
 use Rattle.run_merge.specs.Products.{LeadsTask, entries_by, task_behind, AreOfRun}
 use Rattle.run_merge.specs.Merging.{Ticketed, Histories, without_tickets, sorted, all_of, history_of, done_by, TallyThen, LetsAsk, Shown, MergesAreRuns}
 use Rattle.run_merge.proofs.merging.Picked.{is_at, is_by, entries_filter, merge_at, merge_by, merge_entries_at, merge_entries_by}
-use Rattle.run_merge.proofs.merging.Splits.{cut, object_split, task_split, smaller_first}
-use Rattle.run_merge.proofs.merging.Tally.{IsLater, from_there}
-use Rattle.run_merge.proofs.merging.Tickets.{Ordered, sorted_ordered, all_sorted, ordered_filter, ordered_split}
-use Rattle.run_merge.proofs.products.Behind.{at_start, behind_run}
-use Rattle.run_merge.proofs.products.Known.{Known, known}
-use Rattle.run_merge.proofs.products.Leads.{leads}
-use Rattle.run_merge.proofs.products.Lets.{ComesBehind, comes_by}
-use Rattle.run_merge.proofs.products.Parts.{run_objects}
+use Rattle.run_merge.proofs.merging.TwoParts.{cut, object_split, task_split, smaller_first}
+use Rattle.run_merge.proofs.merging.TallyAlone.{IsLater, from_there}
+use Rattle.run_merge.proofs.merging.TicketOrder.{Ordered, sorted_ordered, all_sorted, ordered_filter, ordered_split}
+use Rattle.run_merge.proofs.products.StateBehind.{at_start, behind_run}
+use Rattle.run_merge.proofs.products.KnownBehind.{Known, known}
+use Rattle.run_merge.proofs.products.ProductIsRun.{leads}
+use Rattle.run_merge.proofs.products.LookLets.{ComesBehind, comes_by}
+use Rattle.run_merge.proofs.products.RunIsProduct.{run_objects}
 
 module _ (s : Scenario) (ledger : ℕ → LedgerId) (good : IsScenario s) (naming : IsNaming ledger) (hs : Histories) (last : State) (shown : Shown s ledger hs last) where
   merged : List Ticketed

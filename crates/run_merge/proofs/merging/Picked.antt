@@ -10,7 +10,7 @@ use Rattle.run_merge.specs.Entries.{Entry}
 use Rattle.run_merge.specs.Machines.{entries_at}
 use Rattle.run_merge.specs.Products.{entries_by}
 use Rattle.run_merge.specs.Merging.{Ticketed, Histories, without_tickets, sorted, RiseFrom, all_of, history_of, AreOfDifferentObjects, AreTagged, done_by}
-use Rattle.run_merge.proofs.merging.Tickets.{rising_sorted, filter_sorted}
+use Rattle.run_merge.proofs.merging.TicketOrder.{rising_sorted, filter_sorted}
 
 pub entries_filter : (q : Entry → Bool) (ns : List Ticketed) → filter q (without_tickets ns) ≡ without_tickets (filter (λ (n : Ticketed). q n.entry) ns)
 entries_filter q [] = refl

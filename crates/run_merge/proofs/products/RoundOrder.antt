@@ -17,10 +17,10 @@ use Rattle.shared_objects.specs.Calls.{struck}
 use Rattle.run_merge.specs.Entries.{Entry}
 use Rattle.run_merge.specs.RoundNumbers.{round_told, rounds_told, RoundsAreNumbered}
 use Rattle.run_merge.specs.Products.{is_next_round}
-use Rattle.run_merge.proofs.products.Asking.{is_keeping, writer_keeps_none, rescuer_keeps_none, completer_keeps_none}
-use Rattle.run_merge.proofs.products.Behind.{Behind, entry_of, at_start, one_more}
-use Rattle.run_merge.proofs.products.Known.{Known, known}
-use Rattle.run_merge.proofs.products.Lets.{round_after}
+use Rattle.run_merge.proofs.products.KeeperAsks.{is_keeping, writer_keeps_none, rescuer_keeps_none, completer_keeps_none}
+use Rattle.run_merge.proofs.products.StateBehind.{Behind, entry_of, at_start, one_more}
+use Rattle.run_merge.proofs.products.KnownBehind.{Known, known}
+use Rattle.run_merge.proofs.products.LookLets.{round_after}
 
 -- an event starts a round just where its task asks for it
 abbrev numbers : Request → List ℕ

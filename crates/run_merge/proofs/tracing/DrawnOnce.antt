@@ -24,15 +24,15 @@ use Rattle.shared_objects.specs.Passes.{numbers_of}
 use Rattle.shared_objects.proofs.tickets.TicketsOfCalls.{drawn_of, drew_of, numbers_is}
 use Rattle.run_merge.specs.Merging.{Ticketed, sorted, all_of}
 use Rattle.run_merge.specs.SharedObjects.{ticketed}
-use Rattle.run_merge.proofs.closes.Counting.{done_at, image_at, all_placed, log_drew}
-use Rattle.run_merge.proofs.closes.Drawn.{HasTicket, events_told, events_untold}
-use Rattle.run_merge.proofs.closes.Events.{ticketed_events, event_histories}
-use Rattle.run_merge.proofs.closes.Places.{total, total_most, total_list, by_places}
-use Rattle.run_merge.proofs.closes.Walks.{is_told}
+use Rattle.run_merge.proofs.enough_shown.TaskCounts.{done_at, image_at, all_placed, log_drew}
+use Rattle.run_merge.proofs.enough_shown.CallTickets.{HasTicket, events_told, events_untold}
+use Rattle.run_merge.proofs.enough_shown.CallEvents.{ticketed_events, event_histories}
+use Rattle.run_merge.proofs.enough_shown.PlaceSums.{total, total_most, total_list, by_places}
+use Rattle.run_merge.proofs.enough_shown.LogLeads.{is_told}
 use Rattle.run_merge.proofs.merging.Picked.{is_by, filter_swap, merge_by}
-use Rattle.run_merge.proofs.merging.Tickets.{Ordered, sorted_ordered, all_sorted}
-use Rattle.run_merge.proofs.tracing.Climbing.{is_hit, hits, AreOnce, NoneFalls, Climbs, climbs}
-use Rattle.run_merge.proofs.tracing.Walking.{tickets_of}
+use Rattle.run_merge.proofs.merging.TicketOrder.{Ordered, sorted_ordered, all_sorted}
+use Rattle.run_merge.proofs.tracing.RisingLists.{is_hit, hits, AreOnce, NoneFalls, Climbs, climbs}
+use Rattle.run_merge.proofs.tracing.NotedEntries.{tickets_of}
 
 -- counts of parts
 hits_flat : {X : Type 0} (f : X → List ℕ) (xs : List X) (number : ℕ) → hits number (flat_map f xs) ≡ sum_by (λ x. hits number (f x)) xs

@@ -1,4 +1,4 @@
-use Rattle.run_merge.proofs.closes.EnoughShown.{closes_are_runs}
+use Rattle.run_merge.proofs.enough_shown.ClosesAreRuns.{closes_are_runs}
 use Rattle.run_merge.proofs.laws.closes_are_runs.Goals as goal
 
 -- src/laws.rt

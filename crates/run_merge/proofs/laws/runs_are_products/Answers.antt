@@ -1,4 +1,4 @@
-use Rattle.run_merge.proofs.products.Parts.{runs_are_products}
+use Rattle.run_merge.proofs.products.RunIsProduct.{runs_are_products}
 use Rattle.run_merge.proofs.laws.runs_are_products.Goals as goal
 
 -- src/laws.rt

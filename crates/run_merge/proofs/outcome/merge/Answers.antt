@@ -4,9 +4,9 @@ use Rattle.shared_objects.specs.declared.closed.ClosedTask.{ClosedTask}
 use Rattle.task_core.specs.declared.ended.Ended.{Ended}
 use Rattle.run_merge.specs.Falling.{facts_left, row_of}
 use Rattle.run_merge.specs.Listing.{IsTrace, WholeRises}
-use Rattle.run_merge.proofs.leaving.Left.{some_set, pools_fit, disks_fit, pools_in, bios_row, records_row, vecs_is}
+use Rattle.run_merge.proofs.leaving.LeftByRun.{some_set, pools_fit, disks_fit, pools_in, bios_row, records_row, vecs_is}
 use Rattle.run_merge.proofs.leaving.MergeOfClosed.{is_merged}
-use Rattle.run_merge.proofs.leaving.Traced.{lists_rise}
+use Rattle.run_merge.proofs.leaving.TraceOfRun.{lists_rise}
 use Rattle.run_merge.proofs.outcome.merge.Goals as goal
 
 -- src/outcome.rt

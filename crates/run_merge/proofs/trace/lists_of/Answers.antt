@@ -3,7 +3,7 @@ use Rattle.std.specs.Prelude.{All}
 use Rattle.std.proofs.lemmas.List.Elements.{All-nil}
 use Rattle.shared_objects.proofs.row_lemmas.MadeOneByOne.{next_of, others_of}
 use Rattle.run_merge.specs.Listing.{AreWholeLists}
-use Rattle.run_merge.proofs.tracing.Lists.{ListRises, TaskRises, no_lists, one_more, rises_more}
+use Rattle.run_merge.proofs.tracing.WholeLists.{ListRises, TaskRises, no_lists, one_more, rises_more}
 use Rattle.run_merge.proofs.trace.lists_of.Goals as goal
 
 -- src/trace.rt

@@ -1,6 +1,6 @@
 use Rattle.std.specs.Prelude.{All}
 use Rattle.run_merge.specs.Listing.{AreWholeLists}
-use Rattle.run_merge.proofs.tracing.Lists.{ListRises, TaskRises}
+use Rattle.run_merge.proofs.tracing.WholeLists.{ListRises, TaskRises}
 use Rattle.run_merge.proofs.trace.lists_of.Given as goal
 
 -- these are the lists so far, along each of which tickets rise, and along those that are left they do

@@ -15,12 +15,12 @@ use Rattle.shared_objects.specs.Logs.{events_in}
 use Rattle.shared_objects.proofs.SameNames.{same_is}
 use Rattle.run_merge.specs.Merging.{Ticketed, insert, sorted, RiseFrom, all_of, done_by}
 use Rattle.run_merge.specs.SharedObjects.{ticketed}
-use Rattle.run_merge.proofs.closes.Drawn.{events_told, events_untold, rises_above}
-use Rattle.run_merge.proofs.closes.Events.{ticketed_events, event_histories}
-use Rattle.run_merge.proofs.closes.Owners.{or_first, or_second, turned}
-use Rattle.run_merge.proofs.closes.Walks.{is_told}
+use Rattle.run_merge.proofs.enough_shown.CallTickets.{events_told, events_untold, rises_above}
+use Rattle.run_merge.proofs.enough_shown.CallEvents.{ticketed_events, event_histories}
+use Rattle.run_merge.proofs.enough_shown.CalledObjects.{or_first, or_second, turned}
+use Rattle.run_merge.proofs.enough_shown.LogLeads.{is_told}
 use Rattle.run_merge.proofs.merging.Picked.{is_at, is_by}
-use Rattle.run_merge.proofs.merging.Tickets.{Ordered, insert_front, sorted_ordered, all_sorted}
+use Rattle.run_merge.proofs.merging.TicketOrder.{Ordered, insert_front, sorted_ordered, all_sorted}
 
 -- the seat of the task at a place
 mine_is : (place by : ℕ) → 0 < by → (place == by - 1) ≡ nat_lt 0 (count by ((place + 1) ∷ []))

@@ -22,14 +22,14 @@ use Rattle.run_merge.specs.Entries.{Entry, entries_in}
 use Rattle.run_merge.specs.Merging.{Ticketed, without_tickets}
 use Rattle.run_merge.specs.SharedObjects.{ticketed}
 use Rattle.run_merge.proofs.Fronts.{first_or, behind_first, is_none}
-use Rattle.run_merge.proofs.closes.Breaking.{stop_breaks}
-use Rattle.run_merge.proofs.closes.Drawn.{events_told, events_untold}
-use Rattle.run_merge.proofs.closes.Events.{ticketed_events}
-use Rattle.run_merge.proofs.closes.Walks.{is_told, AskSome, only_looks}
+use Rattle.run_merge.proofs.enough_shown.BreaksOff.{stop_breaks}
+use Rattle.run_merge.proofs.enough_shown.CallTickets.{events_told, events_untold}
+use Rattle.run_merge.proofs.enough_shown.CallEvents.{ticketed_events}
+use Rattle.run_merge.proofs.enough_shown.LogLeads.{is_told, AskSome, only_looks}
 use Rattle.run_merge.proofs.merging.Picked.{is_by}
-use Rattle.run_merge.proofs.products.Behind.{entry_of}
+use Rattle.run_merge.proofs.products.StateBehind.{entry_of}
 use Rattle.run_merge.proofs.products.Served.{struck_event}
-use Rattle.run_merge.proofs.tracing.Climbing.{NoneFalls, is_hit, hits}
+use Rattle.run_merge.proofs.tracing.RisingLists.{NoneFalls, is_hit, hits}
 
 abbrev pub tickets_of : List Ticketed → List ℕ
 tickets_of ns = map (λ (n : Ticketed). n.ticket) ns

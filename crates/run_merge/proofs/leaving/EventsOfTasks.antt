@@ -16,10 +16,10 @@ use Rattle.shared_objects.specs.Logs.{events_in}
 use Rattle.shared_objects.specs.Rows.{Abreast}
 use Rattle.run_merge.specs.Merging.{Ticketed, all_of}
 use Rattle.run_merge.specs.SharedObjects.{ticketed}
-use Rattle.run_merge.proofs.closes.Counting.{all_placed, done_at}
-use Rattle.run_merge.proofs.closes.Events.{event_histories}
-use Rattle.run_merge.proofs.closes.Places.{total, by_places}
-use Rattle.run_merge.proofs.closing.Counts.{sorted_length}
+use Rattle.run_merge.proofs.enough_shown.TaskCounts.{all_placed, done_at}
+use Rattle.run_merge.proofs.enough_shown.CallEvents.{event_histories}
+use Rattle.run_merge.proofs.enough_shown.PlaceSums.{total, by_places}
+use Rattle.run_merge.proofs.closing.EventsAndEntries.{sorted_length}
 use Rattle.run_merge.proofs.merging.Picked.{is_by}
 
 -- a sum, place by place

@@ -17,8 +17,8 @@ use Rattle.run_merge.specs.Merging.{Ticketed, Histories, without_tickets, sorted
 use Rattle.run_merge.specs.ObjectsByName.{StateAt, get, put_object, made_of}
 use Rattle.run_merge.specs.Products.{LeadsTask, task_behind}
 use Rattle.run_merge.proofs.merging.Picked.{is_by, filter_swap}
-use Rattle.run_merge.proofs.merging.Splits.{object_split, task_split}
-use Rattle.run_merge.proofs.merging.Tickets.{sorted_ordered, filter_sorted, early, early_first, early_all, early_few, rises_ordered}
+use Rattle.run_merge.proofs.merging.TwoParts.{object_split, task_split}
+use Rattle.run_merge.proofs.merging.TicketOrder.{sorted_ordered, filter_sorted, early, early_first, early_all, early_few, rises_ordered}
 use Rattle.run_merge.proofs.products.ObjectNames.{get_put, get_other, get_made}
 
 abbrev pub early_histories : ℕ → Histories → Histories

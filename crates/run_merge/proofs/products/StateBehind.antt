@@ -14,7 +14,7 @@ use Rattle.run_machine.proofs.Frames.{upd_same, upd_other}
 use Rattle.shared_objects.specs.Calls.{struck}
 use Rattle.run_merge.specs.Entries.{Entry, entries_in}
 use Rattle.run_merge.specs.Products.{entries_by, led_by, rounds_started, AreOfRun}
-use Rattle.run_merge.proofs.products.Lets.{round_after, started_more}
+use Rattle.run_merge.proofs.products.LookLets.{round_after, started_more}
 use Rattle.run_merge.proofs.products.Served.{serves_struck}
 
 -- the entry of a step

@@ -38,19 +38,19 @@ use Rattle.run_merge.specs.ObjectsByName.{get, made_of}
 use Rattle.run_merge.specs.Products.{LeadsTask, led_by, task_behind}
 use Rattle.run_merge.specs.SharedObjects.{ticketed, seen_at, tasks_left, state_left, ClosesAreRuns}
 use Rattle.run_merge.proofs.Fronts.{first_or, behind_first, has_some}
-use Rattle.run_merge.proofs.closes.Counting.{walked, first_is, done_at, rounds_few, few_drawn, image_at, image_none}
-use Rattle.run_merge.proofs.closes.DrewEvents.{drew_as_events}
-use Rattle.run_merge.proofs.closes.Drawn.{events_told, events_untold, rises_events}
-use Rattle.run_merge.proofs.closes.Events.{ticketed_events, event_histories, histories_are}
-use Rattle.run_merge.proofs.closes.Looks.{lets_ask}
-use Rattle.run_merge.proofs.closes.CallEntries.{history_is, all_events, are_apart, are_tagged}
-use Rattle.run_merge.proofs.closes.Objects.{told_drew, IsReady, object_leads}
-use Rattle.run_merge.proofs.closes.Owners.{ask_some}
-use Rattle.run_merge.proofs.closes.Rounds.{rounds_there}
-use Rattle.run_merge.proofs.closes.Sorting.{done_is}
-use Rattle.run_merge.proofs.closes.Stopping.{object_last, log_drew, comes_to}
-use Rattle.run_merge.proofs.closes.Walks.{is_told, AskSome, Walked, looks_there}
-use Rattle.run_merge.proofs.closing.Closed.{closed_runs_end}
+use Rattle.run_merge.proofs.enough_shown.TaskCounts.{walked, first_is, done_at, rounds_few, few_drawn, image_at, image_none}
+use Rattle.run_merge.proofs.enough_shown.DrewEvents.{drew_as_events}
+use Rattle.run_merge.proofs.enough_shown.CallTickets.{events_told, events_untold, rises_events}
+use Rattle.run_merge.proofs.enough_shown.CallEvents.{ticketed_events, event_histories, histories_are}
+use Rattle.run_merge.proofs.enough_shown.TallyLooks.{lets_ask}
+use Rattle.run_merge.proofs.enough_shown.CallEntries.{history_is, all_events, are_apart, are_tagged}
+use Rattle.run_merge.proofs.enough_shown.ObjectHistories.{told_drew, IsReady, object_leads}
+use Rattle.run_merge.proofs.enough_shown.CalledObjects.{ask_some}
+use Rattle.run_merge.proofs.enough_shown.RoundsStarted.{rounds_there}
+use Rattle.run_merge.proofs.enough_shown.SortedByTicket.{done_is}
+use Rattle.run_merge.proofs.enough_shown.TaskEnds.{object_last, log_drew, comes_to}
+use Rattle.run_merge.proofs.enough_shown.LogLeads.{is_told, AskSome, Walked, looks_there}
+use Rattle.run_merge.proofs.closing.ClosedRunsEnd.{closed_runs_end}
 use Rattle.run_merge.proofs.products.ObjectNames.{get_made}
 
 -- a log where one of its events stands

@@ -21,7 +21,7 @@ use Rattle.block_core.proofs.moves.Sums.{one-same, one-other, same_or_not, below
 use Rattle.block_core.proofs.sound.EveryRun.{Whole, runs_whole, runs_done, runs_tallied, start_whole, stage_once}
 use Rattle.run_merge.specs.Entries.{Entry}
 use Rattle.run_merge.specs.Products.{AreDone, AreOfRun}
-use Rattle.run_merge.proofs.products.Ends.{ends, ended_is_told, told_is_ended}
+use Rattle.run_merge.proofs.products.WritesEnd.{ends, ended_is_told, told_is_ended}
 use Rattle.run_merge.proofs.products.Stages.{some_at_start, none_at_start, stage_within, worth_nothing}
 
 abbrev pub present_left : State → ℕ

@@ -25,8 +25,8 @@ use Rattle.run_merge.specs.Merging.{without_tickets, sorted, all_of}
 use Rattle.run_merge.specs.Outcomes.{shared_scenario, shared_ledger, histories_in}
 use Rattle.run_merge.specs.Products.{AreOfRun}
 use Rattle.run_merge.specs.Tracing.{notes_in}
-use Rattle.run_merge.proofs.closes.Counting.{log_drew}
-use Rattle.run_merge.proofs.tracing.Notes.{notes_are_runs, notes_rise}
+use Rattle.run_merge.proofs.enough_shown.TaskCounts.{log_drew}
+use Rattle.run_merge.proofs.tracing.NotesOfRun.{notes_are_runs, notes_rise}
 
 -- rows of which this is the same at each place
 flats_same : {X Y Z : Type 0} (f : X → List Z) (g : Y → List Z) (xs : List X) (ys : List Y) → Abreast (λ x y. f x ≡ g y) xs ys → flat_map f xs ≡ flat_map g ys

@@ -20,8 +20,8 @@ use Rattle.shared_objects.proofs.tickets.TicketsOfCalls.{keeps}
 use Rattle.shared_objects.proofs.tickets.CallOwners.{logged, IsOwned, owner, IsInPlace, in_place}
 use Rattle.shared_objects.proofs.steps.EventOrRefused.{served_refused}
 use Rattle.run_merge.specs.SharedObjects.{DrewAsEvent}
-use Rattle.run_merge.proofs.closes.Counting.{refused_stops}
-use Rattle.run_merge.proofs.closes.Walks.{is_told}
+use Rattle.run_merge.proofs.enough_shown.TaskCounts.{refused_stops}
+use Rattle.run_merge.proofs.enough_shown.LogLeads.{is_told}
 
 module _ (s : Scenario) (plain : Plain) (names : List Object) (history : Object → List Call) (left : (name : Object) → ThingState (ThingAt name)) (tasks : List Returned)
     (pass : PassState) (c : ClosesAs (setup s) plain names history left tasks pass)

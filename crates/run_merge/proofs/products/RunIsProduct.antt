@@ -22,10 +22,10 @@ use Rattle.run_merge.specs.Machines.{ServesAt, LeadsObject, entries_at}
 use Rattle.run_merge.specs.ObjectsByName.{get}
 use Rattle.run_merge.specs.Products.{LeadsTask, entries_by, led_by, AtEach, IsProduct, AreOfRun, RunsAreProducts}
 use Rattle.run_merge.proofs.Fronts.{first_or, behind_first, is_none}
-use Rattle.run_merge.proofs.products.Behind.{entry_of, at_start, behind_run}
-use Rattle.run_merge.proofs.products.Known.{known}
-use Rattle.run_merge.proofs.products.Leads.{leads}
-use Rattle.run_merge.proofs.products.Lets.{ComesBehind, comes_by}
+use Rattle.run_merge.proofs.products.StateBehind.{entry_of, at_start, behind_run}
+use Rattle.run_merge.proofs.products.KnownBehind.{known}
+use Rattle.run_merge.proofs.products.ProductIsRun.{leads}
+use Rattle.run_merge.proofs.products.LookLets.{ComesBehind, comes_by}
 use Rattle.run_merge.proofs.products.ObjectNames.{get_other}
 use Rattle.run_merge.proofs.products.Served.{others_stay, serves_one, serves_struck, struck_event}
 

@@ -22,13 +22,13 @@ use Rattle.run_merge.specs.Machines.{LeadsObject}
 use Rattle.run_merge.specs.Merging.{Ticketed, Histories, without_tickets, sorted, all_of, history_of, TallyThen, Shown}
 use Rattle.run_merge.specs.ObjectsByName.{get}
 use Rattle.run_merge.specs.Products.{AreOfRun}
-use Rattle.run_merge.proofs.closing.Counts.{merge_length}
+use Rattle.run_merge.proofs.closing.EventsAndEntries.{merge_length}
 use Rattle.run_merge.proofs.closing.FewTasks.{few_tasks}
-use Rattle.run_merge.proofs.closing.Refused.{not_refused}
+use Rattle.run_merge.proofs.closing.NoneRefused.{not_refused}
 use Rattle.run_merge.proofs.closing.TicketRows.{row_long}
 use Rattle.run_merge.proofs.merging.MergeIsRun.{merge_runs}
-use Rattle.run_merge.proofs.merging.Splits.{object_split}
-use Rattle.run_merge.proofs.merging.Tally.{from_there}
+use Rattle.run_merge.proofs.merging.TwoParts.{object_split}
+use Rattle.run_merge.proofs.merging.TallyAlone.{from_there}
 use Rattle.run_merge.proofs.products.ObjectNames.{all_same}
 
 module _ (s : Scenario) (ledger : ℕ → LedgerId) (good : IsRunnable s) (rescuers : HasRescuers s.stack) (naming : IsNaming ledger) (hs : Histories) where

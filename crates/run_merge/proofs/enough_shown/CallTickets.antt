@@ -10,9 +10,9 @@ use Rattle.shared_objects.specs.Logs.{events_in}
 use Rattle.shared_objects.proofs.logs.CallsLead.{event_first, quiet_first}
 use Rattle.run_merge.specs.Merging.{Ticketed, RiseFrom}
 use Rattle.run_merge.specs.SharedObjects.{ticketed}
-use Rattle.run_merge.proofs.closes.Events.{ticketed_events}
-use Rattle.run_merge.proofs.closes.Walks.{is_told}
-use Rattle.run_merge.proofs.closing.Early.{rises_from}
+use Rattle.run_merge.proofs.enough_shown.CallEvents.{ticketed_events}
+use Rattle.run_merge.proofs.enough_shown.LogLeads.{is_told}
+use Rattle.run_merge.proofs.closing.RunUpTo.{rises_from}
 
 -- each event has a ticket
 abbrev pub HasTicket : Call → Type 0

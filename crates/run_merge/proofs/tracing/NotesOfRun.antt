@@ -33,18 +33,18 @@ use Rattle.run_merge.specs.Joining.{IsJoined}
 use Rattle.run_merge.specs.Merging.{Ticketed, all_of, done_by, without_tickets, sorted}
 use Rattle.run_merge.specs.SharedObjects.{ticketed, entry_histories}
 use Rattle.run_merge.specs.Tracing.{notes_in, NotesAreRuns}
-use Rattle.run_merge.proofs.closes.Counting.{first_is, done_at}
-use Rattle.run_merge.proofs.closes.Events.{ticketed_events, event_histories}
-use Rattle.run_merge.proofs.closes.Drawn.{HasTicket}
-use Rattle.run_merge.proofs.closes.Objects.{told_drew}
-use Rattle.run_merge.proofs.closes.Owners.{ask_some}
-use Rattle.run_merge.proofs.closes.Walks.{is_told}
+use Rattle.run_merge.proofs.enough_shown.TaskCounts.{first_is, done_at}
+use Rattle.run_merge.proofs.enough_shown.CallEvents.{ticketed_events, event_histories}
+use Rattle.run_merge.proofs.enough_shown.CallTickets.{HasTicket}
+use Rattle.run_merge.proofs.enough_shown.ObjectHistories.{told_drew}
+use Rattle.run_merge.proofs.enough_shown.CalledObjects.{ask_some}
+use Rattle.run_merge.proofs.enough_shown.LogLeads.{is_told}
 use Rattle.run_merge.proofs.merging.Picked.{is_by, merge_by}
-use Rattle.run_merge.proofs.merging.Tickets.{sorted_ordered, of_sorted}
-use Rattle.run_merge.proofs.products.Parts.{run_events}
-use Rattle.run_merge.proofs.tracing.Climbing.{is_hit, hits, AreOnce, climbs, none_falls, Climbs, NoneFalls, falls_rises, same_climbing}
+use Rattle.run_merge.proofs.merging.TicketOrder.{sorted_ordered, of_sorted}
+use Rattle.run_merge.proofs.products.RunIsProduct.{run_events}
+use Rattle.run_merge.proofs.tracing.RisingLists.{is_hit, hits, AreOnce, climbs, none_falls, Climbs, NoneFalls, falls_rises, same_climbing}
 use Rattle.run_merge.proofs.tracing.DrawnOnce.{merged, merged_placed, merged_climbs, ordered_falls, parts_once}
-use Rattle.run_merge.proofs.tracing.Walking.{keys_of, events_of, own_falls, own_notes, led_notes, run_notes, of_task, IsNotedOf, task_of, tickets_of, keys_fewer, log_notes}
+use Rattle.run_merge.proofs.tracing.NotedEntries.{keys_of, events_of, own_falls, own_notes, led_notes, run_notes, of_task, IsNotedOf, task_of, tickets_of, keys_fewer, log_notes}
 
 record IsFrom {X Y : Type 0} (f : X → List Y) (xs : List X) (y : Y) : Type 0 where
   place : ℕ

@@ -12,8 +12,8 @@ use Rattle.shared_objects.specs.Logs.{is_event, events_in}
 use Rattle.shared_objects.proofs.SameNames.{same_is}
 use Rattle.run_merge.specs.Merging.{Ticketed, all_of, history_of, AreOfDifferentObjects, AreTagged}
 use Rattle.run_merge.specs.SharedObjects.{ticketed}
-use Rattle.run_merge.proofs.closes.Events.{ticketed_events, event_histories}
-use Rattle.run_merge.proofs.closes.Walks.{is_told}
+use Rattle.run_merge.proofs.enough_shown.CallEvents.{ticketed_events, event_histories}
+use Rattle.run_merge.proofs.enough_shown.LogLeads.{is_told}
 
 module _ (history : Object → List Call) where
   pub history_is : (name : Object) (names : List Object) → (list_any (is_same_object name) names ≡ false → history name ≡ [])

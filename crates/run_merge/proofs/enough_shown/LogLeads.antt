@@ -16,8 +16,8 @@ use Rattle.run_merge.specs.Merging.{Ticketed, without_tickets}
 use Rattle.run_merge.specs.Products.{LeadsTask, led_by}
 use Rattle.run_merge.specs.SharedObjects.{ticketed}
 use Rattle.run_merge.proofs.Fronts.{has_some}
-use Rattle.run_merge.proofs.closes.Breaking.{stop_breaks}
-use Rattle.run_merge.proofs.closes.Events.{ticketed_events}
+use Rattle.run_merge.proofs.enough_shown.BreaksOff.{stop_breaks}
+use Rattle.run_merge.proofs.enough_shown.CallEvents.{ticketed_events}
 
 abbrev pub is_told : Call → Bool
 is_told call = is_event call.asked call.told.reply

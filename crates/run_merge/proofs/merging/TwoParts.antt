@@ -13,7 +13,7 @@ use Rattle.run_merge.specs.Merging.{Ticketed, without_tickets}
 use Rattle.run_merge.specs.ObjectsByName.{StateAt}
 use Rattle.run_merge.specs.Products.{LeadsTask, led_by}
 use Rattle.run_merge.proofs.Fronts.{first_or, behind_first, is_none}
-use Rattle.run_merge.proofs.merging.Tickets.{Ordered}
+use Rattle.run_merge.proofs.merging.TicketOrder.{Ordered}
 
 -- where they lead an object and a task
 pub object_split : (ledger : ℕ → LedgerId) (name : Object) (xs ys : List Entry) (old new : StateAt name) → LeadsObject ledger name old (xs ++ ys) new

@@ -25,12 +25,12 @@ use Rattle.run_merge.specs.Machines.{ServesAt, TallyMachine, LeadsObject}
 use Rattle.run_merge.specs.Merging.{Ticketed, without_tickets, done_by}
 use Rattle.run_merge.specs.ObjectsByName.{get}
 use Rattle.run_merge.specs.SharedObjects.{ticketed, seen_at}
-use Rattle.run_merge.proofs.closes.Drawn.{HasTicket, events_append, events_untold, rises_events, none_greater, rises_above, rises_parts}
-use Rattle.run_merge.proofs.closes.Events.{ticketed_events, event_histories}
-use Rattle.run_merge.proofs.closes.Looks.{parts_ready, history_parts, IsSeen, seen_then, left_look, lets_ask}
-use Rattle.run_merge.proofs.closes.Objects.{told_drew, IsReady, ready_first, ready_behind, serves_is, serves_none, drawn_leads}
-use Rattle.run_merge.proofs.closes.Spending.{found_none, none_served, stop_spent}
-use Rattle.run_merge.proofs.closes.Walks.{IsStopped}
+use Rattle.run_merge.proofs.enough_shown.CallTickets.{HasTicket, events_append, events_untold, rises_events, none_greater, rises_above, rises_parts}
+use Rattle.run_merge.proofs.enough_shown.CallEvents.{ticketed_events, event_histories}
+use Rattle.run_merge.proofs.enough_shown.TallyLooks.{parts_ready, history_parts, IsSeen, seen_then, left_look, lets_ask}
+use Rattle.run_merge.proofs.enough_shown.ObjectHistories.{told_drew, IsReady, ready_first, ready_behind, serves_is, serves_none, drawn_leads}
+use Rattle.run_merge.proofs.enough_shown.NoTicketCalls.{found_none, none_served, stop_spent}
+use Rattle.run_merge.proofs.enough_shown.LogLeads.{IsStopped}
 
 module _ (s : Scenario) (plain : Plain) (names : List Object) (history : Object → List Call) (left : (name : Object) → ThingState (ThingAt name)) (tasks : List Returned)
     (pass : PassState) (c : ClosesAs (setup s) plain names history left tasks pass) (ledger : ℕ → LedgerId)

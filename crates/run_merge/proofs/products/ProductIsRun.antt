@@ -28,9 +28,9 @@ use Rattle.run_merge.specs.Entries.{Entry, AreEvents}
 use Rattle.run_merge.specs.Machines.{ServesAt, LeadsObject, entries_at}
 use Rattle.run_merge.specs.ObjectsByName.{StateAt, get, put_object}
 use Rattle.run_merge.specs.Products.{LeadsTask, entries_by, AreOfRun}
-use Rattle.run_merge.proofs.products.Behind.{Behind, one_more}
-use Rattle.run_merge.proofs.products.Known.{known}
-use Rattle.run_merge.proofs.products.Lets.{ComesBehind, lets}
+use Rattle.run_merge.proofs.products.StateBehind.{Behind, one_more}
+use Rattle.run_merge.proofs.products.KnownBehind.{known}
+use Rattle.run_merge.proofs.products.LookLets.{ComesBehind, lets}
 use Rattle.run_merge.proofs.products.ObjectNames.{get_put, get_other, all_same}
 use Rattle.run_merge.proofs.products.Served.{serves_all, struck_serves, struck_event}
 

@@ -15,7 +15,7 @@ use Rattle.shared_objects.specs.Closes.{Returned, ClosesAs}
 use Rattle.shared_objects.specs.Kinds.{ThingAt}
 use Rattle.shared_objects.proofs.SameNames.{same_self, same_is}
 use Rattle.shared_objects.proofs.tickets.CallOwners.{filter_there, logged, kept}
-use Rattle.run_merge.proofs.closes.Walks.{AskSome}
+use Rattle.run_merge.proofs.enough_shown.LogLeads.{AskSome}
 
 pub or_first : (a b : Bool) → (a || b) ≡ false → a ≡ false
 or_first true b h = absurd (true≢false h)

@@ -19,10 +19,10 @@ use Rattle.run_merge.specs.Machines.{ServesAt, LeadsObject}
 use Rattle.run_merge.specs.Merging.{without_tickets}
 use Rattle.run_merge.specs.Products.{is_next_round}
 use Rattle.run_merge.specs.SharedObjects.{seen_at}
-use Rattle.run_merge.proofs.closes.Drawn.{HasTicket, events_told, events_untold}
-use Rattle.run_merge.proofs.closes.Events.{ticketed_events}
-use Rattle.run_merge.proofs.closes.Kinds.{pool_is, pool_stays, pool_ledger, list_is, list_stays, disk_is, disk_stays, book_is, book_stays, HasNext, tally_is, tally_stays}
-use Rattle.run_merge.proofs.closes.Walks.{is_told}
+use Rattle.run_merge.proofs.enough_shown.CallTickets.{HasTicket, events_told, events_untold}
+use Rattle.run_merge.proofs.enough_shown.CallEvents.{ticketed_events}
+use Rattle.run_merge.proofs.enough_shown.ServedWithTicket.{pool_is, pool_stays, pool_ledger, list_is, list_stays, disk_is, disk_stays, book_is, book_stays, HasNext, tally_is, tally_stays}
+use Rattle.run_merge.proofs.enough_shown.LogLeads.{is_told}
 
 -- each event of a history drew a ticket
 pub told_drew : (name : Object) (old new : ThingState (ThingAt name)) (calls : List Call) → Leads (answers_at name) old calls new → All HasTicket calls

@@ -25,11 +25,11 @@ use Rattle.run_merge.specs.Machines.{TallyMachine, LeadsObject}
 use Rattle.run_merge.specs.Merging.{Ticketed, without_tickets, history_of, TallyThen, LetsAsk}
 use Rattle.run_merge.specs.ObjectsByName.{get}
 use Rattle.run_merge.specs.SharedObjects.{seen_at}
-use Rattle.run_merge.proofs.closes.Drawn.{events_around, none_greater}
-use Rattle.run_merge.proofs.closes.Events.{ticketed_events, event_histories}
-use Rattle.run_merge.proofs.closes.CallEntries.{history_is}
-use Rattle.run_merge.proofs.closes.Objects.{told_drew, IsReady, ready_first, drawn_leads, tally_drawn}
-use Rattle.run_merge.proofs.closes.Walks.{is_told}
+use Rattle.run_merge.proofs.enough_shown.CallTickets.{events_around, none_greater}
+use Rattle.run_merge.proofs.enough_shown.CallEvents.{ticketed_events, event_histories}
+use Rattle.run_merge.proofs.enough_shown.CallEntries.{history_is}
+use Rattle.run_merge.proofs.enough_shown.ObjectHistories.{told_drew, IsReady, ready_first, drawn_leads, tally_drawn}
+use Rattle.run_merge.proofs.enough_shown.LogLeads.{is_told}
 
 -- a look of a task asks the tally, is no event, and is told the tally as it is
 pub record IsLook (look : Request) : Type 0 where

@@ -26,11 +26,11 @@ use Rattle.run_merge.specs.Machines.{ServesAt, LeadsObject}
 use Rattle.run_merge.specs.Merging.{Ticketed, Histories, without_tickets, sorted, all_of, history_of, done_by, LetsAsk, Shown}
 use Rattle.run_merge.specs.ObjectsByName.{StateAt, get, put_object}
 use Rattle.run_merge.specs.Products.{LeadsTask, AreOfRun, led_by, task_behind}
-use Rattle.run_merge.proofs.closing.Early.{early_histories, history_early, lets_early, then_state, then_task, shown_early, shown_put}
+use Rattle.run_merge.proofs.closing.RunUpTo.{early_histories, history_early, lets_early, then_state, then_task, shown_early, shown_put}
 use Rattle.run_merge.proofs.merging.MergeIsRun.{still_let, merge_runs}
-use Rattle.run_merge.proofs.merging.Tickets.{early, early_all, early_none}
-use Rattle.run_merge.proofs.products.Behind.{behind_run, one_event}
-use Rattle.run_merge.proofs.products.Leads.{is_inside}
+use Rattle.run_merge.proofs.merging.TicketOrder.{early, early_all, early_none}
+use Rattle.run_merge.proofs.products.StateBehind.{behind_run, one_event}
+use Rattle.run_merge.proofs.products.ProductIsRun.{is_inside}
 use Rattle.run_merge.proofs.products.ObjectNames.{get_put}
 use Rattle.run_merge.proofs.products.Served.{serves_all, struck_serves}
 

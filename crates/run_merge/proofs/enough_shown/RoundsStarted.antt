@@ -32,11 +32,11 @@ use Rattle.run_merge.specs.Entries.{Entry, AreEvents}
 use Rattle.run_merge.specs.Merging.{Ticketed}
 use Rattle.run_merge.specs.Products.{LeadsTask, is_next_round}
 use Rattle.run_merge.specs.SharedObjects.{ticketed}
-use Rattle.run_merge.proofs.closes.Drawn.{events_told, events_untold}
-use Rattle.run_merge.proofs.closes.Events.{ticketed_events}
-use Rattle.run_merge.proofs.closes.Objects as calls
-use Rattle.run_merge.proofs.closes.Walks.{is_told}
-use Rattle.run_merge.proofs.products.Asking.{is_keeping, writer_keeps_none, rescuer_keeps_none, completer_keeps_none}
+use Rattle.run_merge.proofs.enough_shown.CallTickets.{events_told, events_untold}
+use Rattle.run_merge.proofs.enough_shown.CallEvents.{ticketed_events}
+use Rattle.run_merge.proofs.enough_shown.ObjectHistories as calls
+use Rattle.run_merge.proofs.enough_shown.LogLeads.{is_told}
+use Rattle.run_merge.proofs.products.KeeperAsks.{is_keeping, writer_keeps_none, rescuer_keeps_none, completer_keeps_none}
 
 -- how many rounds a task may start
 abbrev pub starts_left : TaskState → ℕ

@@ -17,8 +17,8 @@ use Rattle.shared_objects.specs.Calls.{is_same_object, struck}
 use Rattle.run_merge.specs.Entries.{Entry}
 use Rattle.run_merge.specs.ObjectsByName.{get}
 use Rattle.run_merge.specs.Products.{is_next_round, changes_reserve, rounds_started, AreDone, RoundHasCome, MayBegin}
-use Rattle.run_merge.proofs.products.Asking.{is_keeping, writer_keeps_none, rescuer_keeps_none, completer_keeps_none}
-use Rattle.run_merge.proofs.products.Known.{Known, present_left}
+use Rattle.run_merge.proofs.products.KeeperAsks.{is_keeping, writer_keeps_none, rescuer_keeps_none, completer_keeps_none}
+use Rattle.run_merge.proofs.products.KnownBehind.{Known, present_left}
 use Rattle.run_merge.proofs.products.ObjectNames.{get_other}
 use Rattle.run_merge.proofs.products.Served.{others_stay}
 

@@ -31,17 +31,17 @@ use Rattle.run_merge.specs.Entries.{Entry}
 use Rattle.run_merge.specs.Merging.{Ticketed, RiseFrom, without_tickets, all_of, done_by}
 use Rattle.run_merge.specs.Products.{is_next_round}
 use Rattle.run_merge.specs.SharedObjects.{ticketed}
-use Rattle.run_merge.proofs.closes.Breaking.{stop_breaks}
-use Rattle.run_merge.proofs.closes.Drawn.{HasTicket, rises_events}
-use Rattle.run_merge.proofs.closes.Events.{ticketed_events, event_histories}
-use Rattle.run_merge.proofs.closes.Objects as calls
-use Rattle.run_merge.proofs.closes.Objects.{told_drew}
-use Rattle.run_merge.proofs.closes.Owners.{ask_some, named}
-use Rattle.run_merge.proofs.closes.Places.{total, total_most, total_list, by_places}
-use Rattle.run_merge.proofs.closes.Rounds.{starts_left, task_starts, tally_starts, tasks_start}
-use Rattle.run_merge.proofs.closes.Sorting.{picks_mine, events_to, done_is}
-use Rattle.run_merge.proofs.closes.Walks.{is_told, AskSome, Walked, walk}
-use Rattle.run_merge.proofs.closing.Counts.{sorted_length}
+use Rattle.run_merge.proofs.enough_shown.BreaksOff.{stop_breaks}
+use Rattle.run_merge.proofs.enough_shown.CallTickets.{HasTicket, rises_events}
+use Rattle.run_merge.proofs.enough_shown.CallEvents.{ticketed_events, event_histories}
+use Rattle.run_merge.proofs.enough_shown.ObjectHistories as calls
+use Rattle.run_merge.proofs.enough_shown.ObjectHistories.{told_drew}
+use Rattle.run_merge.proofs.enough_shown.CalledObjects.{ask_some, named}
+use Rattle.run_merge.proofs.enough_shown.PlaceSums.{total, total_most, total_list, by_places}
+use Rattle.run_merge.proofs.enough_shown.RoundsStarted.{starts_left, task_starts, tally_starts, tasks_start}
+use Rattle.run_merge.proofs.enough_shown.SortedByTicket.{picks_mine, events_to, done_is}
+use Rattle.run_merge.proofs.enough_shown.LogLeads.{is_told, AskSome, Walked, walk}
+use Rattle.run_merge.proofs.closing.EventsAndEntries.{sorted_length}
 use Rattle.shared_objects.proofs.sharing.FewTasks.{few_of}
 use Rattle.shared_objects.proofs.steps.BrokenRests.{broken_rests}
 use Rattle.run_merge.proofs.merging.Picked.{is_at, is_by, entries_filter, filter_swap}
