@@ -24,9 +24,11 @@ use Rattle.shared_objects.proofs.tickets.CallOwners.{first_there}
 
 -- a look that finds a ticket, or needs none, leaves the object with as many
 pool_keeps : (old new : ThingState LedgerPool) (asked : Request) (reply : Reply) → PoolLooks old asked reply new → is_spent reply ≡ false → new.spent ≡ old.spent
+-- a miss that drew no ticket leaves as many
 pool_keeps old new (TakeBio set waits) (Missed used) looks not_none = looks.3
 pool_keeps old new TakeVec (Missed used) looks not_none = looks.3
 pool_keeps old new (TakeSlip dev) (Missed used) looks not_none = looks.3
+-- who is told that there was no ticket is left out
 pool_keeps old new (TakeBio set waits) Spent looks not_none = absurd (true≢false not_none)
 pool_keeps old new TakeVec Spent looks not_none = absurd (true≢false not_none)
 pool_keeps old new (TakeSlip dev) Spent looks not_none = absurd (true≢false not_none)
@@ -34,6 +36,7 @@ pool_keeps old new (GiveBio bio) Spent looks not_none = absurd (true≢false not
 pool_keeps old new (GiveVec vector) Spent looks not_none = absurd (true≢false not_none)
 pool_keeps old new (GiveSlip slip) Spent looks not_none = absurd (true≢false not_none)
 pool_keeps old new (Resize pool min) Spent looks not_none = absurd (true≢false not_none)
+-- a look at a pool is nothing else
 pool_keeps old new asked reply looks not_none = absurd looks
 
 list_keeps : (old new : ThingState Rescue) (asked : Request) (reply : Reply) → ListLooks old asked reply new → is_spent reply ≡ false → new.spent ≡ old.spent
@@ -129,9 +132,11 @@ found_none name old new (call ∷ calls) leads had none =
 
 -- a look after which a task has no ticket is all that stops it
 pool_goes : (old new : ThingState LedgerPool) (asked : Request) (reply : Reply) → PoolLooks old asked reply new → is_spent reply ≡ false → is_stop asked reply ≡ false
+-- a miss stops no task
 pool_goes old new (TakeBio set waits) (Missed used) looks not_none = refl
 pool_goes old new TakeVec (Missed used) looks not_none = refl
 pool_goes old new (TakeSlip dev) (Missed used) looks not_none = refl
+-- who is told that there was no ticket is left out
 pool_goes old new (TakeBio set waits) Spent looks not_none = absurd (true≢false not_none)
 pool_goes old new TakeVec Spent looks not_none = absurd (true≢false not_none)
 pool_goes old new (TakeSlip dev) Spent looks not_none = absurd (true≢false not_none)
@@ -139,6 +144,7 @@ pool_goes old new (GiveBio bio) Spent looks not_none = absurd (true≢false not_
 pool_goes old new (GiveVec vector) Spent looks not_none = absurd (true≢false not_none)
 pool_goes old new (GiveSlip slip) Spent looks not_none = absurd (true≢false not_none)
 pool_goes old new (Resize pool min) Spent looks not_none = absurd (true≢false not_none)
+-- a look at a pool is nothing else
 pool_goes old new asked reply looks not_none = absurd looks
 
 list_goes : (old new : ThingState Rescue) (asked : Request) (reply : Reply) → ListLooks old asked reply new → is_spent reply ≡ false → is_stop asked reply ≡ false

@@ -50,6 +50,7 @@ resized old new min out (inr (some, same)) =
 
 pub pool_is : (own : LedgerId) (old new : LedgerPool) (asked : Request) (reply : Reply) → old.ledger ≡ own → pools.PoolServes old asked reply new
     → PoolMachine own old.state asked reply new.state
+-- takes: an element is handed out, which is clear, or the pool misses
 pool_is own old new (TakeBio set waits) (HadBio from bio) is h = (has_one old new from h.0, h.1 ∙ ap clear_bio is)
 pool_is own old new (TakeBio set waits) (Missed used) is h = goes old new (misses used) h.0
 pool_is own old new (TakeBio set waits) reply is h = absurd h
@@ -59,14 +60,17 @@ pool_is own old new TakeVec reply is h = absurd h
 pool_is own old new (TakeSlip dev) (HadSlip from slip) is h = (has_one old new from h.0, h.1 ∙ ap clear_slip is)
 pool_is own old new (TakeSlip dev) (Missed used) is h = goes old new (misses used) h.0
 pool_is own old new (TakeSlip dev) reply is h = absurd h
+-- gives: one less is out
 pool_is own old new (GiveBio bio) Did is h = goes old new gives h.0
 pool_is own old new (GiveBio bio) reply is h = absurd h
 pool_is own old new (GiveVec vector) Did is h = goes old new gives h.0
 pool_is own old new (GiveVec vector) reply is h = absurd h
 pool_is own old new (GiveSlip slip) Did is h = goes old new gives h.0
 pool_is own old new (GiveSlip slip) reply is h = absurd h
+-- resizes: the reserve is the new one where nothing is out
 pool_is own old new (Resize pool min) (OutIs out) is h = (h.0, resized old new min out h.1)
 pool_is own old new (Resize pool min) reply is h = absurd h
+-- a pool serves nothing else
 pool_is own old new asked reply is h = absurd h
 
 miss_told : {P : Type 0} (waits used : Bool) (pool : PoolId) → (waits ≡ true → used ≡ true) → is_some (miss_of waits used pool) ≡ false → P
@@ -81,6 +85,7 @@ out_stays old new pool min (suc out) (inl (none, moves)) not = absurd (omega (ar
 out_stays old new pool min out (inr (some, same)) not = same
 
 pub pool_stays : (old new : LedgerPool) (asked : Request) (reply : Reply) → pools.PoolServes old asked reply new → is_event asked reply ≡ false → new ≡ old
+-- takes: what is served is an event, an element that was handed out or a miss
 pool_stays old new (TakeBio set waits) (HadBio from bio) h not = absurd (true≢false not)
 pool_stays old new (TakeBio set waits) (Missed used) h not = miss_told waits used _ h.1 not
 pool_stays old new (TakeBio set waits) reply h not = absurd h
@@ -90,14 +95,17 @@ pool_stays old new TakeVec reply h not = absurd h
 pool_stays old new (TakeSlip dev) (HadSlip from slip) h not = absurd (true≢false not)
 pool_stays old new (TakeSlip dev) (Missed used) h not = miss_told true used _ h.1 not
 pool_stays old new (TakeSlip dev) reply h not = absurd h
+-- gives are events
 pool_stays old new (GiveBio bio) Did h not = absurd (true≢false not)
 pool_stays old new (GiveBio bio) reply h not = absurd h
 pool_stays old new (GiveVec vector) Did h not = absurd (true≢false not)
 pool_stays old new (GiveVec vector) reply h not = absurd h
 pool_stays old new (GiveSlip slip) Did h not = absurd (true≢false not)
 pool_stays old new (GiveSlip slip) reply h not = absurd h
+-- resizes: where something is out, the pool stays as it is
 pool_stays old new (Resize pool min) (OutIs out) h not = out_stays old new pool min out h.1 not
 pool_stays old new (Resize pool min) reply h not = absurd h
+-- a pool serves nothing else
 pool_stays old new asked reply h not = absurd h
 
 -- what is served leaves the pool of the same ledger
@@ -111,6 +119,7 @@ out_ledger old new min out (inl (none, moves)) = moves.ledger
 out_ledger old new min out (inr (some, same)) = ap (λ (pool : LedgerPool). pool.ledger) same
 
 pub pool_ledger : (old new : LedgerPool) (asked : Request) (reply : Reply) → pools.PoolServes old asked reply new → new.ledger ≡ old.ledger
+-- takes: of the same ledger, whether an element is handed out or missed
 pool_ledger old new (TakeBio set waits) (HadBio from bio) h = one_ledger old new from h.0
 pool_ledger old new (TakeBio set waits) (Missed used) h = h.0.ledger
 pool_ledger old new (TakeBio set waits) reply h = absurd h
@@ -120,14 +129,17 @@ pool_ledger old new TakeVec reply h = absurd h
 pool_ledger old new (TakeSlip dev) (HadSlip from slip) h = one_ledger old new from h.0
 pool_ledger old new (TakeSlip dev) (Missed used) h = h.0.ledger
 pool_ledger old new (TakeSlip dev) reply h = absurd h
+-- gives: of the same ledger
 pool_ledger old new (GiveBio bio) Did h = h.0.ledger
 pool_ledger old new (GiveBio bio) reply h = absurd h
 pool_ledger old new (GiveVec vector) Did h = h.0.ledger
 pool_ledger old new (GiveVec vector) reply h = absurd h
 pool_ledger old new (GiveSlip slip) Did h = h.0.ledger
 pool_ledger old new (GiveSlip slip) reply h = absurd h
+-- resizes: of the same ledger
 pool_ledger old new (Resize pool min) (OutIs out) h = out_ledger old new min out h.1
 pool_ledger old new (Resize pool min) reply h = absurd h
+-- a pool serves nothing else
 pool_ledger old new asked reply h = absurd h
 
 -- lists of rescuers
@@ -207,15 +219,18 @@ module _ (old new : BookState) where
   drop_stays place None status part back h = h.1
 
   pub book_stays : (asked : Request) (reply : Reply) → books.BookServes old asked reply new → is_event asked reply ≡ false → new ≡ old
+  -- links: a node that was made is an event, and a link that was refused changes nothing
   book_stays (Link writer opening) (LinkedTo (Made place)) h not = absurd (true≢false not)
   book_stays (Link writer opening) (LinkedTo (NoRoom back)) h not = link_stays opening (NoRoom back) h.1 (λ place is. cc)
   book_stays (Link writer opening) (LinkedTo (Stray back)) h not = link_stays opening (Stray back) h.1 (λ place is. cc)
   book_stays (Link writer opening) reply h not = absurd h
+  -- drops: an end that was dropped is an event, and a drop at no node changes nothing
   book_stays (Drop writer node status part) (DroppedTo end.Left) h not = absurd (true≢false not)
   book_stays (Drop writer node status part) (DroppedTo (end.Up closed)) h not = absurd (true≢false not)
   book_stays (Drop writer node status part) (DroppedTo (end.Top closed)) h not = absurd (true≢false not)
   book_stays (Drop writer node status part) (DroppedTo (end.Stray back)) h not = drop_stays node (node_at old node) status part back h.1
   book_stays (Drop writer node status part) reply h not = absurd h
+  -- a book serves nothing else
   book_stays asked reply h not = absurd h
 
 -- the tally, where a round that starts is there
@@ -224,16 +239,21 @@ HasNext tally (NextRound round) = tally.round + 1 < length tally.left
 HasNext tally asked = Unit {0}
 
 pub tally_is : (old new : TallyState) (asked : Request) (reply : Reply) → HasNext old asked → tallies.TallyServes old asked reply new → TallyMachine old asked reply new
+-- ends of writes
 tally_is old new (Done write status) Did next h = h
 tally_is old new (Done write status) reply next h = absurd h
+-- rounds: the next one is there
 tally_is old new (NextRound round) Did next (inl h) = h
 tally_is old new (NextRound round) Did next (inr (last, same)) = absurd (omega (arith, next, last))
 tally_is old new (NextRound round) reply next h = absurd h
+-- a tally serves nothing else with a ticket
 tally_is old new asked reply next h = absurd h
 
 pub tally_stays : (old new : TallyState) (asked : Request) (reply : Reply) → tallies.TallyServes old asked reply new → is_event asked reply ≡ false → new ≡ old
+-- ends of writes and starts of rounds are events
 tally_stays old new (Done write status) Did h not = absurd (true≢false not)
 tally_stays old new (Done write status) reply h not = absurd h
 tally_stays old new (NextRound round) Did h not = absurd (true≢false not)
 tally_stays old new (NextRound round) reply h not = absurd h
+-- a tally serves nothing else with a ticket
 tally_stays old new asked reply h not = absurd h

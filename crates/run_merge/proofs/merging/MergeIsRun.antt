@@ -55,6 +55,7 @@ module _ (s : Scenario) (ledger : ℕ → LedgerId) (good : IsScenario s) (namin
     k = known s ledger good naming between state reached
 
     pub still_let : (place : ℕ) (x : TaskState) → state.task place ≡ x → LetsAsk s ledger (history_of OfTally hs) ticket x (look_of x) → IsLet ledger state.objects x (look_of x)
+    -- writers: the round is the one that was seen, or a later one
     still_let place (Writer number todo taken submission) at looked = by_writer todo taken submission.doing looked
       where
         by_writer : (todo : List Todo) (taken : Gathered) (doing : Doing)
@@ -69,8 +70,10 @@ module _ (s : Scenario) (ledger : ℕ → LedgerId) (good : IsScenario s) (namin
         by_writer (todo ∷ later) NoBio Rests (was, few, reply, serves, le) = absurd serves
         by_writer (todo ∷ later) NoBio doing looked = tt
         by_writer (todo ∷ later) taken doing looked = tt
+    -- rescuers and completers look at nothing
     still_let place (Rescuer dev submission) at looked = tt
     still_let place (Completer disk carried) at looked = tt
+    -- the keeper: no more writes are unfinished than it saw
     still_let place (Keeper (Keeps [])) at looked = tt
     still_let place (Keeper (Keeps (duty ∷ duties))) at (was, few, LeftOver many, serves, same) =
         let l = is_later was few in

@@ -10,14 +10,18 @@ use Rattle.run_merge.specs.Entries.{Entry}
 use Rattle.run_merge.specs.Machines.{TallyMachine, LeadsObject}
 
 tally_same : (old : TallyState) (request : Request) (reply : Reply) (a b : TallyState) → TallyMachine old request reply a → TallyMachine old request reply b → a ≡ b
+-- ends of writes
 tally_same old (Done write status) Did a b x y = x ∙ sym y
 tally_same old (Done write status) reply a b x y = absurd x
+-- starts of rounds
 tally_same old (NextRound round) Did a b x y = x.1 ∙ sym y.1
 tally_same old (NextRound round) reply a b x y = absurd x
+-- looks
 tally_same old LookRound (Present round) a b x y = x.1 ∙ sym y.1
 tally_same old LookRound reply a b x y = absurd x
 tally_same old LookLeft (LeftOver count) a b x y = x.1 ∙ sym y.1
 tally_same old LookLeft reply a b x y = absurd x
+-- a tally is asked nothing else
 tally_same old request reply a b x y = absurd x
 
 tally_leads : (ledger : ℕ → LedgerId) (es : List Entry) (old a b : TallyState) → LeadsObject ledger OfTally old es a → LeadsObject ledger OfTally old es b → a ≡ b
@@ -40,20 +44,24 @@ same_later : (old new : TallyState) → new ≡ old → IsLater old new
 same_later old new is = let a = ap (λ (t : TallyState). sum t.left) is in let b = ap (λ (t : TallyState). t.round) is in record { left = omega (arith, a); round = omega (arith, b) }
 
 one_later : (old : TallyState) (request : Request) (reply : Reply) (new : TallyState) → TallyMachine old request reply new → IsLater old new
+-- ends of writes: no more are unfinished than before
 one_later old (Done write status) Did new h =
     let a = ap (λ (t : TallyState). sum t.left) h in
     let b = ap (λ (t : TallyState). t.round) h in
     record { left = omega (arith, a, set_less old.left old.round); round = omega (arith, b) }
 one_later old (Done write status) reply new h = absurd h
+-- starts of rounds: the round is one later
 one_later old (NextRound round) Did new h =
     let a = ap (λ (t : TallyState). sum t.left) h.1 in
     let b = ap (λ (t : TallyState). t.round) h.1 in
     record { left = omega (arith, a); round = omega (arith, b) }
 one_later old (NextRound round) reply new h = absurd h
+-- looks: the same tally
 one_later old LookRound (Present round) new h = same_later old new h.1
 one_later old LookRound reply new h = absurd h
 one_later old LookLeft (LeftOver count) new h = same_later old new h.1
 one_later old LookLeft reply new h = absurd h
+-- a tally is asked nothing else
 one_later old request reply new h = absurd h
 
 tally_later : (ledger : ℕ → LedgerId) (es : List Entry) (old new : TallyState) → LeadsObject ledger OfTally old es new → IsLater old new

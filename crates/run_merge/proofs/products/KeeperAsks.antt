@@ -19,14 +19,17 @@ is_keeping (Resize pool min) = true
 is_keeping request = false
 
 submission_keeps_none : (setup : Setup) (doing : Doing) (lists : TaskLists) → is_keeping (struck (submission_request setup doing lists)) ≡ false
+-- no submission, or one that broke off
 submission_keeps_none setup Rests lists = refl
 submission_keeps_none setup (Breaks breach kept) lists = refl
+-- a bio that is driven
 submission_keeps_none setup (Drives bio ToPush) lists = refl
 submission_keeps_none setup (Drives bio (ToCut (Takes waits))) lists = refl
 submission_keeps_none setup (Drives bio (ToCut Punts)) lists = refl
 submission_keeps_none setup (Drives bio (ToCut (Links hand))) lists = refl
 submission_keeps_none setup (Drives bio ToRecord) lists = refl
 submission_keeps_none setup (Drives bio (ToMaster slip)) lists = refl
+-- copies for the legs of a mirror
 submission_keeps_none setup (Copies bio master leg (Takes waits)) lists = refl
 submission_keeps_none setup (Copies bio master leg Punts) lists = refl
 submission_keeps_none setup (Copies bio master leg (Links hand)) lists = refl

@@ -33,14 +33,18 @@ round_after ledger o request reply new h = by_object (is_same_object OfTally (ob
 
     at_tally : (request : Request) (reply : Reply) → Serves ledger o request reply new → is_same_object OfTally (object_of request) ≡ true
         → new.tally.round ≡ o.tally.round + (if is_next_round request then 1 else 0)
+    -- ends of writes: the same round
     at_tally (requests.Done write status) Did h on = ap (λ (x : Objects). x.tally.round) h ∙ omega arith
     at_tally (requests.Done write status) reply h on = absurd h
+    -- starts of rounds: one round later
     at_tally (NextRound round) Did h on = ap (λ (x : Objects). x.tally.round) h.1
     at_tally (NextRound round) reply h on = absurd h
+    -- looks: the same round
     at_tally requests.LookRound (Present round) h on = ap (λ (x : Objects). x.tally.round) h.1 ∙ omega arith
     at_tally requests.LookRound reply h on = absurd h
     at_tally requests.LookLeft (LeftOver count) h on = ap (λ (x : Objects). x.tally.round) h.1 ∙ omega arith
     at_tally requests.LookLeft reply h on = absurd h
+    -- a tally is asked nothing else
     at_tally request reply h on = absurd (true≢false (sym on))
 
     by_object : (b : Bool) → is_same_object OfTally (object_of request) ≡ b → new.tally.round ≡ o.tally.round + (if is_next_round request then 1 else 0)
@@ -100,6 +104,7 @@ module _ (s : Scenario) (ledger : ℕ → LedgerId) (before : List Entry) (state
       omega (arith, known.sums, none, later)
 
   pub lets : (place : ℕ) (x : TaskState) → state.task place ≡ x → ComesBehind s before x (struck (request (setup s) x)) → IsLet ledger state.objects x (look_of x)
+  -- writers: the round of a write that begins has come
   lets place (Writer number todo taken submission) at comes = by_writer todo taken submission.doing comes.takes
     where
       by_writer : (todo : List Todo) (taken : Gathered) (doing : Doing) → RoundHasCome todo taken doing before
@@ -108,8 +113,10 @@ module _ (s : Scenario) (ledger : ℕ → LedgerId) (before : List Entry) (state
       by_writer (todo ∷ later) NoBio Rests come = (Present state.objects.tally.round, (refl, refl), le-leb todo.round state.objects.tally.round (omega (arith, come, count)))
       by_writer (todo ∷ later) NoBio doing come = tt
       by_writer (todo ∷ later) taken doing come = tt
+  -- rescuers and completers look at nothing
   lets place (Rescuer dev submission) at comes = tt
   lets place (Completer disk carried) at comes = tt
+  -- the keeper: all writes that its duty waits for have ended, and with no duty it looks at nothing
   lets place (Keeper (Keeps [])) at comes = tt
   lets place (Keeper (Keeps (Starts round later ∷ duties))) at comes = (
     LeftOver (sum state.objects.tally.left),

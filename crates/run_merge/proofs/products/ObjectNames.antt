@@ -26,14 +26,19 @@ put_get o OfTally = refl
 put_get o OfNone = refl
 
 pub get_other : (o : Objects) (name other : Object) (v : StateAt name) → is_same_object other name ≡ false → get (put_object o name v) other ≡ get o other
+-- pools
 get_other o (OfPool a) (OfPool b) v h = upd_other o.pool a v b (eqb-false b a h)
 get_other o (OfPool a) other v h = refl
+-- lists of rescuers
 get_other o (OfRescuer a) (OfRescuer b) v h = upd_other o.rescue a v b (eqb-false b a h)
 get_other o (OfRescuer a) other v h = refl
+-- disks
 get_other o (OfDisk a) (OfDisk b) v h = upd_other o.disk a v b (eqb-false b a h)
 get_other o (OfDisk a) other v h = refl
+-- books
 get_other o (OfBook a) (OfBook b) v h = upd_other o.book a v b (eqb-false b a h)
 get_other o (OfBook a) other v h = refl
+-- the tally, and no object
 get_other o OfTally OfTally v h = absurd (true≢false h)
 get_other o OfTally other v h = refl
 get_other o OfNone other v h = refl

@@ -23,18 +23,23 @@ use Rattle.shared_objects.proofs.steps.BrokenRests.{broken_rests, stop_breaks}
 use Rattle.shared_objects.proofs.steps.GlanceStays.{glance_kinds, stop_struck}
 
 spent_none : (asked : Request) → what_of asked Spent ≡ None
+-- calls of pools, but for resizes
 spent_none (TakeBio set waits) = refl
 spent_none TakeVec = refl
 spent_none (TakeSlip dev) = refl
 spent_none (GiveBio bio) = refl
 spent_none (GiveVec vector) = refl
 spent_none (GiveSlip slip) = refl
+-- calls of lists of rescuers
 spent_none (Punt dev moved) = refl
 spent_none (Pop dev) = refl
+-- calls of disks
 spent_none (Push bio) = refl
 spent_none (Complete disk) = refl
+-- calls of books
 spent_none (Link writer opening) = refl
 spent_none (Drop writer node status part) = refl
+-- calls of the tally, resizes and rests
 spent_none (Done write status) = refl
 spent_none (Resize pool min) = refl
 spent_none (NextRound round) = refl
@@ -48,12 +53,17 @@ resize_goes false pool min is = absurd (cc is)
 
 -- no event stops a task
 event_goes : (asked : Request) (reply : Reply) → is_event asked reply ≡ true → is_stop asked reply ≡ false
+-- links: one that was refused is no event
 event_goes (Link writer opening) (LinkedTo (Made node)) is = refl
 event_goes (Link writer opening) (LinkedTo (NoRoom back)) is = absurd (cc is)
 event_goes (Link writer opening) (LinkedTo (Stray back)) is = absurd (cc is)
+-- drops: one at no node is no event
 event_goes (Drop writer node status part) (DroppedTo (end.Stray back)) is = absurd (cc is)
+-- resizes: one that was refused is no event
 event_goes (Resize pool min) (OutIs out) is = resize_goes (out == 0) pool min is
+-- no ticket: no event
 event_goes asked Spent is = absurd (cc (sym (ap is_some (spent_none asked)) ∙ is))
+-- nothing else stops a task
 event_goes asked reply is = refl
 
 pub stop_kind : (event stop : Bool) → not (event || stop) ≡ false → event ≡ false → stop ≡ true

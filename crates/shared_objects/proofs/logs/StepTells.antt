@@ -94,14 +94,18 @@ resize_stops false pool min is = refl
 silent_shows : (setup : Setup) (task next : TaskState) (seen : ℕ) (calls : List Call) (asked : Request) (reply : Reply) → what_of asked reply ≡ None → events_in calls ≡ []
     → (reply ≡ Spent → request setup next ≡ Rest) → (is_stop asked reply ≡ true → request setup next ≡ Rest)
     → ShowsStep setup task next seen calls (silent_step setup asked reply)
+-- no ticket: the task broke off
 silent_shows setup task next seen calls asked Spent none quiet spent stop = (quiet, spent refl)
+-- links, drops and resizes that were refused: the task broke off
 silent_shows setup task next seen calls (Link writer opening) (LinkedTo (NoRoom back)) none quiet spent stop = (quiet, stop refl)
 silent_shows setup task next seen calls (Link writer opening) (LinkedTo (Stray back)) none quiet spent stop = (quiet, stop refl)
 silent_shows setup task next seen calls (Drop writer node status part) (DroppedTo (end.Stray back)) none quiet spent stop = (quiet, stop refl)
 silent_shows setup task next seen calls (Resize pool min) (OutIs out) none quiet spent stop = (quiet, stop (resize_stops (out == 0) pool min none))
+-- misses that are no events: the task is blocked
 silent_shows setup task next seen calls (TakeBio set waits) (Missed used) none quiet spent stop = quiet
 silent_shows setup task next seen calls TakeVec (Missed used) none quiet spent stop = quiet
 silent_shows setup task next seen calls (TakeSlip dev) (Missed used) none quiet spent stop = quiet
+-- all else: the task waits
 silent_shows setup task next seen calls asked reply none quiet spent stop = quiet
 
 pub shows_step : (setup : Setup) (task next : TaskState) (seen : ℕ) (calls : List Call) (told : Option What) (asked : Request) (reply : Reply) → asked ≡ request setup task
@@ -123,18 +127,23 @@ idle_shows setup task next seen calls look left true is quiet asks replies withi
 idle_shows setup task next seen calls look left false is quiet asks replies within = quiet
 
 pub nothing_none : (asked : Request) → what_of asked Nothing ≡ None
+-- calls of pools, but for resizes
 nothing_none (TakeBio set waits) = refl
 nothing_none TakeVec = refl
 nothing_none (TakeSlip dev) = refl
 nothing_none (GiveBio bio) = refl
 nothing_none (GiveVec vector) = refl
 nothing_none (GiveSlip slip) = refl
+-- calls of lists of rescuers
 nothing_none (Punt dev moved) = refl
 nothing_none (Pop dev) = refl
+-- calls of disks
 nothing_none (Push bio) = refl
 nothing_none (Complete disk) = refl
+-- calls of books
 nothing_none (Link writer opening) = refl
 nothing_none (Drop writer node status part) = refl
+-- calls of the tally, resizes and rests
 nothing_none (Done write status) = refl
 nothing_none (Resize pool min) = refl
 nothing_none (NextRound round) = refl

@@ -19,6 +19,7 @@ use Rattle.shared_objects.specs.Logs.{is_stop}
 
 -- a task that broke off asks for nothing more
 pub broken_rests : (setup : Setup) (task : TaskState) → is_broken task ≡ true → request setup task ≡ Rest
+-- writers: their submission broke off
 broken_rests setup (Writer number todo taken submission) is = by_doing submission.doing is
   where
     by_doing : (doing : Doing) → is_some (doing_breach doing) ≡ true → request setup (Writer number todo taken (record submission { doing = doing })) ≡ Rest
@@ -26,6 +27,7 @@ broken_rests setup (Writer number todo taken submission) is = by_doing submissio
     by_doing (Drives bio ask) is = absurd (cc is)
     by_doing (Copies bio master leg want) is = absurd (cc is)
     by_doing (Breaks breach kept) is = refl
+-- rescuers: so did theirs
 broken_rests setup (Rescuer dev submission) is = by_doing submission.doing is
   where
     by_doing : (doing : Doing) → is_some (doing_breach doing) ≡ true → request setup (Rescuer dev (record submission { doing = doing })) ≡ Rest
@@ -33,8 +35,10 @@ broken_rests setup (Rescuer dev submission) is = by_doing submission.doing is
     by_doing (Drives bio ask) is = absurd (cc is)
     by_doing (Copies bio master leg want) is = absurd (cc is)
     by_doing (Breaks breach kept) is = refl
+-- completers: what was carried failed
 broken_rests setup (Completer disk (Fails breach kept)) is = refl
 broken_rests setup (Completer disk carried) is = absurd (cc is)
+-- keepers: they stopped
 broken_rests setup (Keeper (Stops breach)) is = refl
 broken_rests setup (Keeper keeping) is = absurd (cc is)
 
@@ -44,7 +48,9 @@ spent_breaks kept lists (Some dev) = refl
 
 submission_breaks : (setup : Setup) (doing : Doing) (lists : TaskLists) (reply : Reply) → is_stop (submission_request setup doing lists) reply ≡ true
     → is_some (doing_breach (submission_answered setup doing lists reply).doing) ≡ true
+-- no ticket: what is at hand is kept
 submission_breaks setup doing lists Spent is = spent_breaks (at_hand doing) lists (punts_of doing)
+-- links: one that was refused breaks the submission off, and one that was made stops nothing
 submission_breaks setup (Drives bio (ToCut (Links hand))) lists (LinkedTo (Made node)) is = absurd (cc is)
 submission_breaks setup (Drives bio (ToCut (Links hand))) lists (LinkedTo (NoRoom back)) is = refl
 submission_breaks setup (Drives bio (ToCut (Links hand))) lists (LinkedTo (Stray back)) is = refl
@@ -54,6 +60,7 @@ submission_breaks setup (Drives bio (ToMaster slip)) lists (LinkedTo (Stray back
 submission_breaks setup (Copies bio master leg (Links hand)) lists (LinkedTo (Made node)) is = absurd (cc is)
 submission_breaks setup (Copies bio master leg (Links hand)) lists (LinkedTo (NoRoom back)) is = refl
 submission_breaks setup (Copies bio master leg (Links hand)) lists (LinkedTo (Stray back)) is = refl
+-- no other reply stops a submission
 submission_breaks setup Rests lists reply is = absurd (cc is)
 submission_breaks setup (Drives bio ToPush) lists reply is = absurd (cc is)
 submission_breaks setup (Drives bio (ToCut (Takes waits))) lists reply is = absurd (cc is)
@@ -68,20 +75,27 @@ submission_breaks setup (Breaks breach kept) lists reply is = absurd (cc is)
 
 with_breaks : (setup : Setup) (writer : ℕ) (needs : Bool) (todo : Todo) (later : List Todo) (bio : Item Pad) (submission : Submission) (reply : Reply)
     → is_stop (with_bio writer needs todo) reply ≡ true → is_broken (write_answered setup writer (todo ∷ later) (HasBio bio) submission reply) ≡ true
+-- no ticket
 with_breaks setup writer needs todo later bio submission Spent is = refl
+-- links of a write without data
 with_breaks setup writer false todo later bio submission (LinkedTo (Made node)) is = absurd (cc is)
 with_breaks setup writer false todo later bio submission (LinkedTo (NoRoom back)) is = refl
 with_breaks setup writer false todo later bio submission (LinkedTo (Stray back)) is = refl
+-- no other reply stops it
 with_breaks setup writer true todo later bio submission reply is = absurd (cc is)
 with_breaks setup writer false todo later bio submission reply is = absurd (cc is)
 
 write_breaks : (setup : Setup) (writer : ℕ) (todo : List Todo) (taken : Gathered) (submission : Submission) (reply : Reply) → is_stop (write_request writer todo taken) reply ≡ true
     → is_broken (write_answered setup writer todo taken submission reply) ≡ true
+-- no ticket
 write_breaks setup writer todo taken submission Spent is = refl
+-- a bio, and maybe no vector
 write_breaks setup writer (todo ∷ later) (HasBio bio) submission reply is = with_breaks setup writer (needs_vector todo.write) todo later bio submission reply is
+-- links of a write with data
 write_breaks setup writer (todo ∷ later) (HasBoth bio vector) submission (LinkedTo (Made node)) is = absurd (cc is)
 write_breaks setup writer (todo ∷ later) (HasBoth bio vector) submission (LinkedTo (NoRoom back)) is = refl
 write_breaks setup writer (todo ∷ later) (HasBoth bio vector) submission (LinkedTo (Stray back)) is = refl
+-- no other reply stops it
 write_breaks setup writer [] taken submission reply is = absurd (cc is)
 write_breaks setup writer (todo ∷ later) NoBio submission reply is = absurd (cc is)
 write_breaks setup writer (todo ∷ later) (HasBoth bio vector) submission reply is = absurd (cc is)

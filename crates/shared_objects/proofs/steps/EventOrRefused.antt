@@ -37,6 +37,7 @@ out_refused old new pool min out (inr (some, same)) not_event = ap not (ne_eqb o
 out_refused old new pool min out (inl (none, moves)) not_event = wrong (subst (λ n. is_event (Resize pool min) (OutIs n) ≡ true) (sym none) refl) not_event
 
 pool_refused : (old new : LedgerPool) (asked : Request) (reply : Reply) → PoolServes old asked reply new → is_event asked reply ≡ false → is_refused asked reply ≡ true
+-- takes: what is served is an event, an element that was handed out or a miss
 pool_refused old new (TakeBio set waits) (HadBio from bio) h none = wrong refl none
 pool_refused old new (TakeBio set waits) (Missed used) h none = wrong (miss_event waits used _ h.1) none
 pool_refused old new (TakeBio set waits) reply h none = absurd h
@@ -46,14 +47,17 @@ pool_refused old new TakeVec reply h none = absurd h
 pool_refused old new (TakeSlip dev) (HadSlip from slip) h none = wrong refl none
 pool_refused old new (TakeSlip dev) (Missed used) h none = wrong (miss_event true used _ h.1) none
 pool_refused old new (TakeSlip dev) reply h none = absurd h
+-- gives are events
 pool_refused old new (GiveBio bio) Did h none = wrong refl none
 pool_refused old new (GiveBio bio) reply h none = absurd h
 pool_refused old new (GiveVec vector) Did h none = wrong refl none
 pool_refused old new (GiveVec vector) reply h none = absurd h
 pool_refused old new (GiveSlip slip) Did h none = wrong refl none
 pool_refused old new (GiveSlip slip) reply h none = absurd h
+-- resizes: where something is out they were refused
 pool_refused old new (Resize pool min) (OutIs out) h none = out_refused old new pool min out h.1 none
 pool_refused old new (Resize pool min) reply h none = absurd h
+-- a pool serves nothing else
 pool_refused old new asked reply h none = absurd h
 
 list_refused : (old new : Rescue) (asked : Request) (reply : Reply) → ListServes old asked reply new → is_event asked reply ≡ false → is_refused asked reply ≡ true
@@ -67,13 +71,16 @@ disk_refused old new (Complete disk) (Completed index bio status) h none = wrong
 disk_refused old new asked reply h none = absurd h
 
 book_refused : (old new : BookState) (asked : Request) (reply : Reply) → BookServes old asked reply new → is_event asked reply ≡ false → is_refused asked reply ≡ true
+-- links: one that made no node was refused
 book_refused old new (Link other opening) (LinkedTo (Made place)) h none = wrong refl none
 book_refused old new (Link other opening) (LinkedTo (NoRoom back)) h none = refl
 book_refused old new (Link other opening) (LinkedTo (Stray back)) h none = refl
+-- drops: one at no node was refused
 book_refused old new (Drop other node status part) (DroppedTo end.Left) h none = wrong refl none
 book_refused old new (Drop other node status part) (DroppedTo (end.Up closed)) h none = wrong refl none
 book_refused old new (Drop other node status part) (DroppedTo (end.Top closed)) h none = wrong refl none
 book_refused old new (Drop other node status part) (DroppedTo (end.Stray back)) h none = refl
+-- a book serves nothing else
 book_refused old new asked reply h none = absurd h
 
 tally_refused : (old new : TallyState) (asked : Request) (reply : Reply) → TallyServes old asked reply new → is_event asked reply ≡ false → is_refused asked reply ≡ true

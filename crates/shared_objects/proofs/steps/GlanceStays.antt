@@ -20,14 +20,17 @@ use Rattle.shared_objects.specs.Logs.{is_event, is_stop, is_glance}
 
 -- what is struck out of a request makes it no other kind of call
 pub event_struck : (asked : Request) (reply : Reply) → is_event (struck asked) reply ≡ is_event asked reply
+-- gives: the body is struck out
 event_struck (GiveBio bio) Did = refl
 event_struck (GiveBio bio) reply = refl
 event_struck (GiveVec vector) Did = refl
 event_struck (GiveVec vector) reply = refl
 event_struck (GiveSlip slip) Did = refl
 event_struck (GiveSlip slip) reply = refl
+-- rounds: the number is struck out
 event_struck (NextRound round) Did = refl
 event_struck (NextRound round) reply = refl
+-- from all others nothing is struck out
 event_struck asked reply = refl
 
 pub stop_struck : (asked : Request) (reply : Reply) → is_stop (struck asked) reply ≡ is_stop asked reply
@@ -49,13 +52,16 @@ glance_kinds false false is = (refl, refl)
 
 submission_stays : (stage : Stage) (setup : Setup) (doing : Doing) (submission : Submission) (reply : Reply) → is_glance (submission_request setup doing submission.lists) reply ≡ true
     → Owes stage (submission_request setup doing submission.lists) reply → submission_answered setup doing submission.lists reply ≡ record { doing = doing; lists = submission.lists }
+-- no submission, or one that broke off: it asks for nothing
 submission_stays stage setup Rests submission Spent is owed = absurd (cc is)
 submission_stays stage setup Rests submission reply is owed = absurd owed
 submission_stays stage setup (Breaks breach kept) submission Spent is owed = absurd (cc is)
 submission_stays stage setup (Breaks breach kept) submission reply is owed = absurd owed
+-- pushes: none is a glance
 submission_stays stage setup (Drives bio ToPush) submission Spent is owed = absurd (cc is)
 submission_stays stage setup (Drives bio ToPush) submission Did is owed = absurd (cc is)
 submission_stays stage setup (Drives bio ToPush) submission reply is owed = absurd owed
+-- takes of a second half: a miss is a glance where the take waits and no entry of the script was used up
 submission_stays stage setup (Drives bio (ToCut (Takes true))) submission Spent is owed = absurd (cc is)
 submission_stays stage setup (Drives bio (ToCut (Takes true))) submission (HadBio got hand) is owed = absurd (cc is)
 submission_stays stage setup (Drives bio (ToCut (Takes true))) submission (Missed true) is owed = absurd (cc is)
@@ -65,13 +71,16 @@ submission_stays stage setup (Drives bio (ToCut (Takes false))) submission Spent
 submission_stays stage setup (Drives bio (ToCut (Takes false))) submission (HadBio got hand) is owed = absurd (cc is)
 submission_stays stage setup (Drives bio (ToCut (Takes false))) submission (Missed used) is owed = absurd (cc is)
 submission_stays stage setup (Drives bio (ToCut (Takes false))) submission reply is owed = absurd owed
+-- punts: none is a glance
 submission_stays stage setup (Drives bio (ToCut Punts)) submission Spent is owed = absurd (cc is)
 submission_stays stage setup (Drives bio (ToCut Punts)) submission Did is owed = absurd (cc is)
 submission_stays stage setup (Drives bio (ToCut Punts)) submission reply is owed = absurd owed
+-- takes of a record: a miss is a glance
 submission_stays stage setup (Drives bio ToRecord) submission Spent is owed = absurd (cc is)
 submission_stays stage setup (Drives bio ToRecord) submission (HadSlip got slip) is owed = absurd (cc is)
 submission_stays stage setup (Drives bio ToRecord) submission (Missed used) is owed = refl
 submission_stays stage setup (Drives bio ToRecord) submission reply is owed = absurd owed
+-- takes of a copy for a leg: as those of a second half
 submission_stays stage setup (Copies bio master leg (Takes true)) submission Spent is owed = absurd (cc is)
 submission_stays stage setup (Copies bio master leg (Takes true)) submission (HadBio got hand) is owed = absurd (cc is)
 submission_stays stage setup (Copies bio master leg (Takes true)) submission (Missed true) is owed = absurd (cc is)
@@ -81,9 +90,11 @@ submission_stays stage setup (Copies bio master leg (Takes false)) submission Sp
 submission_stays stage setup (Copies bio master leg (Takes false)) submission (HadBio got hand) is owed = absurd (cc is)
 submission_stays stage setup (Copies bio master leg (Takes false)) submission (Missed used) is owed = absurd (cc is)
 submission_stays stage setup (Copies bio master leg (Takes false)) submission reply is owed = absurd owed
+-- punts before a copy: none is a glance
 submission_stays stage setup (Copies bio master leg Punts) submission Spent is owed = absurd (cc is)
 submission_stays stage setup (Copies bio master leg Punts) submission Did is owed = absurd (cc is)
 submission_stays stage setup (Copies bio master leg Punts) submission reply is owed = absurd owed
+-- links of pieces, masters and legs: none is a glance
 submission_stays stage setup (Drives bio (ToCut (Links hand))) submission Spent is owed = absurd (cc is)
 submission_stays stage setup (Drives bio (ToCut (Links hand))) submission (LinkedTo (Made node)) is owed = absurd (cc is)
 submission_stays stage setup (Drives bio (ToCut (Links hand))) submission (LinkedTo (NoRoom back)) is owed = absurd (cc is)
@@ -103,11 +114,13 @@ submission_stays stage setup (Copies bio master leg (Links hand)) submission rep
 with_stays : (stage : Stage) (setup : Setup) (writer : ℕ) (needs : Bool) (todo : Todo) (later : List Todo) (bio : Item Pad) (submission : Submission) (reply : Reply)
     → is_glance (with_bio writer needs todo) reply ≡ true → Owes stage (with_bio writer needs todo) reply
     → write_answered setup writer (todo ∷ later) (HasBio bio) submission reply ≡ Writer writer (todo ∷ later) (HasBio bio) submission
+-- a write with data takes a vector: a miss is a glance
 with_stays stage setup writer true todo later bio submission Spent is owed = absurd (cc is)
 with_stays stage setup writer true todo later bio submission (HadVec got vector) is owed = absurd (cc is)
 with_stays stage setup writer true todo later bio submission (Missed true) is owed = absurd (cc is)
 with_stays stage setup writer true todo later bio submission (Missed false) is owed = refl
 with_stays stage setup writer true todo later bio submission reply is owed = absurd owed
+-- one without data is linked: that is no glance
 with_stays stage setup writer false todo later bio submission Spent is owed = absurd (cc is)
 with_stays stage setup writer false todo later bio submission (LinkedTo (Made node)) is owed = absurd (cc is)
 with_stays stage setup writer false todo later bio submission (LinkedTo (NoRoom back)) is owed = absurd (cc is)
@@ -117,14 +130,18 @@ with_stays stage setup writer false todo later bio submission reply is owed = ab
 write_stays : (stage : Stage) (setup : Setup) (writer : ℕ) (todo : List Todo) (taken : Gathered) (submission : Submission) (reply : Reply)
     → is_glance (write_request writer todo taken) reply ≡ true → Owes stage (write_request writer todo taken) reply
     → write_answered setup writer todo taken submission reply ≡ Writer writer todo taken submission
+-- no write is left: nothing is asked
 write_stays stage setup writer [] taken submission Spent is owed = absurd (cc is)
 write_stays stage setup writer [] taken submission reply is owed = absurd owed
+-- the first bio of a write: a miss is a glance
 write_stays stage setup writer (todo ∷ later) NoBio submission Spent is owed = absurd (cc is)
 write_stays stage setup writer (todo ∷ later) NoBio submission (HadBio got bio) is owed = absurd (cc is)
 write_stays stage setup writer (todo ∷ later) NoBio submission (Missed true) is owed = absurd (cc is)
 write_stays stage setup writer (todo ∷ later) NoBio submission (Missed false) is owed = refl
 write_stays stage setup writer (todo ∷ later) NoBio submission reply is owed = absurd owed
+-- a bio, and maybe no vector
 write_stays stage setup writer (todo ∷ later) (HasBio bio) submission reply is owed = with_stays stage setup writer (needs_vector todo.write) todo later bio submission reply is owed
+-- links of a write with data: none is a glance
 write_stays stage setup writer (todo ∷ later) (HasBoth bio vector) submission Spent is owed = absurd (cc is)
 write_stays stage setup writer (todo ∷ later) (HasBoth bio vector) submission (LinkedTo (Made node)) is owed = absurd (cc is)
 write_stays stage setup writer (todo ∷ later) (HasBoth bio vector) submission (LinkedTo (NoRoom back)) is owed = absurd (cc is)
@@ -150,6 +167,7 @@ rescuer_stays stage setup dev doing submission reply e is owed =
 
 closed_stays : (stage : Stage) (writer : ℕ) (closed : Closed) (vector : Option VectorItem) (bio : Option (Item Pad)) (slip : Option SlipItem) (parent : Option ℕ) (reply : Reply)
     → is_glance (closed_request writer closed vector bio slip parent) reply ≡ true → Owes stage (closed_request writer closed vector bio slip parent) reply → ⊥
+-- gives of a vector, a bio and a record: none is a glance
 closed_stays stage writer closed (Some vector) bio slip parent Spent is owed = absurd (cc is)
 closed_stays stage writer closed (Some vector) bio slip parent Did is owed = absurd (cc is)
 closed_stays stage writer closed (Some vector) bio slip parent reply is owed = absurd owed
@@ -159,30 +177,36 @@ closed_stays stage writer closed None (Some bio) slip parent reply is owed = abs
 closed_stays stage writer closed None None (Some slip) parent Spent is owed = absurd (cc is)
 closed_stays stage writer closed None None (Some slip) parent Did is owed = absurd (cc is)
 closed_stays stage writer closed None None (Some slip) parent reply is owed = absurd owed
+-- drops at the parent: none is a glance
 closed_stays stage writer closed None None None (Some parent) Spent is owed = absurd (cc is)
 closed_stays stage writer closed None None None (Some parent) (DroppedTo end.Left) is owed = absurd (cc is)
 closed_stays stage writer closed None None None (Some parent) (DroppedTo (end.Up up)) is owed = absurd (cc is)
 closed_stays stage writer closed None None None (Some parent) (DroppedTo (end.Top up)) is owed = absurd (cc is)
 closed_stays stage writer closed None None None (Some parent) (DroppedTo (end.Stray part)) is owed = absurd (cc is)
 closed_stays stage writer closed None None None (Some parent) reply is owed = absurd owed
+-- ends of writes: none is a glance
 closed_stays stage writer closed None None None None Spent is owed = absurd (cc is)
 closed_stays stage writer closed None None None None Did is owed = absurd (cc is)
 closed_stays stage writer closed None None None None reply is owed = absurd owed
 
 carried_stays : (stage : Stage) (disk : DevId) (carried : Carried) (reply : Reply) → is_glance (carried_request disk carried) reply ≡ true
     → Owes stage (carried_request disk carried) reply → carried_answered carried reply ≡ carried
+-- completions: one that finds nothing is a glance
 carried_stays stage disk Empty Spent is owed = absurd (cc is)
 carried_stays stage disk Empty (Completed index bio status) is owed = absurd (cc is)
 carried_stays stage disk Empty Nothing is owed = refl
 carried_stays stage disk Empty reply is owed = absurd owed
+-- drops of what was completed: none is a glance
 carried_stays stage disk (Brings bio status) Spent is owed = absurd (cc is)
 carried_stays stage disk (Brings bio status) (DroppedTo end.Left) is owed = absurd (cc is)
 carried_stays stage disk (Brings bio status) (DroppedTo (end.Up up)) is owed = absurd (cc is)
 carried_stays stage disk (Brings bio status) (DroppedTo (end.Top up)) is owed = absurd (cc is)
 carried_stays stage disk (Brings bio status) (DroppedTo (end.Stray part)) is owed = absurd (cc is)
 carried_stays stage disk (Brings bio status) reply is owed = absurd owed
+-- what a closed node held goes home
 carried_stays stage disk (Carries writer closed) reply is owed =
     absurd (closed_stays stage writer closed closed.held.vector closed.held.bio closed.held.slip closed.parent reply is owed)
+-- one that broke off asks for nothing
 carried_stays stage disk (Fails breach kept) Spent is owed = absurd (cc is)
 carried_stays stage disk (Fails breach kept) reply is owed = absurd owed
 
@@ -192,14 +216,18 @@ resize_tells false pool min is = absurd (cc is)
 
 keeper_stays : (stage : Stage) (keeping : Keeping) (reply : Reply) → is_glance (keeper_request keeping) reply ≡ true
     → Owes stage (keeper_request keeping) reply → keeper_answered keeping reply ≡ keeping
+-- no duty is left: nothing is asked
 keeper_stays stage (Keeps []) Spent is owed = absurd (cc is)
 keeper_stays stage (Keeps []) reply is owed = absurd owed
+-- resizes: none is a glance
 keeper_stays stage (Keeps (Resizes pool min later ∷ duties)) Spent is owed = absurd (cc is)
 keeper_stays stage (Keeps (Resizes pool min later ∷ duties)) (OutIs out) is owed = absurd (resize_tells (out == 0) pool min is)
 keeper_stays stage (Keeps (Resizes pool min later ∷ duties)) reply is owed = absurd owed
+-- starts of rounds: none is a glance
 keeper_stays stage (Keeps (Starts round later ∷ duties)) Spent is owed = absurd (cc is)
 keeper_stays stage (Keeps (Starts round later ∷ duties)) Did is owed = absurd (cc is)
 keeper_stays stage (Keeps (Starts round later ∷ duties)) reply is owed = absurd owed
+-- one that broke off asks for nothing
 keeper_stays stage (Stops breach) Spent is owed = absurd (cc is)
 keeper_stays stage (Stops breach) reply is owed = absurd owed
 

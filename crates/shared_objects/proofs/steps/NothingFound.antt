@@ -7,16 +7,20 @@ use Rattle.run_machine.specs.Scene.{Setup}
 use Rattle.run_machine.specs.Tasks.{Todo, Gathered, NoBio, HasBio, HasBoth, Carried, Empty, Brings, Carries, Fails, Duty, Resizes, Starts, Keeping, Keeps, Stops, TaskState, Writer, Rescuer, Completer, Keeper, answered, carried_answered, keeper_answered, writer_answered, write_answered, rescuer_answered}
 
 submission_idle : (setup : Setup) (doing : Doing) (submission : Submission) → submission_answered setup doing submission.lists Nothing ≡ record { doing = doing; lists = submission.lists }
+-- no submission
 submission_idle setup Rests submission = refl
+-- a bio that is driven
 submission_idle setup (Drives bio ToPush) submission = refl
 submission_idle setup (Drives bio (ToCut (Takes waits))) submission = refl
 submission_idle setup (Drives bio (ToCut Punts)) submission = refl
 submission_idle setup (Drives bio (ToCut (Links hand))) submission = refl
 submission_idle setup (Drives bio ToRecord) submission = refl
 submission_idle setup (Drives bio (ToMaster slip)) submission = refl
+-- copies for the legs of a mirror
 submission_idle setup (Copies bio master leg (Takes waits)) submission = refl
 submission_idle setup (Copies bio master leg Punts) submission = refl
 submission_idle setup (Copies bio master leg (Links hand)) submission = refl
+-- a submission that broke off
 submission_idle setup (Breaks breach kept) submission = refl
 
 write_idle : (setup : Setup) (writer : ℕ) (todo : List Todo) (taken : Gathered) (submission : Submission) → write_answered setup writer todo taken submission Nothing ≡ Writer writer todo taken submission
