@@ -4,6 +4,7 @@ pub mod RowsByNumber
 pub mod LeftOfKind
 pub mod Unshared
 pub mod ClosedByName
+pub mod ClosesAs
 pub mod JoinedSeats
 pub mod LeftRows
 pub mod CloseShows

@@ -32,7 +32,8 @@ use Rattle.shared_objects.specs.declared.locks.Locks.{Locks}
 use Rattle.shared_objects.specs.declared.seats.TaskSeats.{TaskSeats}
 use Rattle.shared_objects.specs.declared.shared.Shared.{Shared}
 use Rattle.shared_objects.specs.declared.closed.ClosedTask.{ClosedTask}
-use Rattle.shared_objects.proofs.leaving.ClosedByName.{bios_left, books_left, closes_as, disks_left, lists_left, records_left}
+use Rattle.shared_objects.proofs.leaving.ClosedByName.{bios_left, books_left, disks_left, lists_left, records_left}
+use Rattle.shared_objects.proofs.leaving.ClosesAs.{closes_as}
 use Rattle.shared_objects.proofs.leaving.JoinedSeats.{as_many, one_can_close, row_can_close}
 use Rattle.shared_objects.proofs.leaving.LeftOfKind.{pairs}
 use Rattle.shared_objects.proofs.row_lemmas.AbreastRows.{front, none_left, none_right, some_of, weaker_two}

@@ -1,4 +1,4 @@
-use Rattle.shared_objects.proofs.leaving.ClosedByName.{closes_as}
+use Rattle.shared_objects.proofs.leaving.ClosesAs.{closes_as}
 use Rattle.shared_objects.proofs.laws.locks_close_as.Goals as goal
 
 pub returns : goal.returns
