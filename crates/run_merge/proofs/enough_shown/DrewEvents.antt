@@ -17,7 +17,7 @@ use Rattle.shared_objects.specs.Led.{BrokeOff, IsLed}
 use Rattle.shared_objects.specs.Logs.{is_stop}
 use Rattle.shared_objects.proofs.logs.CallsLead.{logs_lead}
 use Rattle.shared_objects.proofs.tickets.TicketsOfCalls.{keeps}
-use Rattle.shared_objects.proofs.tickets.CallOwners.{logged, IsOwned, owner, IsInPlace, in_place}
+use Rattle.shared_objects.proofs.tickets.CallOwners.{logged, IsCallOfTask, owner, IsInPlace, in_place}
 use Rattle.shared_objects.proofs.steps.EventOrRefused.{served_refused}
 use Rattle.run_merge.specs.SharedObjects.{DrewAsEvent}
 use Rattle.run_merge.proofs.enough_shown.TaskCounts.{refused_stops}
@@ -44,7 +44,7 @@ module _ (s : Scenario) (plain : Plain) (names : List Object) (history : Object 
       p : IsInPlace (setup s) plain names history left tasks pass c name call
       p = in_place (setup s) plain names history left tasks pass c name call there
 
-      o : IsOwned (setup s) plain names history left tasks pass c name call
+      o : IsCallOfTask (setup s) plain names history left tasks pass c name call
       o = owner (setup s) plain names history left tasks pass c name call there
 
       -- with a ticket it was served, so that it is an event or was refused, which stops its task

@@ -29,7 +29,7 @@ use Rattle.task_core.proofs.opened.Begins.{run_begins, scene_is}
 use Rattle.run_merge.proofs.enough_shown.TaskCounts.{image_at, image_none}
 
 -- what holds behind each event
-pub record IsKept (stage : Stage) (state : State) : Type 0 where
+pub record IsStateOf (stage : Stage) (state : State) : Type 0 where
   pub objects : AreObjectsOf stage state.objects
   pub tasks : (place : ℕ) → IsTaskOf stage (state.task place)
 
@@ -38,12 +38,12 @@ module _ (stage : Stage) (good : IsStack stage.routing.stack) (numbered : AreNum
   scene_with tasks books writes = record { setup = routing_setup stage.routing; tasks = tasks; books = books; writes = writes; ledger = stage.ledger }
 
   module _ (tasks books writes : ℕ) where
-    one_named : (old new : State) (place : ℕ) (event : Event) → IsKept stage old → Steps (scene_with tasks books writes) old place event new
+    one_named : (old new : State) (place : ℕ) (event : Event) → IsStateOf stage old → Steps (scene_with tasks books writes) old place event new
         → IsEventOf stage.routing.stack event
     one_named old new place event kept steps =
         tasks_name_the_stack stage (old.task place) steps.reply event good (kept.tasks place) steps.by steps.told
 
-    one_kept : (old new : State) (place : ℕ) (event : Event) → IsKept stage old → Steps (scene_with tasks books writes) old place event new → IsKept stage new
+    one_kept : (old new : State) (place : ℕ) (event : Event) → IsStateOf stage old → Steps (scene_with tasks books writes) old place event new → IsStateOf stage new
     one_kept old new place event kept steps =
         let asked = request (routing_setup stage.routing) (old.task place) in
         let fits = tasks_stay_home.asks stage (old.task place) good (kept.tasks place) in
@@ -62,9 +62,9 @@ module _ (stage : Stage) (good : IsStack stage.routing.stack) (numbered : AreNum
             (sym (ap (λ (f : ℕ → TaskState). f other) steps.goes_on ∙ upd_other old.task place (answered (routing_setup stage.routing) (old.task place) steps.reply) other apart))
             (kept.tasks other))
 
-    all_named : (old : State) (events : List Event) (new : State) → IsKept stage old → IsRun (scene_with tasks books writes) old events new
-        → All (IsEventOf stage.routing.stack) events × IsKept stage new
-    all_named old [] new kept run = (All-nil (IsEventOf stage.routing.stack), subst (IsKept stage) (sym run) kept)
+    all_named : (old : State) (events : List Event) (new : State) → IsStateOf stage old → IsRun (scene_with tasks books writes) old events new
+        → All (IsEventOf stage.routing.stack) events × IsStateOf stage new
+    all_named old [] new kept run = (All-nil (IsEventOf stage.routing.stack), subst (IsStateOf stage) (sym run) kept)
     all_named old (event ∷ events) new kept (next, (place, steps), run) =
         let rest = all_named next events new (one_kept old next place event kept steps) run in
         (All-cons (IsEventOf stage.routing.stack) event events (one_named old next place event kept steps) rest.0, rest.1)
@@ -85,8 +85,8 @@ module _ (o : Opened) (is : IsOpened o) where
       by_two (inr (le, none)) =
           subst (IsTaskOf stage) (sym (image_none (λ (task : TaskOf). task.state) no_task o.tasks.items place le)) (All-nil (DutyFits stage))
 
-  kept_at_start : IsKept stage (start (scenario_in o))
-  kept_at_start = subst (IsKept stage) (run_begins o is) (record { objects = is.one.holds.objects; tasks = home_at })
+  kept_at_start : IsStateOf stage (start (scenario_in o))
+  kept_at_start = subst (IsStateOf stage) (run_begins o is) (record { objects = is.one.holds.objects; tasks = home_at })
 
   -- the events of each run of it, and what it leaves
   pub run_named : (events : List Event) (last : State) → IsRun (scene (scenario_in o) stage.ledger) (start (scenario_in o)) events last

@@ -21,7 +21,7 @@ use Rattle.run_merge.specs.Products.{LeadsTask, entries_by, task_behind, AreOfRu
 use Rattle.run_merge.specs.Merging.{Ticketed, Histories, without_tickets, sorted, all_of, history_of, done_by, TallyThen, LetsAsk, Shown, MergesAreRuns}
 use Rattle.run_merge.proofs.merging.Picked.{is_at, is_by, entries_filter, merge_at, merge_by, merge_entries_at, merge_entries_by}
 use Rattle.run_merge.proofs.merging.TwoParts.{cut, object_split, task_split, smaller_first}
-use Rattle.run_merge.proofs.merging.TallyAlone.{IsLater, from_there}
+use Rattle.run_merge.proofs.merging.TallyAlone.{IsLaterTally, from_there}
 use Rattle.run_merge.proofs.merging.TicketOrder.{Ordered, sorted_ordered, all_sorted, ordered_filter, ordered_split}
 use Rattle.run_merge.proofs.products.StateBehind.{at_start, behind_run}
 use Rattle.run_merge.proofs.products.KnownBehind.{Known, known}
@@ -36,7 +36,7 @@ module _ (s : Scenario) (ledger : ℕ → LedgerId) (good : IsScenario s) (namin
   -- What a task saw of the tally still lets it ask when it draws its ticket: the tally that it saw is an earlier one.
   module _ (between : List Entry) (state : State) (reached : AreOfRun s ledger between state) (ticket : ℕ) (before after : List Ticketed)
       (all : sorted (all_of hs) ≡ before ++ after) (above : Ordered ticket after) (entries : without_tickets before ≡ between) where
-    is_later : (was : TallyThen s ledger (history_of OfTally hs)) → All (λ (n : Ticketed). n.ticket < ticket) was.seen → IsLater was.shown state.objects.tally
+    is_later : (was : TallyThen s ledger (history_of OfTally hs)) → All (λ (n : Ticketed). n.ticket < ticket) was.seen → IsLaterTally was.shown state.objects.tally
     is_later was few =
         let history : filter (is_at OfTally) before ++ filter (is_at OfTally) after ≡ was.seen ++ was.later =
         sym (filter-append (is_at OfTally) before after) ∙ ap (filter (is_at OfTally)) (sym all)

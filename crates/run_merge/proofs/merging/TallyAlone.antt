@@ -30,7 +30,7 @@ tally_leads ledger (e ∷ es) old a b x y =
     tally_leads ledger es x.0 a b x.2 (subst (λ o. LeadsObject ledger OfTally o es b) (tally_same old e.asked e.reply y.0 x.0 y.1 x.1) y.2)
 
 -- a later tally
-pub record IsLater (old new : TallyState) : Type 0 where
+pub record IsLaterTally (old new : TallyState) : Type 0 where
   pub left : sum new.left ≤ sum old.left
   pub round : old.round ≤ new.round
 
@@ -40,10 +40,10 @@ set_less (x ∷ xs) zero = omega (arith, sum_by-cons (λ (n : ℕ). n) (x - 1) x
 set_less (x ∷ xs) (suc i) =
     omega (arith, sum_by-cons (λ (n : ℕ). n) x (slice_set xs i (slice_index_or xs i 0 - 1)), sum_by-cons (λ (n : ℕ). n) x xs, set_less xs i)
 
-same_later : (old new : TallyState) → new ≡ old → IsLater old new
+same_later : (old new : TallyState) → new ≡ old → IsLaterTally old new
 same_later old new is = let a = ap (λ (t : TallyState). sum t.left) is in let b = ap (λ (t : TallyState). t.round) is in record { left = omega (arith, a); round = omega (arith, b) }
 
-one_later : (old : TallyState) (request : Request) (reply : Reply) (new : TallyState) → TallyMachine old request reply new → IsLater old new
+one_later : (old : TallyState) (request : Request) (reply : Reply) (new : TallyState) → TallyMachine old request reply new → IsLaterTally old new
 -- ends of writes: no more are unfinished than before
 one_later old (Done write status) Did new h =
     let a = ap (λ (t : TallyState). sum t.left) h in
@@ -64,7 +64,7 @@ one_later old LookLeft reply new h = absurd h
 -- a tally is asked nothing else
 one_later old request reply new h = absurd h
 
-tally_later : (ledger : ℕ → LedgerId) (es : List Entry) (old new : TallyState) → LeadsObject ledger OfTally old es new → IsLater old new
+tally_later : (ledger : ℕ → LedgerId) (es : List Entry) (old new : TallyState) → LeadsObject ledger OfTally old es new → IsLaterTally old new
 tally_later ledger [] old new h = same_later old new h
 tally_later ledger (e ∷ es) old new h =
     let a = one_later old e.asked e.reply h.0 h.1 in
@@ -73,6 +73,6 @@ tally_later ledger (e ∷ es) old new h =
 
 -- behind the same entries it is the same, and later ones leave a later one
 pub from_there : (ledger : ℕ → LedgerId) (first more : List Entry) (old here there new : TallyState) → LeadsObject ledger OfTally old first here
-    → LeadsObject ledger OfTally old first there → LeadsObject ledger OfTally here more new → IsLater there new
+    → LeadsObject ledger OfTally old first there → LeadsObject ledger OfTally here more new → IsLaterTally there new
 from_there ledger first more old here there new leads same on =
     tally_later ledger more there new (subst (λ (t : TallyState). LeadsObject ledger OfTally t more new) (tally_leads ledger first old here there leads same) on)

@@ -27,7 +27,7 @@ task_split setup [] ys old new l = (refl, l)
 task_split setup (x ∷ xs) ys old new l = let r = task_split setup xs ys (answered setup old x.reply) new l.1 in ((l.0, r.0), r.1)
 
 -- a list of entries that is cut, with its tickets
-pub record IsCut (ns : List Ticketed) (between : List Entry) (e : Entry) : Type 0 where
+pub record IsTicketedCut (ns : List Ticketed) (between : List Entry) (e : Entry) : Type 0 where
   pub before : List Ticketed
   pub here : Ticketed
   pub after : List Ticketed
@@ -35,7 +35,7 @@ pub record IsCut (ns : List Ticketed) (between : List Entry) (e : Entry) : Type 
   pub entries : without_tickets before ≡ between
   pub entry : here.entry ≡ e
 
-pub cut : (ns : List Ticketed) (between after : List Entry) (e : Entry) → without_tickets ns ≡ between ++ e ∷ after → IsCut ns between e
+pub cut : (ns : List Ticketed) (between after : List Entry) (e : Entry) → without_tickets ns ≡ between ++ e ∷ after → IsTicketedCut ns between e
 cut [] [] after e is = absurd (true≢false (ap is_none is))
 cut [] (b ∷ between) after e is = absurd (true≢false (ap is_none is))
 cut (n ∷ ns) [] after e is = record { before = []; here = n; after = ns; all = refl; entries = refl; entry = ap (first_or e) is }

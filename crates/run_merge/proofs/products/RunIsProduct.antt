@@ -90,7 +90,7 @@ module _ (scene : Scene) where
           (ap (λ (f : ℕ → TaskState). f other) steps.goes_on ∙ upd_other old.task place x other (eqb-false other place same)) rest
 
 -- the run up to an entry, and its step
-record IsCut (scene : Scene) (old : State) (before : List Entry) (e : Entry) : Type 0 where
+record IsRunUpTo (scene : Scene) (old : State) (before : List Entry) (e : Entry) : Type 0 where
   events : List Event
   mid : State
   run : IsRun scene old events mid
@@ -101,7 +101,7 @@ record IsCut (scene : Scene) (old : State) (before : List Entry) (e : Entry) : T
   asked : e.asked ≡ struck (request scene.setup (mid.task e.place))
 
 cut : (scene : Scene) (old : State) (events : List Event) (new : State) (run : IsRun scene old events new) (before after : List Entry) (e : Entry)
-    → entries_in scene old events new run ≡ before ++ e ∷ after → IsCut scene old before e
+    → entries_in scene old events new run ≡ before ++ e ∷ after → IsRunUpTo scene old before e
 cut scene old [] new run [] after e is = absurd (true≢false (ap is_none is))
 cut scene old [] new run (b ∷ before) after e is = absurd (true≢false (ap is_none is))
 cut scene old (event ∷ events) new (next, (place, steps), run) [] after e is =
@@ -134,10 +134,10 @@ cut scene old (event ∷ events) new (next, (place, steps), run) (b ∷ before) 
 
 module _ (s : Scenario) (ledger : ℕ → LedgerId) (good : IsScenario s) (naming : IsNaming ledger) where
   -- what stands before an entry, by the entries of its task
-  abbrev Stands : List Entry → Entry → Type 0
-  Stands before e = ComesBehind s before (led_by (setup s) ((start s).task e.place) (entries_by e.place before)) e.asked
+  abbrev StandsBehind : List Entry → Entry → Type 0
+  StandsBehind before e = ComesBehind s before (led_by (setup s) ((start s).task e.place) (entries_by e.place before)) e.asked
 
-  stands_in : (entries : List Entry) (last : State) → AreOfRun s ledger entries last → AtEach entries Stands
+  stands_in : (entries : List Entry) (last : State) → AreOfRun s ledger entries last → AtEach entries StandsBehind
   stands_in entries last (events, run, is) before after e at =
       let c = cut (scene s ledger) (start s) events last run before after e (is ∙ at) in
       let b = behind_run s ledger before c.mid (c.events, c.run, c.entries) in

@@ -33,7 +33,7 @@ rest_taken (row ∷ rows) at new (suc list) x less some is more others =
     subst (λ l. IsPermutation (rest at (row ∷ rows)) (x ∷ (l ++ rest (λ list. new (suc list)) rows))) here three
 
 -- it is one of these
-pub record IsLeft {X : Type 0} (rows : List (List X)) (at : ℕ → ℕ) (y : X) : Type 0 where
+pub record IsInRest {X : Type 0} (rows : List (List X)) (at : ℕ → ℕ) (y : X) : Type 0 where
   pub list : ℕ
   pub place : ℕ
   pub is_list : list < length rows
@@ -41,12 +41,12 @@ pub record IsLeft {X : Type 0} (rows : List (List X)) (at : ℕ → ℕ) (y : X)
   pub within : place < length (get_or rows list [])
   pub is : get_or (get_or rows list []) place y ≡ y
 
-pub left_is : {X : Type 0} (rows : List (List X)) (at : ℕ → ℕ) (y : X) → Contains (rest at rows) y → IsLeft rows at y
+pub left_is : {X : Type 0} (rows : List (List X)) (at : ℕ → ℕ) (y : X) → Contains (rest at rows) y → IsInRest rows at y
 left_is [] at y (k, lt, is) = absurd (omega (arith, lt))
 left_is (row ∷ rows) at y there = by_two (Contains-append_cases (drop (at 0) row) (rest (λ list. at (suc list)) rows) y there) (left_is rows (λ list. at (suc list)) y)
   where
-    by_two : Contains (drop (at 0) row) y ⊎ Contains (rest (λ list. at (suc list)) rows) y → (Contains (rest (λ list. at (suc list)) rows) y → IsLeft rows (λ list. at (suc list)) y)
-        → IsLeft (row ∷ rows) at y
+    by_two : Contains (drop (at 0) row) y ⊎ Contains (rest (λ list. at (suc list)) rows) y → (Contains (rest (λ list. at (suc list)) rows) y → IsInRest rows (λ list. at (suc list)) y)
+        → IsInRest (row ∷ rows) at y
     by_two (inl (k, lt, is)) later = record {
       list = 0;
       place = at 0 + k;

@@ -10,28 +10,28 @@ use Rattle.run_merge.specs.Heads.{Stands, ticketed_head, winner_of, head_at, is_
 use Rattle.run_merge.proofs.tournament.Rest.{left_is, none_left}
 
 -- no ticket is behind any, and else the smaller one is not behind
-abbrev pub IsBehind : Option ℕ → Option ℕ → Type 0
-IsBehind None first = Unit {0}
-IsBehind (Some ticket) None = ⊥
-IsBehind (Some ticket) (Some first) = first ≤ ticket
+abbrev pub IsNotBefore : Option ℕ → Option ℕ → Type 0
+IsNotBefore None first = Unit {0}
+IsNotBefore (Some ticket) None = ⊥
+IsNotBefore (Some ticket) (Some first) = first ≤ ticket
 
-behind_itself : (ticket : Option ℕ) → IsBehind ticket ticket
+behind_itself : (ticket : Option ℕ) → IsNotBefore ticket ticket
 behind_itself None = tt
 behind_itself (Some ticket) = omega arith
 
-behind_both : (a b c : Option ℕ) → IsBehind a b → IsBehind b c → IsBehind a c
+behind_both : (a b c : Option ℕ) → IsNotBefore a b → IsNotBefore b c → IsNotBefore a c
 behind_both None b c ab bc = tt
 behind_both (Some a) None c ab bc = absurd ab
 behind_both (Some a) (Some b) None ab bc = absurd bc
 behind_both (Some a) (Some b) (Some c) ab bc = omega (arith, ab, bc)
 
-smaller_of : (a b : Option ℕ) → IsBehind a (if is_before b a then b else a) × IsBehind b (if is_before b a then b else a)
+smaller_of : (a b : Option ℕ) → IsNotBefore a (if is_before b a then b else a) × IsNotBefore b (if is_before b a then b else a)
 smaller_of None None = (tt, tt)
 smaller_of None (Some b) = (tt, omega arith)
 smaller_of (Some a) None = (omega arith, tt)
 smaller_of (Some a) (Some b) = by_test (nat_lt b a) refl
   where
-    by_test : (c : Bool) → nat_lt b a ≡ c → IsBehind (Some a) (if c then Some b else Some a) × IsBehind (Some b) (if c then Some b else Some a)
+    by_test : (c : Bool) → nat_lt b a ≡ c → IsNotBefore (Some a) (if c then Some b else Some a) × IsNotBefore (Some b) (if c then Some b else Some a)
     by_test true lt = let less = ltb-true b a lt in (omega (arith, less), omega arith)
     by_test false lt = let le = ltb-false b a lt in (omega arith, omega (arith, le))
 
@@ -43,11 +43,11 @@ pick_one : (c : Bool) (first second : Head) → ((if c then second else first) �
 pick_one true first second = inr refl
 pick_one false first second = inl refl
 
-behind_smaller : (first second : Head) → IsBehind first.ticket (smaller first second).ticket × IsBehind second.ticket (smaller first second).ticket
+behind_smaller : (first second : Head) → IsNotBefore first.ticket (smaller first second).ticket × IsNotBefore second.ticket (smaller first second).ticket
 behind_smaller first second =
     let same = sym (pick_ticket (is_before second.ticket first.ticket) first second) in
     let both = smaller_of first.ticket second.ticket in
-    (subst (IsBehind first.ticket) same both.0, subst (IsBehind second.ticket) same both.1)
+    (subst (IsNotBefore first.ticket) same both.0, subst (IsNotBefore second.ticket) same both.1)
 
 -- a number is twice another one, or one more
 halves : (n : ℕ) → (half : ℕ) × ((n ≡ 2 * half) ⊎ (n ≡ 2 * half + 1))
@@ -89,39 +89,39 @@ ticket_none {T} xs place is = by_two (slice_get_cases xs place).1
     by_two (inl (x, lt, there, same)) = absurd (none-some x.0 (sym is ∙ ap ticket_in there))
     by_two (inr (le, none)) = le
 
-none_behind : (ticket first : Option ℕ) → first ≡ None → IsBehind ticket first → ticket ≡ None
+none_behind : (ticket first : Option ℕ) → first ≡ None → IsNotBefore ticket first → ticket ≡ None
 none_behind None first none behind = refl
-none_behind (Some ticket) first none behind = absurd (subst (IsBehind (Some ticket)) none behind)
+none_behind (Some ticket) first none behind = absurd (subst (IsNotBefore (Some ticket)) none behind)
 
 module _ {T : Type 0} (rows : List (List (ℕ × T))) (at : ℕ → ℕ) (nodes : List Head) (s : Stands rows at nodes) where
   -- the root comes before each node
-  before_all : (fuel number : ℕ) → number ≤ fuel → 1 ≤ number → number < length rows + length rows → IsBehind (node nodes number).ticket (node nodes 1).ticket
+  before_all : (fuel number : ℕ) → number ≤ fuel → 1 ≤ number → number < length rows + length rows → IsNotBefore (node nodes number).ticket (node nodes 1).ticket
   before_all zero number le some less = absurd (omega (arith, le, some))
   before_all (suc fuel) number le some less = by_half (before_all fuel) (halves number)
     where
       AllBefore : Type 0
-      AllBefore = (number : ℕ) → number ≤ fuel → 1 ≤ number → number < length rows + length rows → IsBehind (node nodes number).ticket (node nodes 1).ticket
+      AllBefore = (number : ℕ) → number ≤ fuel → 1 ≤ number → number < length rows + length rows → IsNotBefore (node nodes number).ticket (node nodes 1).ticket
 
-      up : AllBefore → (half : ℕ) → 1 ≤ half → half < number → half < length rows → IsBehind (node nodes number).ticket (node nodes half).ticket → IsBehind (node nodes number).ticket (node nodes 1).ticket
+      up : AllBefore → (half : ℕ) → 1 ≤ half → half < number → half < length rows → IsNotBefore (node nodes number).ticket (node nodes half).ticket → IsNotBefore (node nodes number).ticket (node nodes 1).ticket
       up before half is smaller_half inner behind =
           behind_both (node nodes number).ticket (node nodes half).ticket (node nodes 1).ticket behind
           (before half (omega (arith, le, smaller_half)) is (omega (arith, inner)))
 
-      by_half : AllBefore → (half : ℕ) × ((number ≡ 2 * half) ⊎ (number ≡ 2 * half + 1)) → IsBehind (node nodes number).ticket (node nodes 1).ticket
+      by_half : AllBefore → (half : ℕ) × ((number ≡ 2 * half) ⊎ (number ≡ 2 * half + 1)) → IsNotBefore (node nodes number).ticket (node nodes 1).ticket
       by_half before (half, inl even) =
           let is : 1 ≤ half = omega (arith, even, some) in
           let inner : half < length rows = omega (arith, even, less) in
           let played = s.holds.inner half is inner tt in
           let behind = (behind_smaller (node nodes (2 * half)) (node nodes (2 * half + 1))).0 in
           up before half is (omega (arith, even, is)) inner
-          (subst (λ n. IsBehind (node nodes n).ticket (node nodes half).ticket) (sym even) (subst (λ (h : Head). IsBehind (node nodes (2 * half)).ticket h.ticket) (sym played) behind))
-      by_half before (zero, inr odd) = subst (λ n. IsBehind (node nodes n).ticket (node nodes 1).ticket) (sym odd) (behind_itself (node nodes 1).ticket)
+          (subst (λ n. IsNotBefore (node nodes n).ticket (node nodes half).ticket) (sym even) (subst (λ (h : Head). IsNotBefore (node nodes (2 * half)).ticket h.ticket) (sym played) behind))
+      by_half before (zero, inr odd) = subst (λ n. IsNotBefore (node nodes n).ticket (node nodes 1).ticket) (sym odd) (behind_itself (node nodes 1).ticket)
       by_half before (suc half, inr odd) =
           let inner : suc half < length rows = omega (arith, odd, less) in
           let played = s.holds.inner (suc half) (omega arith) inner tt in
           let behind = (behind_smaller (node nodes (2 * suc half)) (node nodes (2 * suc half + 1))).1 in
           up before (suc half) (omega arith) (omega (arith, odd)) inner
-          (subst (λ n. IsBehind (node nodes n).ticket (node nodes (suc half)).ticket) (sym odd) (subst (λ (h : Head). IsBehind (node nodes (2 * suc half + 1)).ticket h.ticket) (sym played) behind))
+          (subst (λ n. IsNotBefore (node nodes n).ticket (node nodes (suc half)).ticket) (sym odd) (subst (λ (h : Head). IsNotBefore (node nodes (2 * suc half + 1)).ticket h.ticket) (sym played) behind))
 
   -- the head of a list from its place on
   abbrev IsLeaf : Head → Type 0
@@ -180,7 +180,7 @@ module _ {T : Type 0} (rows : List (List (ℕ × T))) (at : ℕ → ℕ) (nodes 
       let long : 1 ≤ length rows + l.list = omega (arith, less) in
       let small : length rows + l.list < length rows + length rows = omega (arith, less) in
       let behind = before_all (length rows + l.list) (length rows + l.list) (omega arith) long small in
-      let least : t ≤ (get_or row (at l.list) y).0 = subst (λ p. IsBehind p (Some t)) ticket (subst (IsBehind (node nodes (length rows + l.list)).ticket) is behind) in
+      let least : t ≤ (get_or row (at l.list) y).0 = subst (λ p. IsNotBefore p (Some t)) ticket (subst (IsNotBefore (node nodes (length rows + l.list)).ticket) is behind) in
       let later = rises l.list (at l.list) l.place y l.behind l.within in
       let same = ap (λ (e : ℕ × T). e.0) l.is in
       omega (arith, least, later, same)

@@ -89,7 +89,7 @@ module _ (locks : Locks) (slots : List (Option RanState)) (firsts : TaskSeats) (
   }
 
 -- A task that was put away and has stopped, and what it is returned as.
-record IsReady (set : Setup) (ran : RanState) : Type 0 where
+record IsStoppedRan (set : Setup) (ran : RanState) : Type 0 where
   pub hold : RanHolds ran
   pub setup_is : routing_setup ran.first.routing ≡ set
   pub over : ran.stopped ≡ true
@@ -104,10 +104,10 @@ record ReturnsAs (set : Setup) (ran : RanState) (task : Returned) : Type 0 where
   pub notes : HaveTickets task.log → AreNoted (notes_of set task.first task.log) ran.noted
 
 module _ (set : Setup) where
-  abbrev one_returned : (ran : RanState) → IsReady set ran → Returned
+  abbrev one_returned : (ran : RanState) → IsStoppedRan set ran → Returned
   one_returned ran ready = record { first = ran.first.state; log = ready.hold.ran.log; task = ran.task.state; desk = desk_of ran.seats }
 
-  returns_as : (ran : RanState) (ready : IsReady set ran) → ReturnsAs set ran (one_returned ran ready)
+  returns_as : (ran : RanState) (ready : IsStoppedRan set ran) → ReturnsAs set ran (one_returned ran ready)
   returns_as ran ready = record {
     first = refl;
     state = refl;
@@ -118,10 +118,10 @@ module _ (set : Setup) where
     notes = subst (λ (s : Setup). HaveTickets ready.hold.ran.log → AreNoted (notes_of s ran.first.state ready.hold.ran.log) ran.noted) ready.setup_is ready.hold.ran.notes;
   }
 
-  returned_of : (rans : List RanState) → All (IsReady set) rans → (returned : List Returned) × Abreast (ReturnsAs set) rans returned
+  returned_of : (rans : List RanState) → All (IsStoppedRan set) rans → (returned : List Returned) × Abreast (ReturnsAs set) rans returned
   returned_of [] ready = ([], record { lens = refl; each = λ place x y lt. absurd (omega (arith, lt)) })
   returned_of (ran ∷ rans) ready =
-      let here : IsReady set ran = ready 0 ran (omega arith) in
+      let here : IsStoppedRan set ran = ready 0 ran (omega arith) in
       let rest = returned_of rans (λ k d lt. ready (suc k) d (omega (arith, lt))) in
       (one_returned ran here ∷ rest.0, two_front (ReturnsAs set) ran (one_returned ran here) rans rest.0 (returns_as ran here) rest.1)
 
@@ -146,7 +146,7 @@ module _ (shared : Shared) (firsts : TaskSeats) (closed : Closed) (holds : Share
   slot_is : (k : ℕ) (ran : RanState) → k < length away.rans → get_or shared.tasks.items k (Some ran) ≡ Some (get_or away.rans k ran)
   slot_is k ran lt = ap (λ (slots : List (Option RanState)). get_or slots k (Some ran)) away.are ∙ get_or-map (λ (r : RanState). Some r) away.rans k ran (Some ran) lt
 
-  ready : All (IsReady set) away.rans
+  ready : All (IsStoppedRan set) away.rans
   ready k ran lt = let m = many.0 in record {
     hold = away.hold k ran lt;
     setup_is = ap routing_setup ((away.hold k ran lt).routing ∙ ap (λ (home : Locks). (stage_at home).routing) (away.homes k ran lt) ∙ ap (λ (p : Plain). (stage_of p).routing) holds.round.same);

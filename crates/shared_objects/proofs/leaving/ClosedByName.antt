@@ -40,7 +40,7 @@ use Rattle.object_things.specs.Disks.{disk_mark}
 use Rattle.object_things.specs.Books.{book_mark}
 use Rattle.object_things.specs.Tallies.{tally_mark}
 use Rattle.seat_lock.specs.declared.view.Known.{Known}
-use Rattle.shared_objects.proofs.leaving.LeftOfKind.{IsLeftOf, left_with_key, thing_led, numbers_by_number, task_calls}
+use Rattle.shared_objects.proofs.leaving.LeftOfKind.{IsLeftOfKind, left_with_key, thing_led, numbers_by_number, task_calls}
 use Rattle.shared_objects.proofs.row_lemmas.AbreastRows.{of_made, weaker_two, weaker_three}
 use Rattle.shared_objects.proofs.row_lemmas.SplitAndJoined.{stay_apart}
 
@@ -72,7 +72,7 @@ pool_by P vecs bios records false false v b r = r
 
 module _ (opened : Plain) (locks : Locks) (firsts : TaskSeats) (closed : Closed) (all : List TaskSeats)
     (of : AreOfOpened opened locks) (shut : HasShut locks firsts closed) (taken : TakenHold (length all) locks all firsts) where
-  pub bios_left : IsLeftOf PoolAnswers set_key set_number (λ entry. set_key entry.0) (λ entry. entry.1) (λ entry. entry.1.thing) (λ entry. entry.1.told.value.known.seen) locks.common.value
+  pub bios_left : IsLeftOfKind PoolAnswers set_key set_number (λ entry. set_key entry.0) (λ entry. entry.1) (λ entry. entry.1.thing) (λ entry. entry.1.told.value.known.seen) locks.common.value
       opened.bios.items locks.bios.items firsts.bios.items closed.bios.items (map (λ (seats : TaskSeats). seats.bios.items) all)
   bios_left = record {
     round = weaker_two _ _ (λ entry lock is. (ap set_key is.0, is.1)) opened.bios.items locks.bios.items of.bios;
@@ -81,7 +81,7 @@ module _ (opened : Plain) (locks : Locks) (firsts : TaskSeats) (closed : Closed)
     taken = subst (λ n. AreTaken n (map (λ (seats : TaskSeats). seats.bios.items) all) firsts.bios.items) (sym (length-map all _)) taken.bios;
   }
 
-  pub records_left : IsLeftOf PoolAnswers slip_key records_number (λ entry. slip_key entry.0) (λ entry. entry.1) (λ entry. entry.1.thing) (λ entry. entry.1.told.value.known.seen) locks.common.value
+  pub records_left : IsLeftOfKind PoolAnswers slip_key records_number (λ entry. slip_key entry.0) (λ entry. entry.1) (λ entry. entry.1.thing) (λ entry. entry.1.told.value.known.seen) locks.common.value
       opened.records.items locks.records.items firsts.records.items closed.records.items (map (λ (seats : TaskSeats). seats.records.items) all)
   records_left = record {
     round = weaker_two _ _ (λ entry lock is. (ap slip_key is.0, is.1)) opened.records.items locks.records.items of.records;
@@ -90,7 +90,7 @@ module _ (opened : Plain) (locks : Locks) (firsts : TaskSeats) (closed : Closed)
     taken = subst (λ n. AreTaken n (map (λ (seats : TaskSeats). seats.records.items) all) firsts.records.items) (sym (length-map all _)) taken.records;
   }
 
-  pub lists_left : IsLeftOf ListAnswers dev_key list_number (λ entry. dev_key entry.0) (λ entry. entry.1) (λ entry. entry.1.thing) (λ entry. entry.1.told.value.known.seen) locks.common.value
+  pub lists_left : IsLeftOfKind ListAnswers dev_key list_number (λ entry. dev_key entry.0) (λ entry. entry.1) (λ entry. entry.1.thing) (λ entry. entry.1.told.value.known.seen) locks.common.value
       opened.lists.items locks.lists.items firsts.lists.items closed.lists.items (map (λ (seats : TaskSeats). seats.lists.items) all)
   lists_left = record {
     round = weaker_two _ _ (λ entry lock is. (ap dev_key is.0, is.1)) opened.lists.items locks.lists.items of.lists;
@@ -99,7 +99,7 @@ module _ (opened : Plain) (locks : Locks) (firsts : TaskSeats) (closed : Closed)
     taken = subst (λ n. AreTaken n (map (λ (seats : TaskSeats). seats.lists.items) all) firsts.lists.items) (sym (length-map all _)) taken.lists;
   }
 
-  pub disks_left : IsLeftOf DiskAnswers dev_key disk_number (λ shut. shut.thing.object.dev.0) (λ disk. disk) (λ shut. shut.thing) (λ shut. shut.told.value.known.seen) locks.common.value
+  pub disks_left : IsLeftOfKind DiskAnswers dev_key disk_number (λ shut. shut.thing.object.dev.0) (λ disk. disk) (λ shut. shut.thing) (λ shut. shut.told.value.known.seen) locks.common.value
       opened.disks.items locks.disks.items firsts.disks.items closed.disks.items (map (λ (seats : TaskSeats). seats.disks.items) all)
   disks_left = record {
     round = weaker_two _ _ (λ disk lock is. (ap dev_key is.0, is.1)) opened.disks.items locks.disks.items
@@ -114,7 +114,7 @@ module _ (opened : Plain) (locks : Locks) (firsts : TaskSeats) (closed : Closed)
     taken = subst (λ n. AreTaken n (map (λ (seats : TaskSeats). seats.disks.items) all) firsts.disks.items) (sym (length-map all _)) taken.disks;
   }
 
-  pub books_left : IsLeftOf BookAnswers writer_key book_number (λ entry. writer_key entry.0) (λ entry. entry.1) (λ entry. entry.1.thing) (λ entry. entry.1.told.value.known.seen) locks.common.value
+  pub books_left : IsLeftOfKind BookAnswers writer_key book_number (λ entry. writer_key entry.0) (λ entry. entry.1) (λ entry. entry.1.thing) (λ entry. entry.1.told.value.known.seen) locks.common.value
       opened.books.items locks.books.items firsts.books.items closed.books.items (map (λ (seats : TaskSeats). seats.books.items) all)
   books_left = record {
     round = weaker_two _ _ (λ entry lock is. (ap writer_key is.0, is.1)) opened.books.items locks.books.items of.books;
@@ -216,7 +216,7 @@ module _ (opened : Plain) (locks : Locks) (firsts : TaskSeats) (closed : Closed)
       kind_calls : {K E Z O : Type 0} {answers : ThingState O → Request → Told → ThingState O → Type 0} {skey : K → ℕ} {ekey : E → ℕ} {zkey : Z → ℕ} {value : E → O}
           {thing : Z → Held O} {seen : Z → List Call} {common : CommonState} {es : List E} {rows : List (K × LockId (Held O))}
           {first_row : List (K × SeatState (Held O) Request Told)} {zs : List Z} (row : TaskSeats → List (K × SeatState (Held O) Request Told))
-          → IsLeftOf answers skey ekey zkey value thing seen common es rows first_row zs (map row all) → AreSeatsOf mine.number rows (row mine)
+          → IsLeftOfKind answers skey ekey zkey value thing seen common es rows first_row zs (map row all) → AreSeatsOf mine.number rows (row mine)
           → (n : ℕ) → calls_by ((k + 1) ∷ []) (look_up zkey seen (λ m. []) zs n) ≡ calls_in skey (row mine) n
       kind_calls {skey = skey} {rows = rows} row left are n =
           let same = mapped_at row all k none [] lt in

@@ -20,7 +20,7 @@ use Rattle.shared_objects.proofs.leaving.RowsByNumber.{calls_of_one, all_of_task
 
 -- What is known of the objects of a kind: how numbers are told from keys of locks and seats, from entries as they were opened and from what is left;
 -- that the locks are round what was opened; that what is left is what their histories leave; and that all tasks' seats were joined.
-pub record IsLeftOf {K E Z O : Type 0} (answers : ThingState O → Request → Told → ThingState O → Type 0) (skey : K → ℕ) (ekey : E → ℕ) (zkey : Z → ℕ) (value : E → O)
+pub record IsLeftOfKind {K E Z O : Type 0} (answers : ThingState O → Request → Told → ThingState O → Type 0) (skey : K → ℕ) (ekey : E → ℕ) (zkey : Z → ℕ) (value : E → O)
     (thing : Z → Held O) (seen : Z → List Call) (common : CommonState) (es : List E) (locks : List (K × LockId (Held O)))
     (firsts : List (K × SeatState (Held O) Request Told)) (zs : List Z) (rows : List (List (K × SeatState (Held O) Request Told))) : Type 0 where
   pub round : Abreast (λ e lock. (skey lock.0 ≡ ekey e) × (lock.1.key.value ≡ guarded common (value e))) es locks
@@ -31,7 +31,7 @@ pub record IsLeftOf {K E Z O : Type 0} (answers : ThingState O → Request → T
 module _ {K E Z O : Type 0} {answers : ThingState O → Request → Told → ThingState O → Type 0} {skey : K → ℕ} {ekey : E → ℕ} {zkey : Z → ℕ} {value : E → O}
     {thing : Z → Held O} {seen : Z → List Call} {common : CommonState} {es : List E} {locks : List (K × LockId (Held O))}
     {firsts : List (K × SeatState (Held O) Request Told)} {zs : List Z} {rows : List (List (K × SeatState (Held O) Request Told))}
-    (left : IsLeftOf answers skey ekey zkey value thing seen common es locks firsts zs rows) where
+    (left : IsLeftOfKind answers skey ekey zkey value thing seen common es locks firsts zs rows) where
   pub pairs : Abreast (λ e z. (zkey z ≡ ekey e) × Leads answers (unasked (value e)) (seen z) (state_of_held (thing z))) es zs
   pairs = record {
     lens = let l = left.round.lens in let m = left.shut.lens.0 in let n = left.shut.lens.1 in omega (arith, l, m, n);

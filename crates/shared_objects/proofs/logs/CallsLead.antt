@@ -113,8 +113,8 @@ IsGone c = is_stop c.asked c.told.reply ≡ false
 abbrev pub Glances : List Call → Type 0
 Glances calls = All IsGlance calls
 
-abbrev Goes : List Call → Type 0
-Goes calls = All IsGone calls
+abbrev AreGone : List Call → Type 0
+AreGone calls = All IsGone calls
 
 pub kinds : (call : Call) → is_glance call.asked call.told.reply ≡ true → (is_event call.asked call.told.reply ≡ false) × (is_stop call.asked call.told.reply ≡ false)
 kinds call is = glance_kinds (is_event call.asked call.told.reply) (is_stop call.asked call.told.reply) is
@@ -146,26 +146,26 @@ record BrokeBehind (setup : Setup) (done log : List Call) (through now : TaskSta
   later : List Call
   log_is : log ≡ before ++ call ∷ later
   stops : is_stop call.asked call.told.reply ≡ true
-  goes : Goes before
+  goes : AreGone before
   glances : Glances later
   asks : call.asked ≡ struck (request setup through)
   looked : Looked (done ++ before) through call (look_of through)
   goes_on : now ≡ answered setup through call.told.reply
   broken : is_broken now ≡ true
 
-abbrev Looks : Setup → List Call → TaskState → List Call → Type 0
-Looks setup whole task events = (mine rest : List Call) (call : Call) → events ≡ mine ++ call ∷ rest
+abbrev HaveLooked : Setup → List Call → TaskState → List Call → Type 0
+HaveLooked setup whole task events = (mine rest : List Call) (call : Call) → events ≡ mine ++ call ∷ rest
     → Looked whole (task_after setup task mine) call (look_of (task_after setup task mine))
 
 record LedBehind (setup : Setup) (done : List Call) (task : TaskState) (log : List Call) (now : TaskState) : Type 0 where
   through : TaskState
   leads : CallsLead setup task (events_in log) through
-  looks : Looks setup (done ++ log) task (events_in log)
-  stops : ((now ≡ through) × Goes log) ⊎ BrokeBehind setup done log through now
+  looks : HaveLooked setup (done ++ log) task (events_in log)
+  stops : ((now ≡ through) × AreGone log) ⊎ BrokeBehind setup done log through now
 
 one_more : (setup : Setup) (done calls : List Call) (call : Call) (through now : TaskState) → is_stop call.asked call.told.reply ≡ false
-    → ((now ≡ through) × Goes calls) ⊎ BrokeBehind setup (done ++ call ∷ []) calls through now
-    → ((now ≡ through) × Goes (call ∷ calls)) ⊎ BrokeBehind setup done (call ∷ calls) through now
+    → ((now ≡ through) × AreGone calls) ⊎ BrokeBehind setup (done ++ call ∷ []) calls through now
+    → ((now ≡ through) × AreGone (call ∷ calls)) ⊎ BrokeBehind setup done (call ∷ calls) through now
 one_more setup done calls call through now goes s = elim s [
   | inl here ↦ inl (here.0, All-cons IsGone call calls goes here.1)
   | inr b ↦ inr (record {
@@ -184,8 +184,8 @@ one_more setup done calls call through now goes s = elim s [
 ]
 
 looks_first : (setup : Setup) (done calls : List Call) (call : Call) (task : TaskState) → Looked done task call (look_of task)
-    → Looks setup (done ++ call ∷ calls) (answered setup task call.told.reply) (events_in calls)
-    → Looks setup (done ++ call ∷ calls) task (call ∷ events_in calls)
+    → HaveLooked setup (done ++ call ∷ calls) (answered setup task call.told.reply) (events_in calls)
+    → HaveLooked setup (done ++ call ∷ calls) task (call ∷ events_in calls)
 unfolding first_or behind_first
 looks_first setup done calls call task l more [] rest other is =
     subst (λ c. Looked (done ++ call ∷ calls) task c (look_of task)) (ap (first_or call) is) (looked_later done (call ∷ calls) task call (look_of task) l)
@@ -193,9 +193,9 @@ looks_first setup done calls call task l more (first ∷ mine) rest other is =
     let Then : Call → Type 0 = λ c. let t = task_after setup (answered setup task c.told.reply) mine in Looked (done ++ call ∷ calls) t other (look_of t) in
     subst Then (ap (first_or call) is) (more mine rest other (ap behind_first is))
 
-moved : (setup : Setup) (done calls : List Call) (call : Call) (task : TaskState) (events : List Call) → Looks setup ((done ++ call ∷ []) ++ calls) task events
-    → Looks setup (done ++ call ∷ calls) task events
-moved setup done calls call task events l = subst (λ w. Looks setup w task events) (append_assoc done (call ∷ []) calls) l
+moved : (setup : Setup) (done calls : List Call) (call : Call) (task : TaskState) (events : List Call) → HaveLooked setup ((done ++ call ∷ []) ++ calls) task events
+    → HaveLooked setup (done ++ call ∷ calls) task events
+moved setup done calls call task events l = subst (λ w. HaveLooked setup w task events) (append_assoc done (call ∷ []) calls) l
 
 led_call : (setup : Setup) (done : List Call) (call : Call) (calls : List Call) (task now : TaskState) → All AsksSome (call ∷ calls)
     → ((next : TaskState) → LogLeads setup (done ++ call ∷ []) next calls now → LedBehind setup (done ++ call ∷ []) next calls now)
@@ -208,7 +208,7 @@ led_call setup done call calls task now some again true is glance asks l more =
     record {
       through = r.through;
       leads = subst (λ es. CallsLead setup task es r.through) (sym event) (asks, r.leads);
-      looks = subst (Looks setup (done ++ call ∷ calls) task) (sym event)
+      looks = subst (HaveLooked setup (done ++ call ∷ calls) task) (sym event)
           (looks_first setup done calls call task l (moved setup done calls call (answered setup task call.told.reply) (events_in calls) r.looks));
       stops = one_more setup done calls call r.through now (event_goes call.asked call.told.reply is) r.stops;
     }
@@ -223,7 +223,7 @@ led_call setup done call calls task now some again false is glance asks l more =
     record {
       through = task;
       leads = subst (λ es. CallsLead setup task es task) (sym none) refl;
-      looks = subst (Looks setup (done ++ call ∷ calls) task) (sym none) (λ mine rest other e. absurd (none_behind mine rest other e));
+      looks = subst (HaveLooked setup (done ++ call ∷ calls) task) (sym none) (λ mine rest other e. absurd (none_behind mine rest other e));
       stops = inr (record {
         before = [];
         call = call;
@@ -252,7 +252,7 @@ led setup done (call ∷ calls) task now some l = elim l [
       record {
         through = r.through;
         leads = subst (λ es. CallsLead setup task es r.through) (sym quiet) r.leads;
-        looks = subst (Looks setup (done ++ call ∷ calls) task) (sym quiet) (moved setup done calls call task (events_in calls) r.looks);
+        looks = subst (HaveLooked setup (done ++ call ∷ calls) task) (sym quiet) (moved setup done calls call task (events_in calls) r.looks);
         stops = one_more setup done calls call r.through now (kinds call glance.0).1 r.stops;
       })
   | inr asks ↦ led_call setup done call calls task now some (λ next more. led setup (done ++ call ∷ []) calls next now (All-tail AsksSome call calls some) more)

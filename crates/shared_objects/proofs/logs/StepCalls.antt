@@ -62,11 +62,11 @@ looked setup first task log old after asked reply call (Some look) is l made =
     (l.0, l.1, l.2, l.3, λ ok. above old.pass after is.end log l.0 call is.pass l.1 made.pass ok)
 
 module _ (setup : Setup) (first : TaskState) where
-  abbrev Goes : List Call → TaskState → DeskState → (List Call → Type 0) → Type 0
-  Goes log next new Shows = (more : List Call) × IsLogged setup first (log ++ more) next new × Shows more
+  abbrev LogGoesOn : List Call → TaskState → DeskState → (List Call → Type 0) → Type 0
+  LogGoesOn log next new Shows = (more : List Call) × IsLogged setup first (log ++ more) next new × Shows more
 
   stays : (log : List Call) (task next : TaskState) (old new : DeskState) (Shows : List Call → Type 0) → IsLogged setup first log task old → next ≡ task → new ≡ old
-      → Shows [] → Goes log next new Shows
+      → Shows [] → LogGoesOn log next new Shows
   stays log task next old new Shows is t d shows = (
     [],
     subst (λ l. IsLogged setup first l next new) (sym (append-nil log))
@@ -104,7 +104,7 @@ module _ (setup : Setup) (first : TaskState) where
 
   plain : (stage : Stage) (log : List Call) (task : TaskState) (old new : DeskState) (asked : Request) (reply : Reply) → asked ≡ request setup task → IsLogged setup first log task old
       → Let log task (look_of task) → HasCalled old (struck asked) reply new → (object_of (struck asked) ≡ OfNone → ⊥) → Owes stage asked reply
-      → Goes log (answered setup task reply) new (Tells (what_of asked reply) asked reply (seen_by new.pass))
+      → LogGoesOn log (answered setup task reply) new (Tells (what_of asked reply) asked reply (seen_by new.pass))
   plain stage log task old new asked reply same is l calls apart owed =
       let made = called stage log task old new asked reply (is_glance asked reply) refl same is l calls apart owed in (
         made.0 ∷ [],
@@ -114,13 +114,13 @@ module _ (setup : Setup) (first : TaskState) where
       )
 
   further : (log : List Call) (look : Call) (next : TaskState) (new : DeskState) (Shows Then : List Call → Type 0) → ((calls : List Call) → Shows calls → Then (look ∷ calls))
-      → Goes (log ++ look ∷ []) next new Shows → Goes log next new Then
+      → LogGoesOn (log ++ look ∷ []) next new Shows → LogGoesOn log next new Then
   further log look next new Shows Then on g =
       (look ∷ g.0, subst (λ l. IsLogged setup first l next new) (append_assoc log (look ∷ []) g.0) g.1, on g.0 g.2)
 
   completes : (stage : Stage) (log : List Call) (task : TaskState) (old new : DeskState) (disk : DevId) (reply : Reply) → Complete disk ≡ request setup task
       → IsLogged setup first log task old → Let log task (look_of task) → LooksAndCompletes old disk reply new → answered setup task Nothing ≡ task
-      → Owes stage (Complete disk) reply → Goes log (answered setup task reply) new (Tells (what_of (Complete disk) reply) (Complete disk) reply (seen_by new.pass))
+      → Owes stage (Complete disk) reply → LogGoesOn log (answered setup task reply) new (Tells (what_of (Complete disk) reply) (Complete disk) reply (seen_by new.pass))
   completes stage log task old new disk reply same is l c idle owed =
       let look = glanced log task old c.between (Complete disk) (LeftOver c.count) is c.looks (λ e. cc) refl in
       let Tell : List Call → Type 0 = Tells (what_of (Complete disk) reply) (Complete disk) reply (seen_by new.pass) in
@@ -137,13 +137,13 @@ module _ (setup : Setup) (first : TaskState) where
   -- the calls of what the task asks for
   one_ask : (stage : Stage) (log : List Call) (task : TaskState) (old new : DeskState) (asked : Request) (reply : Reply) → asked ≡ request setup task
       → IsLogged setup first log task old → Let log task (look_of task) → DeskServes old asked reply new → answered setup task Nothing ≡ task → Owes stage asked reply
-      → Goes log (answered setup task reply) new (Tells (what_of asked reply) asked reply (seen_by new.pass))
+      → LogGoesOn log (answered setup task reply) new (Tells (what_of asked reply) asked reply (seen_by new.pass))
   one_ask stage log task old new Rest reply same is l serves idle owed = absurd serves
   one_ask stage log task old new (Complete disk) reply same is l serves idle owed = completes stage log task old new disk reply same is l serves idle owed
   one_ask stage log task old new asked reply same is l serves idle owed = plain stage log task old new asked reply same is l serves (λ e. cc) owed
 
   looks_left : (log : List Call) (task next : TaskState) (asked : Request) (middle new : DeskState) (left : ℕ) (step : Step) → IsLogged setup first log next middle
-      → HasCalled middle LookLeft (LeftOver left) new → step ≡ idle_step left → Goes log next new (λ calls. ShowsStep setup task next (seen_by new.pass) calls step)
+      → HasCalled middle LookLeft (LeftOver left) new → step ≡ idle_step left → LogGoesOn log next new (λ calls. ShowsStep setup task next (seen_by new.pass) calls step)
   looks_left log task next asked middle new left step is calls tells =
       let look = glanced log next middle new LookLeft (LeftOver left) is calls (λ e. cc) refl in (
         look.0 ∷ [],
@@ -154,8 +154,8 @@ module _ (setup : Setup) (first : TaskState) where
 
   -- there was nothing, and what it has looked at stands behind
   in_vain : (log : List Call) (task next : TaskState) (asked : Request) (middle new : DeskState) (step : Step) (left : ℕ)
-      → Goes log next middle (Tells (what_of asked Nothing) asked Nothing (seen_by middle.pass)) → HasCalled middle LookLeft (LeftOver left) new → step ≡ idle_step left
-      → Goes log next new (λ calls. ShowsStep setup task next (seen_by new.pass) calls step)
+      → LogGoesOn log next middle (Tells (what_of asked Nothing) asked Nothing (seen_by middle.pass)) → HasCalled middle LookLeft (LeftOver left) new → step ≡ idle_step left
+      → LogGoesOn log next new (λ calls. ShowsStep setup task next (seen_by new.pass) calls step)
   in_vain log task next asked middle new step left g looked tells =
       let look = looks_left (log ++ g.0) task next asked middle new left step g.1 looked tells in
       let quiet : events_in g.0 ≡ [] = subst (λ told. Tells told asked Nothing (seen_by middle.pass) g.0) (nothing_none asked) g.2 in (
@@ -178,8 +178,8 @@ module _ (setup : Setup) (first : TaskState) where
 
   -- there was a reply that the step tells
   told_of : (log : List Call) (task next : TaskState) (asked : Request) (reply : Reply) (middle new : DeskState) (step : Step) → asked ≡ request setup task
-      → (asked ≡ Rest → ⊥) → next ≡ answered setup task reply → Goes log next middle (Tells (what_of asked reply) asked reply (seen_by middle.pass))
-      → new ≡ middle → step ≡ step_of setup (id_of task) asked reply → Goes log next new (λ calls. ShowsStep setup task next (seen_by new.pass) calls step)
+      → (asked ≡ Rest → ⊥) → next ≡ answered setup task reply → LogGoesOn log next middle (Tells (what_of asked reply) asked reply (seen_by middle.pass))
+      → new ≡ middle → step ≡ step_of setup (id_of task) asked reply → LogGoesOn log next new (λ calls. ShowsStep setup task next (seen_by new.pass) calls step)
   told_of log task next asked reply middle new step same apart goes_on g stays tells =
       let apart_task : request setup task ≡ Rest → ⊥ = λ rests. apart (same ∙ rests) in
       let rests : is_broken (answered setup task reply) ≡ true → request setup next ≡ Rest =
@@ -195,16 +195,16 @@ module _ (setup : Setup) (first : TaskState) where
 
   asks : (stage : Stage) (log : List Call) (task next : TaskState) (old new : DeskState) (step : Step)
       → IsLogged setup first log task old → Let log task (look_of task) → answered setup task Nothing ≡ task
-      → Asks DeskServes (Owes stage) setup task old next new step → Goes log next new (λ calls. ShowsStep setup task next (seen_by new.pass) calls step)
+      → Asks DeskServes (Owes stage) setup task old next new step → LogGoesOn log next new (λ calls. ShowsStep setup task next (seen_by new.pass) calls step)
   asks stage log task next old new step is l idle a =
       let asked = request setup task in
       let g = one_ask stage log task old a.middle asked a.reply refl is l a.replied idle a.owed in
-      let to : Goes log next a.middle (Tells (what_of asked a.reply) asked a.reply (seen_by a.middle.pass)) =
+      let to : LogGoesOn log next a.middle (Tells (what_of asked a.reply) asked a.reply (seen_by a.middle.pass)) =
       (g.0, subst (λ t. IsLogged setup first (log ++ g.0) t a.middle) (sym a.goes_on) g.1, g.2) in
       elim a.follows [
         | inl told ↦ told_of log task next asked a.reply a.middle new step refl a.any a.goes_on to told.1 told.2
         | inr nothing ↦ in_vain log task next asked a.middle new step nothing.1.0
-            (subst (λ r. Goes log next a.middle (Tells (what_of asked r) asked r (seen_by a.middle.pass))) nothing.0 to) nothing.1.1 nothing.1.2
+            (subst (λ r. LogGoesOn log next a.middle (Tells (what_of asked r) asked r (seen_by a.middle.pass))) nothing.0 to) nothing.1.1 nothing.1.2
       ]
 
   look_call : (look : Request) → (look ≡ LookRound) ⊎ (look ≡ LookLeft) → (old new : DeskState) (reply : Reply) → DeskServes old look reply new
@@ -226,8 +226,8 @@ module _ (setup : Setup) (first : TaskState) where
   saw : (log : List Call) (task next : TaskState) (old between new : DeskState) (step : Step) (look : Request) (seen : Reply) → look_of task ≡ Some look
       → IsLogged setup first log task old → DeskServes old look seen between
       → ((call : Call) → call.asked ≡ look → call.told.reply ≡ seen → IsLogged setup first (log ++ call ∷ []) task between
-      → Goes (log ++ call ∷ []) next new (λ calls. ShowsStep setup task next (seen_by new.pass) calls step))
-      → Goes log next new (λ calls. ShowsStep setup task next (seen_by new.pass) calls step)
+      → LogGoesOn (log ++ call ∷ []) next new (λ calls. ShowsStep setup task next (seen_by new.pass) calls step))
+      → LogGoesOn log next new (λ calls. ShowsStep setup task next (seen_by new.pass) calls step)
   saw log task next old between new step look seen same is served on =
       let called_look = look_call look (looks task look same) old between seen served in
       let made = glanced log task old between look seen is called_look.0 called_look.1 called_look.2 in
@@ -237,7 +237,7 @@ module _ (setup : Setup) (first : TaskState) where
 
   turns : (stage : Stage) (log : List Call) (task next : TaskState) (old new : DeskState) (step : Step)
       → IsLogged setup first log task old → answered setup task Nothing ≡ task → Turns DeskServes (Owes stage) setup task old next new step
-      → Goes log next new (λ calls. ShowsStep setup task next (seen_by new.pass) calls step)
+      → LogGoesOn log next new (λ calls. ShowsStep setup task next (seen_by new.pass) calls step)
   turns stage log task next old new step is idle (Rested rests same same_desk tells) =
       stays log task next old new (λ calls. ShowsStep setup task next (seen_by new.pass) calls step) is same same_desk
       (subst (ShowsStep setup task next (seen_by new.pass) []) (sym tells) (rests_shows setup task next (seen_by new.pass) (breach_of task) (ap (request setup) same ∙ rests)))

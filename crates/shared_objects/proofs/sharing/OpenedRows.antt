@@ -39,7 +39,7 @@ is_other a b apart = grind (apart, arith, nat_tests)
 
 module _ {E : Type 0} (key : E → ℕ) (number : ℕ → ℕ) (is_used : ℕ → Bool) (apart : (i n : ℕ) → i < n → number i ≢ number n) where
   -- an entry is that of an index among so many from one on, and the first of its number
-  record Stands (first count : ℕ) (entries : List E) (entry : E) : Type 0 where
+  record IsIndexed (first count : ℕ) (entries : List E) (entry : E) : Type 0 where
     pub index : ℕ
     pub least : first ≤ index
     pub below : index < first + count
@@ -47,26 +47,26 @@ module _ {E : Type 0} (key : E → ℕ) (number : ℕ → ℕ) (is_used : ℕ �
     pub keyed : key entry ≡ number index
     pub found : find (is_entry_of key (number index)) entries ≡ Some entry
 
-  stands : (count first : ℕ) (entries : List E) → map key entries ≡ map number (filter is_used (range_with_len first count)) → All (Stands first count entries) entries
+  stands : (count first : ℕ) (entries : List E) → map key entries ≡ map number (filter is_used (range_with_len first count)) → All (IsIndexed first count entries) entries
   stands zero first [] e = λ k d lt. absurd (omega (arith, lt))
   stands zero first (x ∷ xs) e = let l = ap length e in absurd (omega (arith, l))
   stands (suc count) first entries e = by_case (is_used first) refl entries e (λ xs f. stands count (first + 1) xs f)
     where
-      by_entry : (x : E) (xs : List E) (is : is_used first ≡ true) → key x ≡ number first → (y : E) → Stands (first + 1) count xs y → Stands first (suc count) (x ∷ xs) y
+      by_entry : (x : E) (xs : List E) (is : is_used first ≡ true) → key x ≡ number first → (y : E) → IsIndexed (first + 1) count xs y → IsIndexed first (suc count) (x ∷ xs) y
       by_entry x xs is here y s =
           let lo = s.least in let hi = s.below in
           let other : (key x == number s.index) ≡ false = is_other (key x) (number s.index) (λ same. apart first s.index (omega (arith, lo)) (sym here ∙ same)) in
           record { index = s.index; least = omega (arith, lo); below = omega (arith, hi); used = s.used; keyed = s.keyed; found = rw (other) s.found }
 
       by_case : (b : Bool) → is_used first ≡ b → (es : List E) → map key es ≡ map number (cond b (first ∷ filter is_used (range_with_len (first + 1) count)) (filter is_used (range_with_len (first + 1) count)))
-          → ((xs : List E) → map key xs ≡ map number (filter is_used (range_with_len (first + 1) count)) → All (Stands (first + 1) count xs) xs) → All (Stands first (suc count) es) es
+          → ((xs : List E) → map key xs ≡ map number (filter is_used (range_with_len (first + 1) count)) → All (IsIndexed (first + 1) count xs) xs) → All (IsIndexed first (suc count) es) es
       by_case false is es f later = λ k d lt. let s = later es f k d lt in let lo = s.least in let hi = s.below in
           record { index = s.index; least = omega (arith, lo); below = omega (arith, hi); used = s.used; keyed = s.keyed; found = s.found }
       by_case true is [] f later = λ k d lt. absurd (omega (arith, lt))
       by_case true is (x ∷ xs) f later =
           let here : key x ≡ number first = ap (head_or 0) f in
           let same : (key x == number first) ≡ true = is_itself (key x) (number first) here in
-          all_more (Stands first (suc count) (x ∷ xs)) x xs
+          all_more (IsIndexed first (suc count) (x ∷ xs)) x xs
           (record { index = first; least = omega arith; below = omega arith; used = is; keyed = here; found = rw (same) refl })
           (λ k d lt. by_entry x xs is here (get_or xs k d) (later xs (ap rest_of f) k d lt))
 

@@ -18,12 +18,12 @@ use Rattle.shared_objects.specs.Kinds.{ThingAt, answers_at, opened_at, unasked}
 use Rattle.shared_objects.specs.Logs.{HasStopped, IsLogged}
 use Rattle.shared_objects.proofs.SameNames.{same_self}
 
-pub record IsSplit {X : Type 0} (xs : List X) (x : X) : Type 0 where
+pub record IsSplitAt {X : Type 0} (xs : List X) (x : X) : Type 0 where
   pub before : List X
   pub after : List X
   pub is : xs ≡ before ++ x ∷ after
 
-pub split_at : {X : Type 0} (xs : List X) (x : X) → Contains xs x → IsSplit xs x
+pub split_at : {X : Type 0} (xs : List X) (x : X) → Contains xs x → IsSplitAt xs x
 split_at [] x (k, lt, at) = absurd (omega (arith, lt))
 split_at (y ∷ ys) x (zero, lt, at) = record { before = []; after = ys; is = ap (λ z. z ∷ ys) at }
 split_at (y ∷ ys) x (suc k, lt, at) =
@@ -51,14 +51,14 @@ is_mine place by is =
 
 module _ (set : Setup) (plain : Plain) (names : List Object) (history : Object → List Call) (left : (name : Object) → ThingState (ThingAt name)) (tasks : List Returned)
     (pass : PassState) (c : ClosesAs set plain names history left tasks pass) where
-  pub record IsOwned (name : Object) (call : Call) : Type 0 where
+  pub record IsCallOfTask (name : Object) (call : Call) : Type 0 where
     pub place : ℕ
     pub task : Returned
     pub at : slice_get tasks place ≡ Some task
     pub by : call.by ≡ place + 1
     pub there : Contains task.log call
 
-  pub owner : (name : Object) (call : Call) → Contains (history name) call → IsOwned name call
+  pub owner : (name : Object) (call : Call) → Contains (history name) call → IsCallOfTask name call
   owner name call there =
       by_two (slice_get_cases tasks (call.by - 1)).1
     where
@@ -69,7 +69,7 @@ module _ (set : Setup) (plain : Plain) (names : List Object) (history : Object �
       by_is = let some = number.0 in omega (arith, some)
 
       by_two : ((x : Returned) × (call.by - 1 < length tasks) × (slice_get tasks (call.by - 1) ≡ Some x) × (get_or tasks (call.by - 1) x ≡ x)) ⊎ ((length tasks ≤ call.by - 1) × (slice_get tasks (call.by - 1) ≡ None))
-          → IsOwned name call
+          → IsCallOfTask name call
       by_two (inl (task, lt, at, same)) = record {
         place = call.by - 1;
         task = task;

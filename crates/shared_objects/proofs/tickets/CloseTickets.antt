@@ -25,7 +25,7 @@ use Rattle.shared_objects.specs.Tickets.{AreOfHistories, ClosesShowTickets, Drew
 use Rattle.shared_objects.specs.declared.closed.Closed.{Closed}
 use Rattle.shared_objects.proofs.tickets.TicketsOfCalls.{drawn_of, drew_of, flat_all, in_row, last_drawn, map_from, map_there, ticket_from}
 use Rattle.shared_objects.proofs.logs.CallsLead.{kinds, logs_lead}
-use Rattle.shared_objects.proofs.tickets.CallOwners.{IsInPlace, IsOwned, in_place, kept, logged, owner}
+use Rattle.shared_objects.proofs.tickets.CallOwners.{IsInPlace, IsCallOfTask, in_place, kept, logged, owner}
 use Rattle.shared_objects.proofs.steps.EventOrRefused.{served_refused}
 
 refused_stops : (asked : Request) (reply : Reply) → is_refused asked reply ≡ true → is_stop asked reply ≡ true
@@ -79,11 +79,11 @@ module _ (set : Setup) (plain : Plain) (names : List Object) (history : Object �
       by_event true e = inl e
       by_event false e = inr (served_refused name p.here.object p.next.object call.asked call.told.reply step.0 e)
 
-  abbrev Stands : Ticket → Type 0
-  Stands ticket = (call : Call) × DrewTicket history ticket.number call × (IsEvent call ⊎ IsRefusedCall call)
+  abbrev HasDrawing : Ticket → Type 0
+  HasDrawing ticket = (call : Call) × DrewTicket history ticket.number call × (IsEvent call ⊎ IsRefusedCall call)
 
   -- the ticket of a call of a task stands in the history of the object that was asked
-  of_task : (place : ℕ) (task : Returned) → slice_get tasks place ≡ Some task → (ticket : Ticket) → Contains (drawn_of task) ticket → Stands ticket
+  of_task : (place : ℕ) (task : Returned) → slice_get tasks place ≡ Some task → (ticket : Ticket) → Contains (drawn_of task) ticket → HasDrawing ticket
   of_task place task at ticket there = (
     drew.0,
     (object_of drew.0.asked, inside, drew.2),
@@ -97,9 +97,9 @@ module _ (set : Setup) (plain : Plain) (names : List Object) (history : Object �
       inside : Contains (history (object_of drew.0.asked)) drew.0
       inside = kept set plain names history left tasks pass c place task at drew.0 drew.1
 
-  all_stand : All Stands pass.drawn
-  all_stand = subst (All Stands) (sym c.drawn)
-      (flat_all Stands drawn_of tasks (λ place task at. All-weaker (Contains (drawn_of task)) Stands (of_task place task at) (drawn_of task) (All-contains_itself (drawn_of task))))
+  all_stand : All HasDrawing pass.drawn
+  all_stand = subst (All HasDrawing) (sym c.drawn)
+      (flat_all HasDrawing drawn_of tasks (λ place task at. All-weaker (Contains (drawn_of task)) HasDrawing (of_task place task at) (drawn_of task) (All-contains_itself (drawn_of task))))
 
   -- a ticket by its number
   by_number : (n : ℕ) → Contains (numbers_of pass.drawn) n → (ticket : Ticket) × Contains pass.drawn ticket × (ticket.number ≡ n)
@@ -116,10 +116,10 @@ module _ (set : Setup) (plain : Plain) (names : List Object) (history : Object �
   one_refused one other call later drew refused drew_later refused_later same =
       ap (or_last 0) (sym drew.2 ∙ ap (λ (x : Call). x.told.ticket) is ∙ drew_later.2)
     where
-      o : IsOwned set plain names history left tasks pass c drew.0 call
+      o : IsCallOfTask set plain names history left tasks pass c drew.0 call
       o = owner set plain names history left tasks pass c drew.0 call drew.1
 
-      p : IsOwned set plain names history left tasks pass c drew_later.0 later
+      p : IsCallOfTask set plain names history left tasks pass c drew_later.0 later
       p = owner set plain names history left tasks pass c drew_later.0 later drew_later.1
 
       places : o.place ≡ p.place

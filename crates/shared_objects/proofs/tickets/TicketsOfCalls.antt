@@ -24,7 +24,7 @@ use Rattle.shared_objects.specs.Closes.{Returned, ClosesAs}
 use Rattle.shared_objects.specs.Passes.{drawn_by, found_by, numbers_of}
 use Rattle.shared_objects.specs.Kinds.{ThingAt, looks_at, opened_at, serves_at, unasked}
 use Rattle.shared_objects.specs.Logs.{tickets_in, IsSeenIn, FoundNone, KnowsLast, HasPass, IsLogged}
-use Rattle.shared_objects.proofs.tickets.CallOwners.{split_at, first_there, at_all, IsOwned, owner, logged, kept, IsInPlace, in_place}
+use Rattle.shared_objects.proofs.tickets.CallOwners.{split_at, first_there, at_all, IsCallOfTask, owner, logged, kept, IsInPlace, in_place}
 
 pub keeps : (name : Object) → KeepsHistory (serves_at name) (looks_at name)
 keeps (OfPool number) = keeps_history PoolServes PoolLooks pool_quiet
@@ -195,7 +195,7 @@ module _ (set : Setup) (plain : Plain) (names : List Object) (history : Object �
   pub last_drawn : All (λ (task : Returned). found_by task.desk.pass ≤ pass.known) tasks → (name : Object) (call : Call) → Contains (history name) call → FoundNone call → Contains (numbers_of pass.drawn) (2 ^ 64 - 1)
   last_drawn found name call there none = by_two (pass_knows o.task.desk.pass l.end o.task.log call l.pass o.there none)
     where
-      o : IsOwned set plain names history left tasks pass c name call
+      o : IsCallOfTask set plain names history left tasks pass c name call
       o = owner set plain names history left tasks pass c name call there
 
       l : IsLogged set o.task.first o.task.log o.task.task o.task.desk
