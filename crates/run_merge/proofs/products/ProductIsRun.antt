@@ -24,6 +24,7 @@ use Rattle.block_core.proofs.moves.Sums.{below_or}
 use Rattle.shared_objects.specs.Calls.{is_same_object, struck}
 use Rattle.shared_objects.specs.Logs.{is_event}
 use Rattle.shared_objects.proofs.SameNames.{same_is, same_self}
+use Rattle.shared_objects.proofs.steps.GlanceStays.{event_struck}
 use Rattle.run_merge.specs.Entries.{Entry, AreEvents}
 use Rattle.run_merge.specs.Machines.{ServesAt, LeadsObject, entries_at}
 use Rattle.run_merge.specs.ObjectsByName.{StateAt, get, put_object}
@@ -32,7 +33,7 @@ use Rattle.run_merge.proofs.products.StateBehind.{Behind, one_more}
 use Rattle.run_merge.proofs.products.KnownBehind.{known}
 use Rattle.run_merge.proofs.products.LookLets.{ComesBehind, lets}
 use Rattle.run_merge.proofs.products.ObjectNames.{get_put, get_other, all_same}
-use Rattle.run_merge.proofs.products.Served.{serves_all, struck_serves, struck_event}
+use Rattle.run_merge.proofs.products.Served.{serves_all, struck_serves}
 
 is_some_of : (w : Option What) → IsTrue (is_some w) → (what : What) × (w ≡ Some what)
 is_some_of (Some what) some = (what, refl)
@@ -100,7 +101,7 @@ module _ (s : Scenario) (ledger : ℕ → LedgerId) (good : IsScenario s) (namin
 
       what : (what : What) × (what_of asks e.reply ≡ Some what)
       what = is_some_of (what_of asks e.reply)
-          (sym (struck_event asks e.reply) ∙ ap (λ r. is_event r e.reply) (sym asked_is) ∙ All-head (λ (x : Entry). IsTrue (is_event x.asked x.reply)) e es events)
+          (sym (event_struck asks e.reply) ∙ ap (λ r. is_event r e.reply) (sym asked_is) ∙ All-head (λ (x : Entry). IsTrue (is_event x.asked x.reply)) e es events)
 
       comes : ComesBehind s before (state.task place) (struck asks)
       comes =

@@ -17,6 +17,7 @@ use Rattle.block_core.specs.Scenarios.{IsScenario, IsNaming}
 use Rattle.shared_objects.specs.Calls.{is_same_object, struck}
 use Rattle.shared_objects.specs.Logs.{is_event}
 use Rattle.shared_objects.proofs.SameNames.{same_is}
+use Rattle.shared_objects.proofs.steps.GlanceStays.{event_struck}
 use Rattle.run_merge.specs.Entries.{Entry, AreEvents, entries_in}
 use Rattle.run_merge.specs.Machines.{ServesAt, LeadsObject, entries_at}
 use Rattle.run_merge.specs.ObjectsByName.{get}
@@ -27,7 +28,7 @@ use Rattle.run_merge.proofs.products.KnownBehind.{known}
 use Rattle.run_merge.proofs.products.ProductIsRun.{leads}
 use Rattle.run_merge.proofs.products.LookLets.{ComesBehind, comes_by}
 use Rattle.run_merge.proofs.products.ObjectNames.{get_other}
-use Rattle.run_merge.proofs.products.Served.{others_stay, serves_one, serves_struck, struck_event}
+use Rattle.run_merge.proofs.products.Served.{others_stay, serves_one, serves_struck}
 
 -- the parts of a run from any state
 module _ (scene : Scene) where
@@ -35,7 +36,7 @@ module _ (scene : Scene) where
   run_events old [] new run = All-nil (λ (x : Entry). IsTrue (is_event x.asked x.reply))
   run_events old (event ∷ events) new (next, (place, steps), run) =
       All-cons (λ (x : Entry). IsTrue (is_event x.asked x.reply)) (entry_of scene old place event next steps) (entries_in scene next events new run)
-      (struck_event (request scene.setup (old.task place)) steps.reply ∙ ap is_some steps.told) (run_events next events new run)
+      (event_struck (request scene.setup (old.task place)) steps.reply ∙ ap is_some steps.told) (run_events next events new run)
 
   pub run_objects : (name : Object) (old : State) (events : List Event) (new : State) (run : IsRun scene old events new)
       → LeadsObject scene.ledger name (get old.objects name) (entries_at name (entries_in scene old events new run)) (get new.objects name)

@@ -18,7 +18,6 @@ use Rattle.run_machine.specs.Requests.{Request, Reply, TakeBio, TakeVec, TakeSli
 use Rattle.run_machine.specs.Objects.{Objects, Opened, PoolMoves, Has, Serves}
 use Rattle.run_machine.proofs.Frames.{upd_same, one_object_changes}
 use Rattle.shared_objects.specs.Calls.{struck}
-use Rattle.shared_objects.specs.Logs.{is_event}
 use Rattle.run_merge.specs.Machines.{PoolGoes, PoolHas, ServesAt}
 use Rattle.run_merge.specs.ObjectsByName.{StateAt, get, put_object}
 use Rattle.run_merge.proofs.products.ObjectNames.{get_put, put_get}
@@ -173,7 +172,7 @@ serves_all ledger o LookLeft reply v h = absurd h
 -- rests: no object serves one
 serves_all ledger o Rest reply v h = absurd h
 
--- what is struck out of a request is seen by no object, and makes no event
+-- what is struck out of a request is seen by no object
 pub struck_serves : (ledger : ℕ → LedgerId) (o : Objects) (request : Request) (reply : Reply) (new : Objects) → Serves ledger o (struck request) reply new → Serves ledger o request reply new
 -- gives: the body is struck out
 struck_serves ledger o (GiveBio bio) Did new h = h
@@ -201,17 +200,3 @@ serves_struck ledger o (NextRound round) Did new h = h
 serves_struck ledger o (NextRound round) reply new h = absurd h
 -- from all others nothing is struck out
 serves_struck ledger o request reply new h = h
-
-pub struck_event : (request : Request) (reply : Reply) → is_event (struck request) reply ≡ is_event request reply
--- gives: the body is struck out
-struck_event (GiveBio bio) Did = refl
-struck_event (GiveBio bio) reply = refl
-struck_event (GiveVec vector) Did = refl
-struck_event (GiveVec vector) reply = refl
-struck_event (GiveSlip slip) Did = refl
-struck_event (GiveSlip slip) reply = refl
--- rounds: the number is struck out
-struck_event (NextRound round) Did = refl
-struck_event (NextRound round) reply = refl
--- from all others nothing is struck out
-struck_event request reply = refl

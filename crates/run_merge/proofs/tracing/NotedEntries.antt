@@ -18,6 +18,7 @@ use Rattle.object_things.specs.Histories.{Call, or_last}
 use Rattle.shared_objects.specs.Logs.{is_event, is_stop, LogLeads}
 use Rattle.shared_objects.specs.Noting.{noted_as, notes_of}
 use Rattle.shared_objects.proofs.logs.CallsLead.{kinds, stop_kind}
+use Rattle.shared_objects.proofs.steps.GlanceStays.{event_struck}
 use Rattle.run_merge.specs.Entries.{Entry, entries_in}
 use Rattle.run_merge.specs.Merging.{Ticketed, without_tickets}
 use Rattle.run_merge.specs.SharedObjects.{ticketed}
@@ -28,7 +29,6 @@ use Rattle.run_merge.proofs.enough_shown.CallEvents.{ticketed_events}
 use Rattle.run_merge.proofs.enough_shown.LogLeads.{is_told, AskSome, only_looks}
 use Rattle.run_merge.proofs.merging.Picked.{is_by}
 use Rattle.run_merge.proofs.products.StateBehind.{entry_of}
-use Rattle.run_merge.proofs.products.Served.{struck_event}
 use Rattle.run_merge.proofs.tracing.RisingLists.{NoneFalls, is_hit, hits}
 
 abbrev pub tickets_of : List Ticketed → List ℕ
@@ -228,7 +228,7 @@ module _ (setup : Setup) where
           let behind = only_looks setup (before ++ call ∷ []) (answered setup first call.told.reply) calls last broken others leads in
           let none : what_of (request setup first) call.told.reply ≡ None =
           no_what (what_of (request setup first) call.told.reply)
-          (sym (struck_event (request setup first) call.told.reply) ∙ ap (λ asked. is_event asked call.told.reply) (sym asks) ∙ is) in
+          (sym (event_struck (request setup first) call.told.reply) ∙ ap (λ asked. is_event asked call.told.reply) (sym asks) ∙ is) in
           ap (λ what. noted_as (or_last 0 call.told.ticket) first what ++ notes_of setup (answered setup first call.told.reply) calls) none
           ∙ rest ∙ ap (λ l. own_notes setup (answered setup first call.told.reply) (map ticketed l)) behind.1
           ∙ sym (ap (own_notes setup first) (events_untold call calls is ∙ ap (map ticketed) behind.1))
