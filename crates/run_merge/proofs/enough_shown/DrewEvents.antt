@@ -18,9 +18,8 @@ use Rattle.shared_objects.specs.Logs.{is_stop}
 use Rattle.shared_objects.proofs.logs.CallsLead.{logs_lead}
 use Rattle.shared_objects.proofs.tickets.TicketsOfCalls.{keeps}
 use Rattle.shared_objects.proofs.tickets.CallOwners.{logged, IsCallOfTask, owner, IsInPlace, in_place}
-use Rattle.shared_objects.proofs.steps.EventOrRefused.{served_refused}
+use Rattle.shared_objects.proofs.steps.EventOrRefused.{refused_stops, served_refused}
 use Rattle.run_merge.specs.SharedObjects.{DrewAsEvent}
-use Rattle.run_merge.proofs.enough_shown.TaskCounts.{refused_stops}
 use Rattle.run_merge.proofs.enough_shown.LogLeads.{is_told}
 
 module _ (s : Scenario) (plain : Plain) (names : List Object) (history : Object → List Call) (left : (name : Object) → ThingState (ThingAt name)) (tasks : List Returned)

@@ -12,21 +12,20 @@ use Rattle.tick_clock.specs.Tickets.{PassState}
 use Rattle.run_machine.specs.Laws.{Object, OfNone, OfTally, object_of}
 use Rattle.run_machine.specs.Opened.{Scenario, setup, start, no_task, round_count}
 use Rattle.run_machine.specs.Opened as opened
-use Rattle.run_machine.specs.Requests.{Request, Reply, LookRound, LookLeft}
 use Rattle.run_machine.specs.Scene.{Setup}
 use Rattle.run_machine.specs.Tasks.{TaskState, answered, is_broken}
 use Rattle.task_core.specs.declared.plain.Plain.{Plain}
 use Rattle.object_things.specs.Histories.{Call, drawn_in}
-use Rattle.object_things.specs.Stamps.{ThingState, StepOf, is_spent}
+use Rattle.object_things.specs.Stamps.{ThingState, StepOf}
 use Rattle.shared_objects.specs.Calls.{is_same_object, struck}
 use Rattle.shared_objects.specs.Closes.{Returned, ClosesAs}
 use Rattle.shared_objects.specs.Kinds.{ThingAt, serves_at, looks_at, opened_at, unasked}
-use Rattle.shared_objects.specs.Logs.{is_event, is_refused, is_stop, is_glance, events_in, tickets_in, LogLeads}
+use Rattle.shared_objects.specs.Logs.{is_event, is_stop, is_glance, events_in, tickets_in, LogLeads}
 use Rattle.shared_objects.specs.Passes.{numbers_of}
 use Rattle.shared_objects.proofs.logs.CallsLead.{event_first, kinds, quiet_first, stop_kind}
 use Rattle.shared_objects.proofs.tickets.TicketsOfCalls.{drawn_of, drew_of, numbers_is}
 use Rattle.shared_objects.proofs.tickets.CallOwners.{logged, kept, IsInPlace, in_place}
-use Rattle.shared_objects.proofs.steps.EventOrRefused.{served_refused}
+use Rattle.shared_objects.proofs.steps.EventOrRefused.{refused_stops, served_refused}
 use Rattle.run_merge.specs.Entries.{Entry}
 use Rattle.run_merge.specs.Merging.{Ticketed, RiseFrom, without_tickets, all_of, done_by}
 use Rattle.run_merge.specs.Products.{is_next_round}
@@ -90,11 +89,6 @@ module _ (setup : Setup) where
           let behind = ap (λ (l : List ℕ). length l) (none_drawn (before ++ call ∷ []) (answered setup first call.told.reply) calls last broken
           (All-tail (λ (c : Call). object_of c.asked ≡ OfNone → ⊥) call calls some) (All-tail GlanceNone call calls none) leads) in
           omega (arith, behind, first_ticket call calls)
-
-pub refused_stops : (asked : Request) (reply : Reply) → is_refused asked reply ≡ true → is_stop asked reply ≡ true
-refused_stops LookRound reply is = absurd (true≢false (sym is))
-refused_stops LookLeft reply is = absurd (true≢false (sym is))
-refused_stops asked reply is = ap (λ b. b || is_spent reply) is
 
 sum_most : {X : Type 0} (f : X → ℕ) (g : ℕ → ℕ) (xs : List X) → ((k : ℕ) (x : X) → slice_get xs k ≡ Some x → f x ≤ g k + 1) → sum_by f xs ≤ total g (length xs) + length xs
 sum_most f g [] each = omega arith

@@ -1,5 +1,5 @@
 -- What an object serves is an event, or is refused.
-use Rattle.std.proofs.Common.{◌≡◌, ◌⊎◌, ◌<◌, ◌==◌, not, ℕ, Bool, true, false, inl, inr, refl, sym, ◌∙◌, ap, subst, arith}
+use Rattle.std.proofs.Common.{◌≡◌, ◌⊎◌, ◌<◌, ◌==◌, ◌||◌, not, ℕ, Bool, true, false, inl, inr, refl, sym, ◌∙◌, ap, subst, arith}
 use Rattle.std.specs.Option.{is_some}
 use Rattle.std.proofs.lemmas.Bool.{true≢false, ne_eqb}
 use Rattle.bio_books.specs.Books.{BookState}
@@ -13,14 +13,15 @@ use Rattle.stack_base.specs.declared.ids.PoolId.{PoolId}
 use Rattle.run_machine.specs.Events.{miss_of}
 use Rattle.run_machine.specs.Laws.{Object, OfPool, OfRescuer, OfDisk, OfBook, OfTally, OfNone}
 use Rattle.run_machine.specs.Objects.{TallyState}
-use Rattle.run_machine.specs.Requests.{Request, Reply, TakeBio, TakeVec, TakeSlip, GiveBio, GiveVec, GiveSlip, Punt, Pop, Push, Complete, Link, Drop, Done, Resize, NextRound, HadBio, HadVec, HadSlip, Missed, Did, Popped, Completed, LinkedTo, DroppedTo, OutIs}
+use Rattle.run_machine.specs.Requests.{Request, Reply, TakeBio, TakeVec, TakeSlip, GiveBio, GiveVec, GiveSlip, Punt, Pop, Push, Complete, Link, Drop, Done, Resize, NextRound, LookRound, LookLeft, HadBio, HadVec, HadSlip, Missed, Did, Popped, Completed, LinkedTo, DroppedTo, OutIs}
 use Rattle.object_things.specs.Books.{BookServes}
 use Rattle.object_things.specs.Disks.{DiskServes}
 use Rattle.object_things.specs.Lists.{ListServes}
 use Rattle.object_things.specs.Pools.{PoolServes}
+use Rattle.object_things.specs.Stamps.{is_spent}
 use Rattle.object_things.specs.Tallies.{TallyServes}
 use Rattle.shared_objects.specs.Kinds.{ThingAt, serves_at}
-use Rattle.shared_objects.specs.Logs.{is_event, is_refused}
+use Rattle.shared_objects.specs.Logs.{is_event, is_refused, is_stop}
 
 -- what was served and is no event was refused
 miss_event : (waits used : Bool) (pool : PoolId) → (waits ≡ true → used ≡ true) → is_some (miss_of waits used pool) ≡ true
@@ -96,3 +97,9 @@ served_refused (OfDisk dev) old new asked reply h none = disk_refused old new as
 served_refused (OfBook writer) old new asked reply h none = book_refused old new asked reply h none
 served_refused OfTally old new asked reply h none = tally_refused old new asked reply h none
 served_refused OfNone old new asked reply h none = absurd h
+
+-- who was refused stops
+pub refused_stops : (asked : Request) (reply : Reply) → is_refused asked reply ≡ true → is_stop asked reply ≡ true
+refused_stops LookRound reply is = absurd (true≢false (sym is))
+refused_stops LookLeft reply is = absurd (true≢false (sym is))
+refused_stops asked reply is = ap (λ b. b || is_spent reply) is

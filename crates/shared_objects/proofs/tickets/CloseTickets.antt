@@ -1,5 +1,5 @@
 -- What a close shows of the tickets of its clock.
-use Rattle.std.proofs.Common.{◌≡◌, ◌⊎◌, ◌+◌, ◌-◌, ◌^◌, ◌||◌, ◌≤◌, ◌++◌, ℕ, zero, suc, Bool, true, false, List, [], ◌∷◌, Some, inl, inr, refl, sym, ◌∙◌, ap, subst, arith, get_or}
+use Rattle.std.proofs.Common.{◌≡◌, ◌⊎◌, ◌+◌, ◌-◌, ◌^◌, ◌≤◌, ◌++◌, ℕ, zero, suc, Bool, true, false, List, [], ◌∷◌, Some, inl, inr, refl, sym, ◌∙◌, ap, subst, arith, get_or}
 use Rattle.std.specs.Prelude.{All, Contains, slice_get}
 use Rattle.std.proofs.lemmas.Bool.{true≢false}
 use Rattle.std.proofs.lemmas.List.Elements.{All-contains, All-contains_itself, All-weaker, Contains-append_right}
@@ -8,30 +8,24 @@ use Rattle.tick_clock.specs.declared.ticking.Ticket.{Ticket}
 use Rattle.tick_clock.specs.Tickets.{PassState}
 use Rattle.tick_clock.proofs.Rows.{pass_once}
 use Rattle.run_machine.specs.Laws.{Object, object_of}
-use Rattle.run_machine.specs.Requests.{Request, Reply, LookRound, LookLeft}
 use Rattle.run_machine.specs.Scene.{Setup}
 use Rattle.run_machine.specs.Tasks.{TaskState}
 use Rattle.task_core.specs.declared.plain.Plain.{Plain}
 use Rattle.object_things.specs.Histories.{Call, or_last}
-use Rattle.object_things.specs.Stamps.{ThingState, StepOf, is_spent}
+use Rattle.object_things.specs.Stamps.{ThingState, StepOf}
 use Rattle.shared_objects.specs.ClosedByName.{history_in}
 use Rattle.shared_objects.specs.Closes.{Returned, ClosesAs}
 use Rattle.shared_objects.specs.Kinds.{ThingAt, looks_at, serves_at}
 use Rattle.shared_objects.specs.Led.{BrokeOff, IsLed}
 use Rattle.shared_objects.specs.Left.{HasClosed}
-use Rattle.shared_objects.specs.Logs.{FoundNone, is_event, is_glance, is_refused, is_stop}
+use Rattle.shared_objects.specs.Logs.{FoundNone, is_event, is_glance, is_stop}
 use Rattle.shared_objects.specs.Passes.{found_by, numbers_of}
 use Rattle.shared_objects.specs.Tickets.{AreOfHistories, ClosesShowTickets, DrewTicket, IsBehind, IsEvent, IsRefusedCall, ShowsItsTickets}
 use Rattle.shared_objects.specs.declared.closed.Closed.{Closed}
 use Rattle.shared_objects.proofs.tickets.TicketsOfCalls.{drawn_of, drew_of, flat_all, in_row, last_drawn, map_from, map_there, ticket_from}
 use Rattle.shared_objects.proofs.logs.CallsLead.{kinds, logs_lead}
 use Rattle.shared_objects.proofs.tickets.CallOwners.{IsInPlace, IsCallOfTask, in_place, kept, logged, owner}
-use Rattle.shared_objects.proofs.steps.EventOrRefused.{served_refused}
-
-refused_stops : (asked : Request) (reply : Reply) → is_refused asked reply ≡ true → is_stop asked reply ≡ true
-refused_stops LookRound reply is = absurd (true≢false (sym is))
-refused_stops LookLeft reply is = absurd (true≢false (sym is))
-refused_stops asked reply is = ap (λ b. b || is_spent reply) is
+use Rattle.shared_objects.proofs.steps.EventOrRefused.{refused_stops, served_refused}
 
 -- what is in a list is before a place, at it or behind it
 in_parts : {X : Type 0} (xs : List X) (y : X) (ys : List X) (x : X) → Contains (xs ++ y ∷ ys) x → Contains xs x ⊎ ((y ≡ x) ⊎ Contains ys x)
