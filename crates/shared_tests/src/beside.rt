@@ -1,9 +1,10 @@
-//! Two completers, each at its desk on a thread of its own, whose choosers wait for each other.
+//! Two completers, each on a thread of its own, at its desk or by its seats, whose choosers wait for each other.
 ghost use Rattle.std.specs.Prelude.{◌≡◌, IfSome};
 ghost use Rattle.shared_objects.specs.Shared.{SharedHolds};
 
 use crate::opened::{TWO_DISKS, shared_of};
 use shared_objects::{Locks, Ran, Shared};
+use std::alloc::AllocGlobal;
 use std::hint::spin_loop;
 use std::sync::Wait;
 use std::sync::atomic::{AtomicU64, Ordering};
@@ -25,6 +26,8 @@ struct Flags {
     other: AtomicU64,
     /// How many gave up.
     missed: AtomicU64,
+    /// Whether tasks are stepped at desks, and not by their seats.
+    desk: bool,
 }
 
 /// Chooses the bio that has waited longest, once the other chooser is asked too.
@@ -33,6 +36,8 @@ struct Meets<'a> {
     mine: &'a AtomicU64,
     others: &'a AtomicU64,
     missed: &'a AtomicU64,
+    /// Whether its task is stepped at a desk, and not by its seats.
+    desk: bool,
 }
 
 impl<'a> Chooser for Meets<'a> {
@@ -75,8 +80,8 @@ fn ends(rt: &impl Wait, locks: &Locks, ran: Ran) -> bool
     false
 }
 
-// Whether one step of a task, at its desk, completes a bio.
-fn completes(rt: &impl Wait, locks: &Locks, ran: Ran, chooser: Meets<'_>) -> bool
+// One step of a task at its desk.
+fn step_at_desk(rt: &impl Wait, locks: &Locks, ran: Ran, chooser: Meets<'_>) -> Step
     requires { ran.home ≡ locks.now }
 {
     let mut chooser = chooser;
@@ -84,6 +89,27 @@ fn completes(rt: &impl Wait, locks: &Locks, ran: Ran, chooser: Meets<'_>) -> boo
     let mut desk = locks.desk(rt, seats);
     let step = task.step(&mut desk, &mut chooser);
     drop(desk.back());
+    step
+}
+
+// One step of a task by its seats, as workers make it.
+fn step_by_seats(rt: &impl Wait, locks: &Locks, ran: Ran, chooser: Meets<'_>) -> Step
+    requires { ran.home ≡ locks.now }
+{
+    let mut chooser = chooser;
+    let mut ran = ran;
+    ran.step(rt, locks, &mut chooser)
+}
+
+// Whether one step of a task completes a bio.
+fn completes(rt: &impl Wait, locks: &Locks, ran: Ran, chooser: Meets<'_>) -> bool
+    requires { ran.home ≡ locks.now }
+{
+    let step = if chooser.desk {
+        step_at_desk(rt, locks, ran, chooser)
+    } else {
+        step_by_seats(rt, locks, ran, chooser)
+    };
     matches!(
         step,
         Step::Stepped(Event {
@@ -108,11 +134,13 @@ fn complete_beside<R: Threads + Wait + Sync>(
         mine: &flags.one,
         others: &flags.other,
         missed: &flags.missed,
+        desk: flags.desk,
     };
     let second = Meets {
         mine: &flags.other,
         others: &flags.one,
         missed: &flags.missed,
+        desk: flags.desk,
     };
     let (is_one, is_other) = thread::join(
         rt,
@@ -164,16 +192,27 @@ fn write_and_complete<R: Threads + Wait + Sync>(
     Some(is_one && is_other && are_both)
 }
 
-// No clause says that two desks work beside each other. It fails where a lock is held over the calls of all desks, and
-// where one thread steps both completers.
-#[test]
-fn two_completers_choose_beside_each_other(rt: HostRuntime) -> Result<(), Fail> {
+// Whether two completers complete a bio each beside each other, at their desks or by their seats.
+fn choose_beside<R: AllocGlobal + Threads + Wait + Sync>(
+    rt: &R,
+    desk: bool,
+) -> Result<Option<bool>, Fail> {
     let flags = Flags {
         one: AtomicU64::new(0),
         other: AtomicU64::new(0),
         missed: AtomicU64::new(0),
+        desk,
     };
     let shared = shared_of(rt.alloc(), TWO_DISKS)?;
-    assert_eq!(rt; write_and_complete(&rt, shared, &flags), Some(true));
+    Ok(write_and_complete(rt, shared, &flags))
+}
+
+// No clause says that two tasks are stepped beside each other. It fails where a lock is held over the calls of all tasks,
+// and where one thread steps both completers.
+#[test]
+fn two_completers_choose_beside_each_other(rt: HostRuntime) -> Result<(), Fail> {
+    for desk in [true, false] {
+        assert_eq!(rt; choose_beside(&rt, desk)?, Some(true));
+    }
     Ok(())
 }
