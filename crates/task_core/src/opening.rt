@@ -19,7 +19,7 @@ mod writers;
 use crate::ended::Ended;
 use crate::opening::objects::open_objects;
 use crate::opening::rounds::{left_of, open_keeper, open_tally};
-use crate::opening::tasks::{open_completers, open_rescuers, tasks_of};
+use crate::opening::tasks::{DeviceTasks, open_device_tasks, tasks_of};
 use crate::opening::writers::open_writers;
 use crate::plain::Plain;
 use decl_text::Accepted;
@@ -104,8 +104,8 @@ fn open_others(
     requires short { rounds_in work.now.rounds.items ≤ 2 ^ 32 }
     ensures { OnOk result (AddsTasks kinds.old.items (others_in (routing_setup routes.now) work.now) kinds.new.items) }
 {
-    open_rescuers(stack, routes, kinds)?;
-    open_completers(stack, routes, kinds)?;
+    open_device_tasks(stack, routes, DeviceTasks::Rescuers, kinds)?;
+    open_device_tasks(stack, routes, DeviceTasks::Completers, kinds)?;
     open_keeper(alloc, &work.rounds, &work.resizes, left, kinds)?;
     Ok(())
 }

@@ -13,9 +13,12 @@ use Rattle.layout_model.specs.NeedCounts.{nodes}
 use Rattle.layout_model.specs.Writes.{IsWrite}
 use Rattle.task_steps.specs.declared.task.Kind.{Kind}
 use Rattle.run_machine.specs.Submissions.{rests}
-use Rattle.task_core.specs.opened.NewTasks.{writer_with, shown_tasks, AddsTasks, AreShared, ArePlaced}
-use Rattle.run_machine.specs.Opened.{is_by, numbered, numbered_from, share_of, nodes_of, is_writer, writers_of}
-use Rattle.run_machine.specs.Tasks.{Todo, TaskState, NoBio, Writer}
+use Rattle.task_core.specs.declared.opening.tasks.DeviceTasks.{DeviceTasks}
+use Rattle.task_core.specs.declared.opening.tasks.DeviceTasks.TheVariants as of_devices
+use Rattle.task_core.specs.opened.NewTasks.{device_tasks, writer_with, shown_tasks, AddsTasks, AreShared, ArePlaced}
+use Rattle.run_machine.specs.Scene.{Setup, is_disk}
+use Rattle.run_machine.specs.Opened.{at, is_by, numbered, numbered_from, share_of, nodes_of, is_writer, writers_of}
+use Rattle.run_machine.specs.Tasks.{Todo, TaskState, NoBio, Empty, Writer, Rescuer, Completer}
 use Rattle.task_core.proofs.NumberTests.{clash}
 use Rattle.task_core.proofs.opened.Filling as fill
 
@@ -155,6 +158,11 @@ adds_more F n start old new split so is =
 pub kept_split : {Y : Type 0} (f : ℕ → Y) (p : ℕ → Bool) (n : ℕ)
     → map f (filter p (range_with_len 0 (n + 1))) ≡ map f (filter p (range_with_len 0 n)) ++ map f (filter p (n ∷ []))
 kept_split f p n = ap (map f) (fill.filter_more p n) ∙ map-append f (filter p (range_with_len 0 n)) (filter p (n ∷ []))
+
+pub device_split : (which : DeviceTasks) (setup : Setup) (n : ℕ)
+    → device_tasks which setup (range_with_len 0 (n + 1)) ≡ device_tasks which setup (range_with_len 0 n) ++ device_tasks which setup (n ∷ [])
+device_split of_devices.Rescuers setup n = kept_split (λ dev. Rescuer (at dev) rests) setup.rescuer n
+device_split of_devices.Completers setup n = kept_split (λ dev. Completer (at dev) Empty) (is_disk setup) n
 
 -- there is a writer exactly where it has a write
 any_kept : {X : Type 0} (p : X → Bool) (xs : List X) → list_any p xs ≡ false → filter p xs ≡ []

@@ -10,6 +10,8 @@ use Rattle.work_text.specs.declared.Resize.{Resize}
 use Rattle.work_text.specs.declared.Work.{Work}
 use Rattle.task_steps.specs.declared.keeper.Duty as real
 use Rattle.task_steps.specs.declared.task.Kind.{Kind}
+use Rattle.task_core.specs.declared.opening.tasks.DeviceTasks.{DeviceTasks}
+use Rattle.task_core.specs.declared.opening.tasks.DeviceTasks.TheVariants as of_devices
 use Rattle.run_machine.specs.Scene.{Setup}
 use Rattle.task_steps.specs.KeeperViews.{duty_of}
 use Rattle.task_steps.specs.Routed.{Routing, routing_setup}
@@ -58,12 +60,13 @@ book_places stack work writer = nodes_of stack (share_of work.rounds.items work.
 abbrev pub IsRoutingFor : Stack → Work → Routing → Type 0
 IsRoutingFor stack work routing = (routing.stack ≡ stack) × ArePlaced stack work.rounds.items work.writes.items 8 routing.places
 
--- those of all devices of a stack
-abbrev pub rescuers_in : Routing → Stack → List TaskState
-rescuers_in routing stack = rescuers_of (routing_setup routing) (range_with_len 0 (length stack.devices.items))
+-- the tasks of these devices, of one kind, and those of all devices of a stack
+abbrev pub device_tasks : DeviceTasks → Setup → List ℕ → List TaskState
+device_tasks of_devices.Rescuers setup numbers = rescuers_of setup numbers
+device_tasks of_devices.Completers setup numbers = completers_of setup numbers
 
-abbrev pub completers_in : Routing → Stack → List TaskState
-completers_in routing stack = completers_of (routing_setup routing) (range_with_len 0 (length stack.devices.items))
+abbrev pub device_tasks_in : DeviceTasks → Routing → Stack → List TaskState
+device_tasks_in which routing stack = device_tasks which (routing_setup routing) (range_with_len 0 (length stack.devices.items))
 
 -- tasks with what they know of devices
 abbrev pub with_routing : Routing → List TaskState → List TaskOf

@@ -4,13 +4,22 @@ ghost use Rattle.stack_base.specs.Stack.{IsStack};
 ghost use Rattle.run_machine.specs.Opened.{rescuers_of, completers_of};
 ghost use Rattle.task_steps.specs.Routed.{routing_setup};
 ghost use Rattle.task_steps.specs.TaskViews.{task_of};
-ghost use Rattle.task_core.specs.opened.NewTasks.{rescuers_in, completers_in, shown_tasks, with_routing, AddsTasks};
+ghost use Rattle.task_core.specs.opened.NewTasks.{device_tasks, device_tasks_in, shown_tasks, with_routing, AddsTasks};
 
 use crate::opening::objects::is_disk;
 use stack_base::{DevId, Stack};
 use std::alloc::{AllocError, Global};
 use std::sync::Arc;
 use task_steps::{Carried, Kind, Rescuer, Routes, Task};
+
+/// Which tasks of devices are opened.
+#[derive(Clone, Copy)]
+pub enum DeviceTasks {
+    /// The rescuers of devices' sets.
+    Rescuers,
+    /// The completers of disks.
+    Completers,
+}
 
 // Adds the rescuer of a device's set, if it has one.
 fn add_rescuer(routes: &Routes, dev: DevId, kinds: &mut Vec<Kind>) -> Result<(), AllocError>
@@ -19,22 +28,6 @@ fn add_rescuer(routes: &Routes, dev: DevId, kinds: &mut Vec<Kind>) -> Result<(),
 {
     if routes.rescuer(dev) {
         kinds.push(Kind::Rescuer(Rescuer::new(dev)))?;
-    }
-    Ok(())
-}
-
-// Adds the rescuers of a stack, in the order of its devices.
-pub(crate) fn open_rescuers(
-    stack: &Stack,
-    routes: &Routes,
-    kinds: &mut Vec<Kind>,
-) -> Result<(), AllocError>
-    requires same { routes.now.stack ≡ stack.now }
-    requires stack { IsStack stack.now }
-    ensures { OnOk result (AddsTasks kinds.old.items (rescuers_in routes.now stack.now) kinds.new.items) }
-{
-    'opening: for number in 0..stack.devices.len() {
-        add_rescuer(routes, DevId(number as u32), kinds)?;
     }
     Ok(())
 }
@@ -53,18 +46,35 @@ fn add_completer(routes: &Routes, dev: DevId, kinds: &mut Vec<Kind>) -> Result<(
     Ok(())
 }
 
-// Adds the completers of a stack, in the order of its devices.
-pub(crate) fn open_completers(
+// Adds the task of a device, if it has one of these.
+fn add_device_task(
+    routes: &Routes,
+    which: DeviceTasks,
+    dev: DevId,
+    kinds: &mut Vec<Kind>,
+) -> Result<(), AllocError>
+    requires { dev.0 < length routes.now.stack.devices.items }
+    ensures { OnOk result (AddsTasks kinds.old.items (device_tasks which (routing_setup routes.now) (dev.0 ∷ [])) kinds.new.items) }
+{
+    match which {
+        DeviceTasks::Rescuers => add_rescuer(routes, dev, kinds),
+        DeviceTasks::Completers => add_completer(routes, dev, kinds),
+    }
+}
+
+// Adds these tasks of a stack, in the order of its devices.
+pub(crate) fn open_device_tasks(
     stack: &Stack,
     routes: &Routes,
+    which: DeviceTasks,
     kinds: &mut Vec<Kind>,
 ) -> Result<(), AllocError>
     requires same { routes.now.stack ≡ stack.now }
     requires stack { IsStack stack.now }
-    ensures { OnOk result (AddsTasks kinds.old.items (completers_in routes.now stack.now) kinds.new.items) }
+    ensures { OnOk result (AddsTasks kinds.old.items (device_tasks_in which routes.now stack.now) kinds.new.items) }
 {
     'opening: for number in 0..stack.devices.len() {
-        add_completer(routes, DevId(number as u32), kinds)?;
+        add_device_task(routes, which, DevId(number as u32), kinds)?;
     }
     Ok(())
 }

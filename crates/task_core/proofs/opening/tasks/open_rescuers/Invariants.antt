@@ -1,8 +1,0 @@
-use Rattle.std.specs.List.{range_with_len}
-use Rattle.run_machine.specs.Opened.{rescuers_of}
-use Rattle.task_core.specs.opened.NewTasks.{AddsTasks}
-use Rattle.task_steps.specs.Routed.{routing_setup}
-use Rattle.task_core.proofs.opening.tasks.open_rescuers.Given as goal
-
-abbrev pub invariant-opening : goal.invariant-opening
-invariant-opening l = AddsTasks l.initial.kinds.items (rescuers_of (routing_setup l.routes) (range_with_len 0 l.number)) l.kinds.items
