@@ -3,6 +3,8 @@ use Rattle.std.proofs.Common.{◌≡◌, ℕ, List, [], length, replicate, slice
 use Rattle.elem_ledger.specs.Ledger.{LedgerId}
 use Rattle.fail_script.specs.Script.{Answers}
 use Rattle.stack_base.specs.declared.ids.PoolId.{PoolId}
+use Rattle.stack_base.specs.declared.ids.PoolId.TheVariants.{FsBios, FsVecs, Bios, Records}
+use Rattle.stack_base.specs.declared.stack.Stack.{Stack}
 use Rattle.stack_base.specs.Tree.{tree, size}
 use Rattle.layout_model.specs.May.{bads_of}
 use Rattle.mempool_core.specs.Move.{opened}
@@ -27,6 +29,22 @@ objects_by setup reserve scripts tally = record {
 
 abbrev pub state_by : Objects → List TaskState → State
 state_by objects tasks = record { objects = objects; task = λ place. slice_index_or tasks place no_task }
+
+-- a run from what is written out is one of the scenario
+pub runs_as : (scene other : Scene) (start first : State) (events : List Event) (end : State) → scene ≡ other → start ≡ first
+    → IsRun scene start events end → IsRun other first events end
+runs_as scene other start first events end scene_is start_is run =
+    subst (λ (x : Scene × State). IsRun x.0 x.1 events end) (λ k. (scene_is k, start_is k)) run
+
+-- reserves are the stack's, where the writers' are, and those of each device
+pub reserves_are : (reserve : PoolId → ℕ) (stack : Stack) → reserve FsBios ≡ reserve_of stack FsBios → reserve FsVecs ≡ reserve_of stack FsVecs
+    → ((dev : ℕ) → reserve (Bios (at dev)) ≡ reserve_of stack (Bios (at dev)))
+    → ((dev : ℕ) → reserve (Records (at dev)) ≡ reserve_of stack (Records (at dev)))
+    → (pool : PoolId) → reserve pool ≡ reserve_of stack pool
+reserves_are reserve stack bios vecs of_sets of_mirrors FsBios = bios
+reserves_are reserve stack bios vecs of_sets of_mirrors FsVecs = vecs
+reserves_are reserve stack bios vecs of_sets of_mirrors (Bios dev) = of_sets dev.0
+reserves_are reserve stack bios vecs of_sets of_mirrors (Records dev) = of_mirrors dev.0
 
 module _ (setup : Setup) (reserve : PoolId → ℕ) (tally : TallyState) (s : Scenario) where
   -- the setup, the reserves and the tally are the scenario's, and no disk of it has bad sectors
@@ -65,8 +83,8 @@ module _ (setup : Setup) (reserve : PoolId → ℕ) (tally : TallyState) (s : Sc
           → record { setup = setup; tasks = length tasks; books = 8; writes = length s.writes; ledger = ledger } ≡ texts.scene s ledger
       scene_is ledger = λ k. record { setup = setup_is k; tasks = length (tasks_are k); books = 8; writes = length s.writes; ledger = ledger }
 
--- a run from what is written out is one of the scenario
-pub runs_as : (scene other : Scene) (start first : State) (events : List Event) (end : State) → scene ≡ other → start ≡ first
-    → IsRun scene start events end → IsRun other first events end
-runs_as scene other start first events end scene_is start_is run =
-    subst (λ (x : Scene × State). IsRun x.0 x.1 events end) (λ k. (scene_is k, start_is k)) run
+      -- so a run from what is written out is one of the scenario
+      pub text_runs : (ledger : ℕ → LedgerId) (events : List Event) (end : State)
+          → IsRun (record { setup = setup; tasks = length tasks; books = 8; writes = length s.writes; ledger = ledger }) (state_by (objects_by setup reserve s.scripts tally) tasks) events end
+          → IsRun (texts.scene s ledger) (texts.start s) events end
+      text_runs ledger events end run = runs_as _ _ _ _ events end (scene_is ledger) start_is run

@@ -10,6 +10,7 @@ use Rattle.stack_base.specs.Tree.{Tree, Leaf, tree, tree_below, over_shape}
 use Rattle.layout_model.specs.May.{bads_of}
 use Rattle.run_machine.specs.Scene.{rescuer_at}
 use Rattle.run_machine.specs.Opened.{records_of, reserve_of}
+use Rattle.run_machine.proofs.Beginnings.{reserves_are}
 use Rattle.run_machine.proofs.Texts.{stack_of, disk}
 
 abbrev pub tree_of : ℕ → ℕ → Tree
@@ -51,7 +52,4 @@ module _ (memory : Global) (sectors : ℕ) where
   no_records (suc n) = refl
 
   pub reserve_is : (pool : PoolId) → reserve pool ≡ reserve_of stack pool
-  reserve_is FsBios = refl
-  reserve_is FsVecs = refl
-  reserve_is (Bios dev) = no_bios dev.0
-  reserve_is (Records dev) = no_records dev.0
+  reserve_is = reserves_are reserve stack refl refl no_bios no_records

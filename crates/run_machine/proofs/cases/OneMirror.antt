@@ -19,7 +19,7 @@ use Rattle.run_machine.specs.Tasks.{Todo}
 use Rattle.run_machine.specs.Objects.{Objects, TallyState}
 use Rattle.run_machine.specs.Opened.{Scenario, at, places_of, reserve_of}
 use Rattle.run_machine.specs.Opened as texts
-use Rattle.run_machine.proofs.Beginnings.{IsOfScenario, objects_by}
+use Rattle.run_machine.proofs.Beginnings.{IsOfScenario, objects_by, reserves_are}
 use Rattle.run_machine.proofs.Beginnings as begins
 use Rattle.run_machine.proofs.Texts.{device, disk as disk_of, stack_of}
 
@@ -124,19 +124,13 @@ module _ (memory : Global) where
     records_are (suc (suc zero)) = refl
     records_are (suc (suc (suc n))) = refl
 
-    reserve_is : (pool : PoolId) → reserve pool ≡ reserve_of (stack rescuer) pool
-    reserve_is FsBios = refl
-    reserve_is FsVecs = refl
-    reserve_is (Bios dev) = bios_are dev.0
-    reserve_is (Records dev) = records_are dev.0
-
     is_of_scenario : IsOfScenario (setup rescuer) reserve tally (scenario rescuer)
     is_of_scenario = record {
       count_is = refl;
       tree_is = tree_is;
       rescuer_is = rescuer_is;
       places_are = places_are;
-      reserve_is = reserve_is;
+      reserve_is = reserves_are reserve (stack rescuer) refl refl bios_are records_are;
       bads_are = bads_are;
       tally_is = refl;
     }

@@ -42,7 +42,8 @@ use Rattle.run_machine.specs.Objects.{clear_bio, done_one, TallyState}
 use Rattle.run_machine.specs.Opened.{Scenario, at, places_of}
 use Rattle.run_machine.specs.Opened as texts
 use Rattle.run_machine.specs.Runs.{State, IsRun, HasEnded}
-use Rattle.run_machine.proofs.Beginnings.{IsOfScenario, objects_by, state_by, start_is, scene_is, runs_as}
+use Rattle.run_machine.proofs.Beginnings.{IsOfScenario, objects_by, state_by}
+use Rattle.run_machine.proofs.Beginnings as begins
 use Rattle.run_machine.proofs.Texts.{Says, sound_at}
 use Rattle.run_machine.proofs.cases.OneDisk.{tree_of, rescuer_of, reserve, stack, tree_is, rescuer_is, bads_are, reserve_is}
 use Rattle.run_machine.proofs.Turns.{Turn, follow, AreTurns, turns_run, takes, on_disk, in_book}
@@ -193,8 +194,7 @@ module _ (memory : Global) where
 
   text_runs : (some : LedgerId) → IsRun (texts.scene scenario (ledger some)) (texts.start scenario) (events some) (follow setup start (turns some))
   text_runs some =
-      runs_as _ _ _ _ (events some) (follow setup start (turns some)) (scene_is setup reserve tally scenario is_of_text tasks tasks_are (ledger some))
-      (start_is setup reserve tally scenario is_of_text tasks tasks_are) (one_write_runs some)
+      begins.text_runs setup reserve tally scenario is_of_text tasks tasks_are (ledger some) (events some) (follow setup start (turns some)) (one_write_runs some)
 
   says : Says text scenario
   unfolding refusal without_empty_end first_found command_of is_name number_of meaning pool_at over_shape needed begun

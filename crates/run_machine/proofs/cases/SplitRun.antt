@@ -50,7 +50,8 @@ use Rattle.run_machine.specs.Objects.{clear_bio, done_one, TallyState}
 use Rattle.run_machine.specs.Opened.{Scenario, at, places_of, reserve_of}
 use Rattle.run_machine.specs.Opened as texts
 use Rattle.run_machine.specs.Runs.{State, IsRun, HasEnded}
-use Rattle.run_machine.proofs.Beginnings.{IsOfScenario, objects_by, state_by, start_is, scene_is, runs_as}
+use Rattle.run_machine.proofs.Beginnings.{IsOfScenario, objects_by, state_by, reserves_are}
+use Rattle.run_machine.proofs.Beginnings as begins
 use Rattle.run_machine.proofs.Texts.{device, disk as disk_of, stack_of, Says, sound_at}
 use Rattle.run_machine.proofs.Turns.{Turn, follow, AreTurns, turns_run, takes, on_disk, in_book}
 
@@ -333,12 +334,6 @@ module _ (memory : Global) where
   records_are (suc (suc (suc zero))) = refl
   records_are (suc (suc (suc (suc n)))) = refl
 
-  reserve_is : (pool : PoolId) → reserve pool ≡ reserve_of stack pool
-  reserve_is FsBios = refl
-  reserve_is FsVecs = refl
-  reserve_is (Bios dev) = bios_are dev.0
-  reserve_is (Records dev) = records_are dev.0
-
   tasks_are : tasks ≡ texts.tasks scenario
   unfolding tree_below over_shape
   tasks_are = refl
@@ -349,15 +344,14 @@ module _ (memory : Global) where
     tree_is = tree_is;
     rescuer_is = rescuer_is;
     places_are = places_are;
-    reserve_is = reserve_is;
+    reserve_is = reserves_are reserve stack refl refl bios_are records_are;
     bads_are = bads_are;
     tally_is = refl;
   }
 
   text_runs : (some : LedgerId) → IsRun (texts.scene scenario (ledger some)) (texts.start scenario) (events some) (follow setup start (turns some))
   text_runs some =
-      runs_as _ _ _ _ (events some) (follow setup start (turns some)) (scene_is setup reserve tally scenario is_of_text tasks tasks_are (ledger some))
-      (start_is setup reserve tally scenario is_of_text tasks tasks_are) (split_runs some)
+      begins.text_runs setup reserve tally scenario is_of_text tasks tasks_are (ledger some) (events some) (follow setup start (turns some)) (split_runs some)
 
   says : Says text scenario
   unfolding refusal without_empty_end first_found command_of is_name number_of meaning pool_at over_shape size_of smallest needed begun head slot among next next_member
