@@ -123,7 +123,8 @@ fn close(
     }
 }
 
-// A completer goes on.
+// A completer goes on, whatever it carries: an empty one takes a bio out of its disk, one with an ended bio tells its node, and one with a closed
+// node gives back what that held. It takes no memory.
 fn carry(
     objects: &mut Objects,
     disk: DevId,
@@ -165,7 +166,7 @@ fn carry(
 /// A completer goes on with what the event tells.
 ///
 /// # Errors
-/// Where it can't. Then nothing is changed.
+/// `NotEnabled` where the event is no step of it. Then nothing is changed. It takes no memory.
 pub fn completer_step(
     objects: &mut Objects,
     completer: &mut Completer,

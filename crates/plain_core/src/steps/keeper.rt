@@ -27,7 +27,7 @@ fn keep(objects: &mut Objects, duty: Duty, what: &What) -> Result<(), CoreFault>
 /// The keeper goes on with what the event tells.
 ///
 /// # Errors
-/// Where it can't. Then nothing is changed.
+/// `NotEnabled` where the event is no step of it, as while writes of its round are left. Then nothing is changed. It takes no memory.
 pub fn keeper_step(objects: &mut Objects, keeper: &mut Keeper, what: &What) -> Result<(), CoreFault>
     ensures { (r : Routing) → TaskMoves r objects.old (keeper_of keeper.old) what.now result objects.new (keeper_of keeper.new) }
 {

@@ -9,7 +9,7 @@ use crate::step::Step;
 use run_machine::{Event, TaskId, What};
 use stack_base::{DevId, PoolId};
 
-/// The pool of a number.
+/// The pool of a number: 2d and 2d + 1 are the bios and the records of device d, 64 is the writers' vectors, and 65 their bios.
 pub fn pool_of(number: u32) -> PoolId
     ensures { result ≡ pool_of number }
 {

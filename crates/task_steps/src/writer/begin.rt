@@ -76,7 +76,8 @@ pub(crate) fn take_bio<O: Objects>(objects: &mut O, number: u32) -> (Attempt, St
     }
 }
 
-// Takes the vector of a write that has more segments than its bio keeps, and waits for it (`bvec_alloc`, `block/bio.c`).
+// Takes the vector of a write that has more segments than its bio keeps, and waits for it (`bvec_alloc`, `block/bio.c`). Without a ticket the writer
+// keeps its bio, and its submission breaks off with nothing.
 fn take_vector<O: Objects>(
     objects: &mut O,
     number: u32,
