@@ -45,10 +45,8 @@ pub enum Role {
     Leg { parent: u32 },
 }
 
-/// A part of a write that has not ended.
-///
-/// Its role says what it is to others, and how its status is kept and how it closes go by that. A master's mark is its status, `io` until a leg has
-/// ended well: a mark of its own would say the same thing twice in every node.
+/// A part of a write that has not ended. Its role says what it is to others, and how its status is kept and how it closes go by that. A master's
+/// mark is its status, `io` until a leg has ended well: a mark of its own would say the same thing twice in every node.
 #[derive(Drop)]
 pub struct Node {
     role: Role,
