@@ -18,7 +18,8 @@ use std::marker::Model;
 pub enum Link {
     /// The place of the node.
     Made(u32),
-    /// No node was opened, as all places are taken, or as the parent waits for `u64::MAX` ends.
+    /// No node was opened, as all places are taken, or as the parent waits for `u64::MAX` ends: a count of so many can't rise, though no run
+    /// comes near it.
     NoRoom(Back),
     /// No node was opened, as the named one is not open.
     Stray(Back),
@@ -38,6 +39,10 @@ pub enum Dropped {
 }
 
 /// The nodes of the writes of one writer that have not ended.
+///
+/// Contracts see a map from places to plain nodes, so that bodies, boxes and keys of the slab are in none. A node's key is its place, and a book
+/// hands out no other keys: no map of keys stands beside the places. Opening a node at a number which is no place is no step, however many
+/// places are free.
 pub struct Book {
     writer: u32,
     nodes: Places<Node>,
@@ -154,7 +159,8 @@ impl Book {
     }
 
     /// Opens a leg of a master, of the same write and of one end. The master waits for it already. It is for the caller to open as many legs
-    /// as the master waits for, and to name a master: a leg of any other open node is opened too, and that node does not wait for it.
+    /// as the master waits for, and to name a master: a master keeps no number of the legs that were opened, so a leg of any other open node is
+    /// opened too, and that node does not wait for it.
     #[inline(always)] // as `open_write`
     pub fn leg(&mut self, master: u32) -> Link
         ensures legs { Legs self.old master (linked_of result) self.new }

@@ -9,6 +9,9 @@ use bio_records::{BioElement, BioList, TaskLists, Waits};
 use stack_base::{DevId, SetId};
 
 /// A task's two lists of bios that wait to be served (`current->bio_list`, `block/blk-core.c`).
+///
+/// It is a trait, with one below it that tells whether they are busy (`Waits`), so that what serves and asks is proved for any lists. The order
+/// goes by devices, where the kernel's goes by queues: a device here is its own queue.
 pub trait SubmissionLists: Waits {
     /// Submits a bio from within a driver: it is put at the end of list 0 (`__submit_bio_noacct`, where `current->bio_list` is set).
     fn submit(&mut self, element: BioElement)
@@ -33,6 +36,7 @@ impl SubmissionLists for TaskLists {
         self.list0.push(element);
     }
 
+    // Sorting is a call of the list, since it works on the chains.
     #[inline(always)]
     #[tactic(auto, using(crate::proofs::Orders::goes_on))]
     fn next(&mut self, served: DevId) -> Option<BioElement> {

@@ -34,7 +34,8 @@ pub struct SetPlan {
 pub struct SetParts {
     /// The pool of bios (`bio_pool`).
     pub bios: Pool<BioBody<Pad>>,
-    /// The pool of vectors of 256 segments (`bvec_pool`), of the writers' set alone.
+    /// The pool of vectors of 256 segments (`bvec_pool`), of the writers' set alone. An element is one vector with that room, and its length says
+    /// how many segments are filled.
     pub vecs: Option<Pool<Vector>>,
     /// The list of bios that wait for the rescuer (`rescue_list`), where the set has one.
     pub list: Option<RescueList>,
@@ -75,7 +76,8 @@ fn list_of(plan: &SetPlan) -> Option<RescueList>
 }
 
 impl BioSet {
-    /// Makes a set as the plan says (`bioset_init`). The scripts say which takes of its bios and its vectors may have ordinary memory.
+    /// Makes a set as the plan says (`bioset_init`). The scripts say which takes of its bios and its vectors may have ordinary memory. Reserves are
+    /// at least 1, so that a set is never without an element when nobody has one, and the number of its pool of bios is below 2 ^ 32.
     ///
     /// # Errors
     ///

@@ -7,7 +7,8 @@ use atomic_table::{Join, Play, Split, TableRule};
 
 /// What a seat of a ledger's table knows. No value of it is ever made.
 pub enum View {
-    /// The seat of the ledger itself: the shares that it issued, and those that it redeemed.
+    /// The seat of the ledger itself: the shares that it issued, and those that it redeemed. It has both numbers, and not what is left of them, so
+    /// that the look behind a join can tell that the total was at least 1.
     Keeper(u64, u64),
     /// The seat of a share that is out. One that is dropped stays so.
     Out,

@@ -55,7 +55,8 @@ impl Share {
     }
 }
 
-/// A body in memory of its own, with a share of the ledger of the pool that it is given back to.
+/// A body in memory of its own, with a share of the ledger of the pool that it is given back to. It may be dropped, and stays counted as out
+/// then; no event drops one.
 pub struct Element<P> {
     pub body: Box<P>,
     pub share: Share,

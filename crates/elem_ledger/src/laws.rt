@@ -31,7 +31,7 @@ pub fn each_share_goes_home<P>(
 }
 
 /// No two ledgers are one, whatever their numbers: where two were one, anything would follow. So an element that is of one ledger is of
-/// no other.
+/// no other. It is a law whose condition cannot come true, since no clause of `Ledger::new` can say that its table is a new one.
 pub fn two_ledgers_are_never_one(first: Ledger, second: Ledger)
     requires { first.id ≡ second.id }
     ensures { ⊥ }

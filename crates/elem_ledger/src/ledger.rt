@@ -10,7 +10,7 @@ use std::marker::Model;
 
 /// Counts the shares that it issued and did not take back.
 ///
-/// It has a number, and is itself besides: two ledgers with one number are two.
+/// It has a number, and is itself besides: it is known by its table and its number together, so two ledgers with one number are two.
 #[derive(Drop)]
 pub struct Ledger {
     table: Table<(), View, (), Balance, Global>,

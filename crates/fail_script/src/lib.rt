@@ -10,7 +10,8 @@ use std::marker::Model;
 
 /// Which takes of a pool may have ordinary memory, by their position.
 ///
-/// Each of the first takes has an entry of its own, and the tail answers for all takes behind them.
+/// Each of the first takes has an entry of its own, and the tail answers for all takes behind them. Contracts see a script as its answers, a list
+/// and a tail, since its vector is its own affair.
 #[derive(Drop)]
 pub struct Script {
     entries: Vec<bool>,

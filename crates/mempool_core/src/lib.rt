@@ -160,7 +160,9 @@ impl<P: Fresh + Drop> Pool<P> {
     /// Lays elements aside, so that `resize` may later set the reserve to as many as `most`. No take gives them before, and the
     /// numbers of the pool stay. Nothing may be out.
     ///
-    /// `mempool_resize` asks for memory when it is called; here it is asked for once, beforehand.
+    /// `mempool_resize` asks for memory when it is called; here it is asked for once, beforehand. That nothing is out is asked for, as by
+    /// `resize`, so that what has to be added is what the vector lacks. All new bodies are had in a vector of their own first, so that a
+    /// refusal changes nothing.
     ///
     /// # Errors
     ///

@@ -46,7 +46,8 @@ impl Model for Disk {
     ghost invariant = { λ d. IsKept (length d.image) d.bad.items d.pending };
 }
 
-/// A bio that a disk is done with.
+/// A bio that a disk is done with. It is not dropped by hand, as a disk is: callers take it apart, and a type with a drop of its own is taken
+/// apart in its own crate alone.
 #[derive(Drop)]
 pub struct Done {
     /// Its element, as it was pushed.
@@ -153,7 +154,8 @@ impl Disk {
     }
 
     /// The bios that wait, to be looked at, in two parts as `BioList::walk` shows them: the first of them in order, and then the others
-    /// with the last one first. It takes no memory.
+    /// with the last one first. It takes no memory. The bios are not asked for by their places, which would take time by the square of
+    /// their number.
     pub fn waiting(&self) -> (Waiting<'_>, Bios<'_>)
         ensures { result.0 ++ reverse result.1 ≡ map plain_of self.now.pending }
     {
@@ -187,7 +189,7 @@ impl Disk {
 
     /// The first run of written sectors that starts at sector `from` or behind it, if there is one: sectors that are not all zeros, as many
     /// as follow one another. `from` is not inside a run, as sector 0 (`apart_at_start` of `proofs/WrittenLemmas.antt`), the end of a run and
-    /// what is past the disk are not. From 0 on, and from the end of each run on, the calls list all written runs.
+    /// what is past the disk, where there is none, are not. From 0 on, and from the end of each run on, the calls list all written runs.
     pub fn next_run(&self, from: u64) -> Option<Range>
         requires apart { IsApart (map is_written self.now.image) from }
         ensures runs { IsNextRun (map is_written self.now.image) from result }

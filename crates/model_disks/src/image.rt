@@ -14,9 +14,9 @@ use std::marker::Model;
 
 /// The sectors of a disk, one behind the other.
 ///
-/// Contracts see the list of the sectors, each of 64 words. Their words are kept by pages, and zeros are set only in pages that are written,
-/// or where all words are asked for (`Pages`). Sums and runs go by a flag for each sector up to the last one that was ever written, and read no word of a sector that is not
-/// written.
+/// Contracts see the list of the sectors, each of 64 words, so that none divides a place by 64. Their words are kept by pages, and zeros are
+/// set only in pages that are written, or where all words are asked for (`Pages`): then they stand one behind the other, and the image is lent
+/// whole. Sums and runs go by a flag for each sector up to the last one that was ever written, and read no word of a sector that is not written.
 pub struct Image {
     // How many sectors there are.
     count: u64,

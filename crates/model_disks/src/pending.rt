@@ -14,6 +14,9 @@ const WINDOW: usize = 64;
 ///
 /// The first of them stand in a window, side by side, and those behind them in a list that is linked through their own boxes. To take one out of
 /// the window moves the pointers behind it, and touches no other bio's memory but that of the list's front, which comes in behind them.
+///
+/// The window is a vector with reserved room, not an `ArrayVec`, which wants a blank for each empty place: an element is two words here, and a
+/// disk that is moved stays small.
 pub struct Pending {
     // Its room is reserved at the opening. Each bio in it is in no list.
     window: Vec<BioElement>,

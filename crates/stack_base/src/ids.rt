@@ -29,7 +29,8 @@ pub enum PoolId {
 }
 
 impl PoolId {
-    /// The pool's number: from 0 to 65 in a stack of up to 32 devices, and no two pools have the same.
+    /// The pool's number: from 0 to 65 in a stack of up to 32 devices, and no two pools have the same. A `DevId` is any number, so the
+    /// answer has to be asked for below 2 ^ 32.
     pub fn no(&self) -> u32
         requires { pool_number self.now < 2 ^ 32 }
         ensures { result ≡ pool_number self.now }
@@ -66,6 +67,10 @@ pub enum Status {
 }
 
 /// A range of a disk at which writes fail.
+///
+/// Of the ranges that a run touches the one that starts first decides how it ends, and of equal ones the earliest declared: that is a fold over the
+/// lines, and that one decides and no two are laws. To touch is to share a sector, so a run of no sectors touches none, and no call has a
+/// condition that a run has one.
 #[derive(Clone, Copy, PartialEq, Eq)]
 pub struct Bad {
     /// The sectors.

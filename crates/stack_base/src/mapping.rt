@@ -18,6 +18,9 @@ pub struct Piece {
 }
 
 /// What a device that cuts runs promises: how large it is, and where the first piece of a run ends and goes.
+///
+/// It is for kinds that cut alone, which `size` says with it: a mirror answers legs, and gets no law of pieces. Where a piece ends (`next`) stands
+/// in no clause, since heads alone say a piece; `next` is how proofs find it.
 pub trait MapLaw {
     /// The device's kind, with its numbers.
     ghost kind: { Self → Kinds };

@@ -8,6 +8,9 @@ use crate::{Bad, DevId};
 use arrayvec::{ArrayString, ArrayVec};
 
 /// What a device does with the bios that it serves, with the numbers of its declaration.
+///
+/// Wherever it is all that matters, a kind is treated by its shape: it keeps, cuts or copies a run (`shape_of`, `specs/Tree.antt`). So a new kind
+/// that cuts is few cases.
 #[derive(Drop)]
 pub enum Kind {
     /// Keeps the data. `sectors` is its size, and writes to one of the ranges in `bad` fail.
@@ -41,12 +44,15 @@ pub struct Device {
 }
 
 /// A declaration of devices, and the reserves of the writers' set.
+///
+/// A valid one (`IsStack`) has two bounds of its own, on the sectors of a device and on what begins at one sector, so that no sum over a write can
+/// pass 64 bits.
 #[derive(Drop)]
 pub struct Stack {
     /// The devices, each by its place in this list.
     pub devices: Vec<Device>,
     /// How many sectors each of them has, by the same places. A device's size goes by those of all that is below it, so it is reckoned
-    /// once, where the device is declared, and not where it is asked for.
+    /// once, where the device is declared and checked, and not where it is asked for: no caller goes down a tree, or hands a table on.
     pub sizes: ArrayVec<u64, 32>,
     /// The reserve of the writers' pool of bios.
     pub fs_bios: u32,
@@ -55,7 +61,8 @@ pub struct Stack {
 }
 
 impl Stack {
-    /// The device with this number. The definitions see it as a tree over its members (`specs/Tree.antt`), and its size goes by theirs.
+    /// The device with this number. The definitions see it as a tree over its members (`specs/Tree.antt`), and its size goes by theirs. A node
+    /// has the sizes of its members, so that slots and heads need no recursion.
     pub fn device(&self, d: DevId) -> &Device
         requires stack { IsStack self.now }
         requires device { d.0 < length self.now.devices.items }
