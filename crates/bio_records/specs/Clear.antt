@@ -4,6 +4,8 @@ use Rattle.stack_base.specs.declared.ids.SetId.TheVariants.{Fs}
 use Rattle.bio_records.specs.declared.bio.Bio.{Bio}
 use Rattle.bio_records.specs.declared.bio.Pad.{Pad}
 use Rattle.bio_records.specs.declared.body.BioBody.{BioBody, out-BioBody}
+use Rattle.bio_records.specs.declared.segment.Vector.{Vector}
+use Rattle.bio_records.specs.declared.bio.Slip.{Slip}
 
 -- a bio of no sectors, with all numbers 0
 abbrev pub no_bio : Bio
@@ -24,3 +26,10 @@ pub record IsClearBody (body : BioBody Pad) : Type 0 where
   pub bio : (out-BioBody Pad body).bio ≡ no_bio
   pub short : (out-BioBody Pad body).short.items ≡ []
   pub alone : (out-BioBody Pad body).next ≡ None
+
+-- vectors and records as pools hand them out
+abbrev pub IsClearVector : Vector → Type 0
+IsClearVector vector = vector.segments.items ≡ []
+
+abbrev pub IsClearSlip : Slip → Type 0
+IsClearSlip slip = slip ≡ record { legs = 0 }

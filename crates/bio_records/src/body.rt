@@ -71,7 +71,9 @@ impl Fresh for BioBody<Pad> {
 }
 
 impl Fresh for Vector {
-    ghost is_clear = { λ vector. vector.segments.items ≡ [] };
+    ghost use Rattle.bio_records.specs.Clear.{IsClearVector};
+
+    ghost is_clear = { IsClearVector };
 
     fn fresh() -> Self {
         Vector {
@@ -81,7 +83,9 @@ impl Fresh for Vector {
 }
 
 impl Fresh for Slip {
-    ghost is_clear = { λ slip. slip ≡ record { legs = 0 } };
+    ghost use Rattle.bio_records.specs.Clear.{IsClearSlip};
+
+    ghost is_clear = { IsClearSlip };
 
     fn fresh() -> Self {
         Slip { legs: 0 }

@@ -7,15 +7,13 @@ use Rattle.std.proofs.lemmas.List.{map-append, get_or-set_other, get_or-set_same
 use Rattle.std.proofs.lemmas.List.Elements.{All-from_recursion, All-map, All-pop, All-push, recursion_from_All, Contains-append_left, Contains-push, Contains-push_cases}
 use Rattle.std.proofs.lemmas.List.Sorted.{All-permutation, Contains-permutation, IsPermutation-map, IsPermutation-sym, IsPermutation-to_front}
 use Rattle.std.proofs.lemmas.Map.Keys.{IsDistinct-cons, IsDistinct-head, IsDistinct-tail, IsDistinct-IsPermutation}
+use Rattle.stack_base.proofs.NumberLemmas.{eqb_flips}
 use Rattle.shared_objects.specs.Rans.{RanKey, RanState, ran_key}
 use Rattle.shared_objects.specs.Shared.{HandsOut, HaveStopped, IsBackStopped, IsOut, SameShared, TakesBack, ran_key_at}
 use Rattle.shared_objects.specs.declared.locks.Locks.{Locks}
 use Rattle.shared_objects.specs.declared.shared.Shared.{Shared}
 use Rattle.task_core.specs.declared.Opened.{Opened}
 use Rattle.bio_workers.specs.Hands.{AreOut, numbers}
-
-eqb_flips : (x y : ℕ) → eqb x y ≡ eqb y x
-eqb_flips x y = elim (eqb_tells x y) [ inl t ↦ ap (λ n. eqb x n) (sym t.1) ∙ ap (λ n. eqb n x) t.1 | inr t ↦ t.0 ∙ sym (ne_eqb y x (λ e. t.1 (sym e))) ]
 
 -- one more number, which is none of them
 one_more : (xs : List ℕ) (n : ℕ) → IsDistinct eqb xs → All (λ x. eqb n x ≡ false) xs → IsDistinct eqb (xs ++ n ∷ [])

@@ -36,6 +36,7 @@ use Rattle.decl_text.proofs.SplitLemmas.{none_found}
 use Rattle.decl_text.specs.Reading.{NonePass, is_work_line}
 use Rattle.fail_script.specs.Script.{Answers}
 use Rattle.stack_base.specs.declared.ids.PoolId.{PoolId}
+use Rattle.stack_base.proofs.ListLemmas.{any_not}
 use Rattle.decl_text.proofs.Fronts.{IsFront, front_declares, line_front, nothing_front}
 use Rattle.decl_text.proofs.Unrefused.{finds_nothing, kept_in_front, line_passes}
 
@@ -135,11 +136,6 @@ fit_more devices device number next all one (last at is) = subst IsFitDevice is 
 none_is : {X : Type 0} (o : Option X) → is_some o ≡ false → o ≡ None
 none_is None never = refl
 none_is (Some x) never = cc
-
-any_not : {X : Type 0} (p : X → Bool) (xs : List X) (i : ℕ) (x : X) → list_any p xs ≡ false → slice_get xs i ≡ Some x → p x ≡ false
-any_not p [] i x none found = absurd (grind arith)
-any_not p (y ∷ ys) zero x none found = ap p (sym (same_Some y x found)) ∙ (or_parts (p y) (list_any p ys) none).0
-any_not p (y ∷ ys) (suc i) x none found = any_not p ys i x (or_parts (p y) (list_any p ys) none).1 found
 
 named_by_none : (devices : List Declared) (name : List ℕ) (i : ℕ) (device : Declared) → is_some (device_of devices name) ≡ false → slice_get devices i ≡ Some device → device.name ≡ name → ⊥
 named_by_none devices name i device free found same =

@@ -11,16 +11,9 @@ use Rattle.stack_base.specs.declared.stack.Device.{Device}
 use Rattle.stack_base.specs.declared.stack.Stack.{Stack}
 use Rattle.stack_base.specs.Tree.{Tree, Leaf, over_shape, over, tree}
 use Rattle.stack_base.proofs.Unfolded.{GoesDown, tree_going_down}
+use Rattle.stack_base.proofs.ListLemmas.{map_same}
 use Rattle.decl_text.specs.Known.{grown, tree_over, trees, tree_of}
 use Rattle.decl_text.specs.Accepting.{what_of, shown, shown_devices}
-
--- two functions that agree at the elements of a list make one list of it
-map_same : {A B : Type 0} (f g : A → B) (xs : List A) → ((i : ℕ) (x : A) → slice_get xs i ≡ Some x → f x ≡ g x) → map f xs ≡ map g xs
-map_same f g [] same = refl
-map_same f g (x ∷ xs) same =
-    let first : f x ≡ g x = same 0 x refl in
-    let rest : map f xs ≡ map g xs = map_same f g xs (λ i y is. same (suc i) y is) in
-    cc
 
 -- the first of what is left, and the rest of it
 at_front : {A : Type 0} (n : ℕ) (xs : List A) (d : A) (ds : List A) → drop n xs ≡ d ∷ ds → (slice_get xs n ≡ Some d) × (drop (suc n) xs ≡ ds)

@@ -1,15 +1,16 @@
 -- The fragments of a run, sorted by rank, stand in the one order that they have.
-use Rattle.std.proofs.Common.{◌≡◌, ◌↔◌, ℕ, ◌^◌, ◌<◌, List, length, get_or, map, eqb, sym, ◌∙◌, inl, inr, arith}
+use Rattle.std.proofs.Common.{◌≡◌, ◌↔◌, ℕ, ◌^◌, ◌<◌, List, length, get_or, map, eqb, arith}
 use Rattle.std.specs.Prelude.{Contains}
 use Rattle.std.specs.List.{AllPairs, IsDistinct}
 use Rattle.std.specs.List.Sorted.{IsPermutation, IsNonDecreasing, IsNonDecreasingBy, IsStrictlyIncreasing}
-use Rattle.std.proofs.lemmas.Bool.{cases_eq, eq-eqb, ne_eqb}
+use Rattle.std.proofs.lemmas.Bool.{ne_eqb}
 use Rattle.std.proofs.lemmas.List.{length-map, get_or-map}
 use Rattle.std.proofs.lemmas.List.Elements.{Contains-get_or}
 use Rattle.std.proofs.lemmas.List.Sorted.{IsPermutation-map, IsPermutation-sym, Contains-permutation}
 use Rattle.std.proofs.lemmas.Map.Keys.{IsDistinct-from_apart, IsDistinct-IsPermutation, IsStrictlyIncreasing-from_distinct}
 use Rattle.std.proofs.lemmas.Nat.{same_from_place}
 use Rattle.stack_base.specs.Tree.{Tree}
+use Rattle.stack_base.proofs.NumberLemmas.{eqb_flips}
 use Rattle.layout_model.specs.declared.fragment.Fragment.{Fragment}
 use Rattle.layout_model.specs.Fragments.{IsFragmentOf, AreOther, rank, AreFragments}
 use Rattle.layout_model.specs.Plan.{frags}
@@ -22,13 +23,6 @@ rank_apart : (a b : Fragment) → a.disk.0 < 2 ^ 32 → b.disk.0 < 2 ^ 32 → Ar
 rank_apart a b small also other same =
     let parts = same_from_place a.offset a.disk.0 b.offset b.disk.0 (2 ^ 32) small also same in
     other parts.0 parts.1
-
--- two numbers are equal from either side
-eqb_flips : (x y : ℕ) → eqb x y ≡ eqb y x
-eqb_flips x y = elim (cases_eq x y) [
-  | inl same ↦ eq-eqb x y same ∙ sym (eq-eqb y x (sym same))
-  | inr other ↦ ne_eqb x y other ∙ sym (ne_eqb y x (λ same. other (sym same)))
-]
 
 -- ranks of a list whose fragments are different are different
 ranks_distinct : (fragments : List Fragment) → ((f : Fragment) → Contains fragments f → f.disk.0 < 2 ^ 32) → AllPairs AreOther fragments → IsDistinct eqb (map rank fragments)

@@ -5,7 +5,7 @@ use Rattle.std.proofs.lemmas.List.Sums.{sum_by_push, sum_by-append, sum_by-cons}
 use Rattle.image_lanes.specs.Lanes.{sectors, sectors_differ, unlike_of}
 use Rattle.image_lanes.proofs.SectorLemmas.{unlike_more}
 use Rattle.model_disks.specs.Runs.{flag, runs_from}
-use Rattle.model_disks.proofs.PageLemmas.{range_more}
+use Rattle.stack_base.proofs.ListLemmas.{range_more}
 use Rattle.model_disks.proofs.WrittenLemmas.{no_runs, range_append}
 
 pub count_more : (f : ℕ → Bool) (n : ℕ) → count_by f (range_with_len 0 (n + 1)) ≡ count_by f (range_with_len 0 n) + cond (f n) 1 0

@@ -1,5 +1,5 @@
 -- Pages that change slots, and words that are written in them.
-use Rattle.std.proofs.Common.{◌≡◌, ◌⊎◌, ◌+◌, ◌-◌, ◌*◌, ◌/◌, ◌%◌, ◌^◌, ◌<◌, ◌≤◌, ◌++◌, ℕ, List, [], ◌∷◌, get_or, length, take, drop, map, replicate, inl, inr, refl, sym, ap, zero-add, ◌∙◌, arith, length-drop}
+use Rattle.std.proofs.Common.{◌≡◌, ◌⊎◌, ◌+◌, ◌-◌, ◌*◌, ◌/◌, ◌%◌, ◌^◌, ◌<◌, ◌≤◌, ℕ, List, get_or, length, take, drop, map, replicate, inl, inr, refl, sym, ap, zero-add, ◌∙◌, arith, length-drop}
 use Rattle.std.specs.Prelude.{slice_set}
 use Rattle.std.specs.List.{range_with_len}
 use Rattle.std.proofs.lemmas.Bool.{cases_lt, cases_eq, eq-eqb, ne_eqb}
@@ -9,7 +9,6 @@ use Rattle.stack_base.specs.Words.{sector_from, zero_sector}
 use Rattle.model_disks.specs.Kept.{grown}
 use Rattle.model_disks.specs.Paged.{number_at, sector_in, word_place, swapped_slot, AreInverse, IsExchanged, AreSwapped, AreInOrder, ArePaged, AreSame}
 use Rattle.model_disks.proofs.GrownLemmas.{length_grown}
-use Rattle.model_disks.proofs.WrittenLemmas.{range_append}
 
 -- the first of two slots stands where the other was
 pub turned_other : (one other : ℕ) → swapped_slot one other other ≡ one
@@ -229,9 +228,6 @@ paged_grown room new_room words slots owners new_slots new_owners count pages in
       within = omega (arith, long, few, fits, same);
       fits = omega (arith, pages.fits, same, more);
     }
-
-pub range_more : (n : ℕ) → range_with_len 0 (n + 1) ≡ range_with_len 0 n ++ n ∷ []
-range_more n = range_append 0 n 1 ∙ ap (λ (m : ℕ). range_with_len 0 n ++ m ∷ []) (omega arith)
 
 -- each page in the slot of its own number
 pub inverse_in_turn : (slots owners : List ℕ) (count : ℕ) → slots ≡ range_with_len 0 count → owners ≡ range_with_len 0 count → AreInverse slots owners

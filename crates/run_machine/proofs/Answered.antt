@@ -1,11 +1,12 @@
 -- An event tells its reply, and a reply what it makes of the objects.
-use Rattle.std.proofs.Common.{◌≡◌, ℕ, Bool, true, false, List, [], ◌∷◌, Option, None, Some, refl, sym, ap, ◌∙◌, arith}
+use Rattle.std.proofs.Common.{◌≡◌, ℕ, Bool, true, false, Option, None, Some, refl, sym, ap, ◌∙◌, arith}
 use Rattle.std.specs.Prelude.{slice_get}
 use Rattle.std.proofs.lemmas.Bool.{true≢false}
 use Rattle.elem_ledger.specs.Ledger.{LedgerId}
 use Rattle.stack_base.specs.declared.ids.PoolId.{PoolId}
 use Rattle.stack_base.specs.declared.ids.Status.{Status}
 use Rattle.stack_base.specs.declared.ids.Status.TheVariants as status
+use Rattle.stack_base.proofs.ListLemmas.{first_or, behind_first}
 use Rattle.bio_records.specs.declared.bio.Pad.{Pad}
 use Rattle.bio_records.specs.Items.{Item}
 use Rattle.bio_books.specs.Books.{SlipItem, Node, BookState, node_at}
@@ -52,14 +53,6 @@ is_told (Some told) = true
 -- what is not told is no event
 untold : {P : Type 0} (told : Option What) (event : What) → is_told told ≡ false → told ≡ Some event → P
 untold told event not is = absurd (true≢false (sym (ap is_told is) ∙ not))
-
-abbrev first_or : {X : Type 0} → X → List X → X
-first_or x [] = x
-first_or x (y ∷ ys) = y
-
-abbrev behind_first : {X : Type 0} → List X → List X
-behind_first [] = []
-behind_first (y ∷ ys) = ys
 
 abbrev some_or : {X : Type 0} → X → Option X → X
 some_or x None = x

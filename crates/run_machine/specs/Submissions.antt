@@ -65,6 +65,12 @@ doing_breach (Breaks breach kept) = Some breach
 abbrev pub first_length : Kind → List ℕ → Range → ℕ
 first_length kind sizes range = min (next kind sizes range.start - range.start) range.len
 
+-- whether a device cuts a run: the run is more than its first piece there
+abbrev pub is_cut : Tree → Range → Bool
+is_cut (Leaf number sectors) range = false
+is_cut (Mirrored number sizes members) range = false
+is_cut (Split number kind sizes members) range = not (first_length kind sizes range == range.len)
+
 -- a bio as the member gets it that it goes to (`bio_set_dev` and `bi_sector`, drivers/md/raid0.c)
 abbrev pub mapped : Slot → (ℕ → Tree) → Bio → Bio
 mapped to members bio =

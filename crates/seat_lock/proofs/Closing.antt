@@ -1,5 +1,5 @@
 -- Splits, joins and the close keep the rule of a lock's table.
-use Rattle.std.proofs.Common.{◌≡◌, ℕ, ◌+◌, ◌%◌, ◌<◌, inl, inr, ⊎_elim, true, false, List, [], ◌∷◌, ◌++◌, None, arith, refl, sym, ◌∙◌, ap, subst, nat_lt, eq-eqb}
+use Rattle.std.proofs.Common.{◌≡◌, ℕ, ◌+◌, ◌%◌, ◌<◌, inl, inr, ⊎_elim, true, false, List, [], ◌∷◌, ◌++◌, None, arith, refl, sym, ◌∙◌, ap, subst, nat_lt, eq-eqb, true≢false}
 use Rattle.std.specs.Prelude.{sum_by, slice_set, slice_index}
 use Rattle.std.proofs.Math.Decide.{ℕ_discrete}
 use Rattle.std.proofs.Math.Logic.{dite}
@@ -19,7 +19,7 @@ use Rattle.seat_lock.specs.Seats.{is_first, split_of, own}
 use Rattle.seat_lock.specs.Turning.{around, is_live, firsts_of, others_of, out_of, firsts, others, split_by, joined_by, out, has_number, HasTurn, Stands, Knows, IsServed, IsTurning, first_after_split, new_view, joined_view, spent_view, Learnt}
 use Rattle.seat_lock.proofs.Sums.{sum_by-put, sum_by-at, sum_by-two, sum_none, put_all, tail_all}
 use Rattle.seat_lock.proofs.Histories.{count_one, count_append, calls_by-append, none_of, nil_left, longer_is, squeeze, nothing, all_calls, all_none, all_prefix}
-use Rattle.seat_lock.proofs.Turns.{true_not, idle_not, no_split, not_live, first_more, first_live, plain_other, one_most, number_step}
+use Rattle.seat_lock.proofs.Turns.{idle_not, no_split, not_live, first_more, first_live, plain_other, one_most, number_step}
 use Rattle.seat_lock.proofs.Keeping.{moved, same_place}
 
 first_same : (ws : List ℕ) (a b : ℕ) → ws ≡ a % around ∷ b % around ∷ [] → slice_set ws 0 (slice_index ws 0) ≡ a % around ∷ b % around ∷ []
@@ -63,8 +63,8 @@ module _ {T D A R M : Type 0} (plain : T → D) (mark : T → M) (answers : D �
       let none_log : calls_by ((split_of v.known.rank + 1) ∷ []) t.log ≡ [] = subst (λ n. calls_by (n ∷ []) t.log ≡ []) (sym given) (none_of t.given t.log t.made) in
       let cut : calls_by ((split_of v.known.rank + 1) ∷ []) v.known.seen ++ calls_by ((split_of v.known.rank + 1) ∷ []) k.prefix.0 ≡ [] = sym (calls_by-append ((split_of v.known.rank + 1) ∷ []) v.known.seen k.prefix.0) ∙ ap (calls_by ((split_of v.known.rank + 1) ∷ [])) (sym k.prefix.1) ∙ none_log in
       let none_seen : calls_by ((split_of v.known.rank + 1) ∷ []) v.known.seen ≡ [] = nil_left (calls_by ((split_of v.known.rank + 1) ∷ []) v.known.seen) (calls_by ((split_of v.known.rank + 1) ∷ []) k.prefix.0) cut in
-      let knows_u : Knows t.served t.drawn t.log key u = record { start = λ _. k.start live.0; prefix = k.prefix; own_calls = k.own_calls; own_number = λ _. k.own_number live.0; spent = λ d. absurd (true_not (sym live.1 ∙ d)); parts = k.parts; stands = k.stands } in
-      let knows_w : Knows t.served t.drawn t.log key w = record { start = λ _. k.start live.0; prefix = k.prefix; own_calls = none_log ∙ sym none_seen; own_number = λ _. count_one (split_of v.known.rank + 1) (split_of v.known.rank + 1) ∙ ap indicator (eq-eqb (split_of v.known.rank + 1) (split_of v.known.rank + 1) refl); spent = λ d. absurd (true_not d); parts = (((v.known.seen, refl), none_seen), ((v.known.seen, refl), all_none v.known.seen)); stands = tt } in
+      let knows_u : Knows t.served t.drawn t.log key u = record { start = λ _. k.start live.0; prefix = k.prefix; own_calls = k.own_calls; own_number = λ _. k.own_number live.0; spent = λ d. absurd (true≢false (sym live.1 ∙ d)); parts = k.parts; stands = k.stands } in
+      let knows_w : Knows t.served t.drawn t.log key w = record { start = λ _. k.start live.0; prefix = k.prefix; own_calls = none_log ∙ sym none_seen; own_number = λ _. count_one (split_of v.known.rank + 1) (split_of v.known.rank + 1) ∙ ap indicator (eq-eqb (split_of v.known.rank + 1) (split_of v.known.rank + 1) refl); spent = λ d. absurd (true≢false d); parts = (((v.known.seen, refl), none_seen), ((v.known.seen, refl), all_none v.known.seen)); stands = tt } in
       record {
         log = t.log;
         served = t.served;
@@ -126,11 +126,11 @@ module _ {T D A R M : Type 0} (plain : T → D) (mark : T → M) (answers : D �
         prefix = l.2;
         own_calls = both;
         own_number = λ _. omega (arith, count_append v.known.number v.known.numbers w.known.numbers, two, one, t.numbers v.known.number, one_most (nat_lt v.known.number t.given));
-        spent = λ d. absurd (true_not (sym live ∙ d));
+        spent = λ d. absurd (true≢false (sym live ∙ d));
         parts = ((l.0, mine.0), (l.1, theirs.0));
         stands = subst (Stands t.served t.drawn t.log u.known.seen) (sym idle) tt;
       } in
-      let knows_s : Knows t.served t.drawn t.log key spent_view = record { start = λ d. absurd (true_not (sym d)); prefix = (t.log, refl); own_calls = all_none t.log; own_number = λ d. absurd (true_not (sym d)); spent = λ _. (refl, refl); parts = tt; stands = tt } in
+      let knows_s : Knows t.served t.drawn t.log key spent_view = record { start = λ d. absurd (true≢false (sym d)); prefix = (t.log, refl); own_calls = all_none t.log; own_number = λ d. absurd (true≢false (sym d)); spent = λ _. (refl, refl); parts = tt; stands = tt } in
       let still = λ (i : ℕ) (x : View T A R) (a : get_elem? (slice_set (slice_set s.views id u) other spent_view) i ≡ some x) (n : ℕ) (h : HasTurn n x.phase).
       still_there s id other v u e idle n i x a h in
       record {

@@ -1,5 +1,5 @@
 -- The steps of a call keep the rule of a lock's table.
-use Rattle.std.proofs.Common.{◌≡◌, ◌≢◌, ℕ, zero, suc, ◌+◌, ◌%◌, ◌≤◌, ◌<◌, inl, inr, ⊎_elim, true, List, [], ◌∷◌, ◌++◌, Some, None, All, arith, refl, sym, ◌∙◌, ap, subst, nat_lt}
+use Rattle.std.proofs.Common.{◌≡◌, ◌≢◌, ℕ, zero, suc, ◌+◌, ◌%◌, ◌≤◌, ◌<◌, inl, inr, ⊎_elim, true, List, [], ◌∷◌, ◌++◌, Some, None, All, arith, refl, sym, ◌∙◌, ap, subst, nat_lt, true≢false}
 use Rattle.std.specs.Prelude.{sum_by, slice_set, slice_index}
 use Rattle.std.proofs.Math.Nat.{mod-add-mod}
 use Rattle.std.proofs.Math.Decide.{ℕ_discrete}
@@ -21,7 +21,7 @@ use Rattle.seat_lock.specs.Seats.{split_of, own, call_of, Calls}
 use Rattle.seat_lock.specs.Turning.{around, FoundTurn, WaitsFor, is_live, firsts_of, others_of, out_of, firsts, others, split_by, joined_by, out, has_number, HasTurn, Stands, Knows, IsServed, Place, IsTurning, first_view, Drew, Looked, IsLeftBy, served_view, entries, passed_on, Passed, after_call, HasThing}
 use Rattle.seat_lock.proofs.Sums.{sum_by-put, sum_by-at, sum_by-two, sum_by-most, sum_of, set_at, put_all}
 use Rattle.seat_lock.proofs.Histories.{all_one, calls_by-append, call_is_own, call_is_other, prefix_snoc, prefix_same, leads_snoc}
-use Rattle.seat_lock.proofs.Turns.{true_not, live_out, turn_in, idle_not, waiting_not, later_stands, steps_on, waiting_is, not_next, one_most, below, number_one}
+use Rattle.seat_lock.proofs.Turns.{live_out, turn_in, idle_not, waiting_not, later_stands, steps_on, waiting_is, not_next, one_most, below, number_one}
 
 -- the words after a step
 pub first_word : (ws : List ℕ) (a b : ℕ) → ws ≡ a % around ∷ b % around ∷ [] → slice_set ws 0 ((slice_index ws 0 + 1) % around) ≡ (a + 1) % around ∷ b % around ∷ []
@@ -39,7 +39,7 @@ module _ {T A R : Type 0} (key : Snapshot T) where
   one_is (suc i) v e = absurd (some-ne-none v (sym e))
 
   one_knows : Knows 0 0 [] key (first_view {A = A} {R = R} key)
-  one_knows = record { start = λ _. refl; prefix = prefix_same []; own_calls = refl; own_number = λ _. refl; spent = λ d. absurd (true_not d); parts = tt; stands = tt }
+  one_knows = record { start = λ _. refl; prefix = prefix_same []; own_calls = refl; own_number = λ _. refl; spent = λ d. absurd (true≢false d); parts = tt; stands = tt }
 
   one_view : (i : ℕ) (v : View T A R) → get_elem? (first_view key ∷ []) i ≡ some v → Knows 0 0 [] key v
   one_view i v e = subst (Knows 0 0 [] key) (sym (one_is i v e)) one_knows
@@ -109,7 +109,7 @@ module _ {T D A R M : Type 0} (plain : T → D) (mark : T → M) (answers : D �
       let w : View T A R = record m.0 { phase = Waiting t.drawn } in
       let not_serving : m.0.phase ≡ Serving t.served → ⊥ = λ h. idle_not t.served (sym idle ∙ h) in
       let few = out_few s t in
-      let knows : Knows t.served (t.drawn + 1) t.log key w = record { start = k.start; prefix = k.prefix; own_calls = k.own_calls; own_number = k.own_number; spent = λ h. absurd (true_not (sym live ∙ h)); parts = k.parts; stands = (omega (arith, t.turns_out), omega arith) } in
+      let knows : Knows t.served (t.drawn + 1) t.log key w = record { start = k.start; prefix = k.prefix; own_calls = k.own_calls; own_number = k.own_number; spent = λ h. absurd (true≢false (sym live ∙ h)); parts = k.parts; stands = (omega (arith, t.turns_out), omega arith) } in
       let t' = moved s t id m.0 w e (slice_set s.words 0 ((slice_index s.words 0 + 1) % around)) s.homes t.log t.served (t.drawn + 1)
       (first_word s.words t.drawn t.served t.words)
       (same_place t.log t.served s.homes s.views id m.0 w e not_serving (λ h. waiting_not t.drawn t.served h) t.place)
@@ -156,7 +156,7 @@ module _ {T D A R M : Type 0} (plain : T → D) (mark : T → M) (answers : D �
         (same_word s.words t.drawn t.served t.words)
         (inr (ap (λ (hs : List (option.Option T)). slice_set hs 0 none) homes, (id, w, set_at s.views id m.0 w e, ap Serving here)))
         (λ j u ne a. t.each j u a)
-        (record { start = kn.start; prefix = prefix_same t.log; own_calls = refl; own_number = kn.own_number; spent = λ d. absurd (true_not (sym live ∙ d)); parts = tt; stands = (here, stands.1, refl) })
+        (record { start = kn.start; prefix = prefix_same t.log; own_calls = refl; own_number = kn.own_number; spent = λ d. absurd (true≢false (sym live ∙ d)); parts = tt; stands = (here, stands.1, refl) })
         (λ j u n ne a x y. t.apart j id u m.0 n ne a e y (turn_is n x))
         (omega (arith, ap out_of waiting))
         refl refl refl t.made in (
@@ -226,7 +226,7 @@ module _ {T D A R M : Type 0} (plain : T → D) (mark : T → M) (answers : D �
         prefix = ([], sym seen ∙ sym (append-nil w.known.seen));
         own_calls = ap (calls_by m.0.known.numbers) (sym seen);
         own_number = kn.own_number;
-        spent = λ d. absurd (true_not (sym live ∙ d));
+        spent = λ d. absurd (true≢false (sym live ∙ d));
         parts = tt;
         stands = tt;
       } in

@@ -1,5 +1,5 @@
 -- Phases, ranks and numbers of seats.
-use Rattle.std.proofs.Common.{◌≡◌, ◌≢◌, ℕ, zero, suc, ◌+◌, ◌≤◌, ◌<◌, Bool, true, false, List, [], ◌∷◌, ◌++◌, arith, refl, sym, ◌∙◌, ap, ne_eqb, eq-eqb, nat_lt}
+use Rattle.std.proofs.Common.{◌≡◌, ◌≢◌, ℕ, zero, suc, ◌+◌, ◌≤◌, ◌<◌, Bool, true, false, List, [], ◌∷◌, ◌++◌, arith, refl, sym, ◌∙◌, ap, ne_eqb, eq-eqb, nat_lt, true≢false}
 use Rattle.std.specs.Prelude.{sum_by}
 use Rattle.std.proofs.lemmas.Bool.{lt-ltb, le-ltb, ltb-true}
 use Rattle.std.proofs.Math.Decide.{dec_le, ℕ_discrete}
@@ -13,9 +13,6 @@ use Rattle.seat_lock.specs.History.{indicator, count}
 use Rattle.seat_lock.specs.Seats.{is_first, split_of, one_more}
 use Rattle.seat_lock.specs.Turning.{is_live, firsts_of, others_of, out_of, HasTurn, Stands}
 use Rattle.seat_lock.proofs.Histories.{count_one}
-
-pub true_not : true ≡ false → ⊥
-true_not e = cc
 
 -- phases
 out_most : (p : Phase) → out_of p ≤ 1
@@ -88,18 +85,18 @@ not_live Spent h k = refl
 
 pub first_more : (r : Rank) → is_first r ≡ true → (firsts_of (one_more r) ≡ firsts_of r) × (others_of (one_more r) ≡ others_of r) × (split_of (one_more r) ≡ split_of r + 1) × (firsts_of r ≡ 1)
 first_more (First n) h = (refl, refl, refl, refl)
-first_more Other h = absurd (true_not (sym h))
-first_more Spent h = absurd (true_not (sym h))
+first_more Other h = absurd (true≢false (sym h))
+first_more Spent h = absurd (true≢false (sym h))
 
 pub first_live : (r : Rank) → is_first r ≡ true → (is_live r ≡ true) × (is_live (one_more r) ≡ true)
 first_live (First n) h = (refl, refl)
-first_live Other h = absurd (true_not (sym h))
-first_live Spent h = absurd (true_not (sym h))
+first_live Other h = absurd (true≢false (sym h))
+first_live Spent h = absurd (true≢false (sym h))
 
 pub plain_other : (r : Rank) → is_first r ≡ false → is_live r ≡ true → (firsts_of r ≡ 0) × (others_of r ≡ 1) × (split_of r ≡ 0)
-plain_other (First n) h l = absurd (true_not h)
+plain_other (First n) h l = absurd (true≢false h)
 plain_other Other h l = (refl, refl, refl)
-plain_other Spent h l = absurd (true_not (sym l))
+plain_other Spent h l = absurd (true≢false (sym l))
 
 -- numbers that were given
 pub one_most : (b : Bool) → indicator b ≤ 1

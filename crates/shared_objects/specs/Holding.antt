@@ -9,8 +9,6 @@ use Rattle.stack_base.specs.declared.ids.DevId.{DevId}
 use Rattle.stack_base.specs.declared.ids.PoolId.TheVariants.{FsVecs, Records}
 use Rattle.stack_base.specs.declared.ids.SetId.{SetId}
 use Rattle.stack_base.specs.PoolId.{pool_number}
-use Rattle.bio_records.specs.declared.bio.Slip.{Slip}
-use Rattle.bio_records.specs.declared.segment.Vector.{Vector}
 use Rattle.bioset_pools.specs.Sets.{bios_of}
 use Rattle.run_machine.specs.Laws.{Object, OfPool, OfRescuer, OfDisk, OfBook, OfTally}
 use Rattle.run_machine.specs.Opened.{at}
@@ -120,10 +118,3 @@ calls_of seats = record {
 
 abbrev pub desk_of : TaskSeats → DeskState
 desk_of seats = record { number = seats.number + 1; pass = seats.pass; calls = calls_of seats }
-
--- vectors and records as pools hand them out
-abbrev pub IsClearVector : Vector → Type 0
-IsClearVector vector = vector.segments.items ≡ []
-
-abbrev pub IsClearSlip : Slip → Type 0
-IsClearSlip slip = slip ≡ record { legs = 0 }

@@ -1,6 +1,6 @@
 //! The objects, as one task asks them by seats that it lends.
 ghost use Rattle.std.specs.Prelude.{◌≡◌, IsTrue};
-ghost use Rattle.bio_records.specs.Clear.{IsClearBody};
+ghost use Rattle.bio_records.specs.Clear.{IsClearBody, IsClearSlip, IsClearVector};
 ghost use Rattle.run_machine.specs.Laws.{OfPool, OfRescuer, OfDisk, OfBook, OfTally, object_of};
 ghost use Rattle.task_steps.specs.Stage.{RequestFits, Owes, has_book, has_disk, has_rescuer, is_bios, is_slips};
 ghost use Rattle.object_things.specs.Books.{BookAskAlone, BookSays, book_asked, book_replied};
@@ -9,7 +9,7 @@ ghost use Rattle.object_things.specs.Lists.{ListSays, list_asked, list_replied};
 ghost use Rattle.object_things.specs.Pools.{PoolAskFits, PoolSays, pool_asked, pool_replied};
 ghost use Rattle.object_things.specs.Tallies.{TallySays, tally_asked, tally_replied};
 ghost use Rattle.shared_objects.specs.Callers.{CallerHasCalled};
-ghost use Rattle.shared_objects.specs.Holding.{DeskHolds, IsClearSlip, IsClearVector, stage_at};
+ghost use Rattle.shared_objects.specs.Holding.{DeskHolds, stage_at};
 
 pub mod objects;
 pub mod steps;

@@ -58,7 +58,7 @@ sum_agree f g (x ∷ xs) same =
     omega (arith, sum_by-cons f x xs, sum_by-cons g x xs, same 0 x refl, sum_agree f g xs (λ i m is. same (suc i) m is))
 
 -- the device of a number
-abbrev device : ℕ → DevId
+abbrev pub device : ℕ → DevId
 device number = record { 0 = number }
 
 -- no device stands twice in the list

@@ -21,3 +21,5 @@ pub mod DeclaredKinds
 pub mod DeclaredBounds
 pub mod FaultLemmas
 pub mod NumeralLemmas
+pub mod ListLemmas
+pub mod NumberLemmas

@@ -1,5 +1,5 @@
 -- The tree of a device is the device over the trees of its members.
-use Rattle.std.proofs.Common.{◌≡◌, ℕ, zero, suc, ◌+◌, ◌<◌, List, [], ◌∷◌, map, Option, None, Some, refl, ap, ◌∙◌, add-one, arith}
+use Rattle.std.proofs.Common.{◌≡◌, ℕ, zero, suc, ◌+◌, ◌<◌, List, map, Option, None, Some, refl, ap, ◌∙◌, add-one, arith}
 use Rattle.std.specs.Prelude.{slice_get}
 use Rattle.std.proofs.lemmas.Simd.{map-map}
 use Rattle.stack_base.specs.declared.ids.DevId.{DevId}
@@ -10,14 +10,7 @@ use Rattle.stack_base.specs.declared.stack.Stack.{Stack}
 use Rattle.stack_base.specs.Mapping.{size_of}
 use Rattle.stack_base.specs.Tree.{Tree, size, over_shape, over, built, tree_below, tree}
 use Rattle.stack_base.specs.Stack.{IsStack}
-
--- two functions that agree at the elements of a list make one list of it
-map_same : {A B : Type 0} (f g : A → B) (xs : List A) → ((i : ℕ) (x : A) → slice_get xs i ≡ Some x → f x ≡ g x) → map f xs ≡ map g xs
-map_same f g [] same = refl
-map_same f g (x ∷ xs) same =
-    let first : f x ≡ g x = same 0 x refl in
-    let rest : map f xs ≡ map g xs = map_same f g xs (λ i y is. same (suc i) y is) in
-    cc
+use Rattle.stack_base.proofs.ListLemmas.{map_same}
 
 -- a device is the same over functions that agree at its members
 built_same :

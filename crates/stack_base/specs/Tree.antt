@@ -6,6 +6,7 @@ use Rattle.stack_base.specs.declared.stack.Kind.TheVariants.{Disk, Linear, Strip
 use Rattle.stack_base.specs.declared.stack.Device.{Device}
 use Rattle.stack_base.specs.declared.stack.Stack.{Stack}
 use Rattle.stack_base.specs.Mapping.{size_of, smallest}
+use Rattle.stack_base.specs.declared.ids.DevId.{DevId}
 
 -- a disk; a device that cuts a run into pieces, each for one member; and a device that gives a run to every member.
 -- A device has its number, the sizes of its members and the members by their places.
@@ -58,6 +59,10 @@ tree_below (suc bound) stack number = built number (slice_get stack.devices.item
 -- the tree of a device: its members have smaller numbers
 abbrev pub tree : Stack → ℕ → Tree
 tree stack number = tree_below (number + 1) stack number
+
+-- the sizes of the members of a device
+abbrev pub sizes_at : Stack → Device → List ℕ
+sizes_at stack device = map (λ (m : DevId). size (tree stack m.0)) device.members.items
 
 -- how many elements can begin at one sector of a run, at the most: one bio where a device cuts, a record and a clone a member where it copies
 unfoldable pub weight : Tree → ℕ

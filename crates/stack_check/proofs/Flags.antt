@@ -3,6 +3,7 @@ use Rattle.std.proofs.Common.{◌≡◌, ◌≤◌, ℕ, ◌+◌, ◌==◌, ◌|
 use Rattle.std.specs.List.{list_any}
 use Rattle.std.proofs.lemmas.Bool.{cases_eq, eq-eqb, ne_eqb}
 use Rattle.std.proofs.lemmas.List.{get_or-set_same, get_or-set_other, at_drop_more, at_drop_all}
+use Rattle.stack_base.proofs.ListLemmas.{any_or}
 use Rattle.decl_text.specs.Checks.{is_among, repeats}
 
 -- the flag of a number
@@ -24,11 +25,6 @@ or_swap true b r c d is = refl
 or_swap false true r true d is = refl
 or_swap false true r false d is = refl
 or_swap false false r c d is = is
-
--- a list has what is one of two things where it has the one or the other
-any_or : {X : Type 0} (p q : X → Bool) (xs : List X) → list_any (λ x. p x || q x) xs ≡ (list_any p xs || list_any q xs)
-any_or p q [] = refl
-any_or p q (x ∷ xs) = or_swap (p x) (q x) (list_any (λ y. p y || q y) xs) (list_any p xs) (list_any q xs) (any_or p q xs)
 
 any_agree : {X : Type 0} (p q : X → Bool) (xs : List X) → ((x : X) → p x ≡ q x) → list_any p xs ≡ list_any q xs
 any_agree p q [] same = refl

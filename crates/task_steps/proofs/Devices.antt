@@ -5,6 +5,7 @@ use Rattle.std.specs.Option.{option_map_or}
 use Rattle.std.proofs.lemmas.List.{length-map, get_or-map}
 use Rattle.std.proofs.lemmas.Option.{slice_get-get_or, slice_get_cases, slice_get_within, get_or_from_slice_get}
 use Rattle.stack_base.specs.declared.ids.DevId.{DevId}
+use Rattle.stack_base.specs.declared.ids.Range.{Range}
 use Rattle.stack_base.specs.declared.ids.SetId.TheVariants.{Of}
 use Rattle.stack_base.specs.declared.mapping.Piece.{Piece}
 use Rattle.stack_base.specs.declared.stack.Device.{Device}
@@ -14,7 +15,7 @@ use Rattle.stack_base.specs.declared.stack.Stack.{Stack}
 use Rattle.stack_base.specs.Mapping.{size_of, smallest}
 use Rattle.stack_base.specs.Piece.{IsPiece}
 use Rattle.stack_base.specs.Stack.{IsStack}
-use Rattle.stack_base.specs.Tree.{Tree, Leaf, Split, Mirrored, Shape, Keeps, Cuts, Copies, shape_of, member_at, size, tree}
+use Rattle.stack_base.specs.Tree.{Tree, Leaf, Split, Mirrored, Shape, Keeps, Cuts, Copies, shape_of, member_at, size, tree, sizes_at}
 use Rattle.stack_base.proofs.MemberSizes.{device_small}
 use Rattle.stack_base.proofs.Smallest.{smallest_le}
 use Rattle.stack_base.proofs.EvenMembers.{stripes_go_by_smallest}
@@ -32,9 +33,9 @@ use Rattle.task_steps.specs.declared.routes.driver.Driver.TheVariants as driver
 use Rattle.task_steps.specs.declared.routes.driver.Manner.{Manner}
 use Rattle.task_steps.specs.declared.routes.driver.Manner.TheVariants as manner
 use Rattle.run_machine.specs.Scene.{Setup, tree_number}
-use Rattle.run_machine.specs.Submissions.{asks_at, cut_at, leg_at, legs_of, goes_on}
-use Rattle.task_steps.specs.Within.{IsWithinDevice, first_cut, is_cut}
-use Rattle.task_steps.specs.Routed.{keeps, copies_bios, sizes_at, IsDriver, MapOf, map_of, IsFirstCut, HasNoFirst, manner_by, legs_by, IsLegBy, manner_of, asked_by, IsManner, sent, IsCutAt, IsLegAt}
+use Rattle.run_machine.specs.Submissions.{asks_at, cut_at, leg_at, legs_of, goes_on, is_cut}
+use Rattle.task_steps.specs.Within.{IsWithinDevice, first_cut}
+use Rattle.task_steps.specs.Routed.{keeps, copies_bios, IsDriver, MapOf, map_of, IsFirstCut, HasNoFirst, manner_by, legs_by, IsLegBy, manner_of, asked_by, IsManner, sent, IsCutAt, IsLegAt}
 use Rattle.run_machine.proofs.TreeNumbers.{number_of_tree}
 use Rattle.task_steps.proofs.StripeSizes.{piece_of_equal}
 
@@ -235,12 +236,19 @@ cut_made setup lists item hand node (Split number kind sizes members) cut e =
 not_same : (a b : ℕ) → not (a == b) ≡ true → a ≢ b
 not_same a b n e = absurd (search (n, e, arith))
 
+-- a run is cut where its first piece is not all of it
+cut_by_first : (t : Tree) (range : Range) → is_cut t range ≡ option_map_or (λ (cut : Cut). not (cut.sectors == range.len)) (first_cut t range) false
+cut_by_first (Leaf number sectors) range = refl
+cut_by_first (Mirrored number sizes members) range = refl
+cut_by_first (Split number kind sizes members) range = refl
+
 -- the first piece of a bio that is cut
 pub cut_is : (setup : Setup) (stack : Stack) → IsStack stack → (bio : Bio) → IsWithinDevice stack bio → (cut : Cut) → IsFirstCut stack bio cut
     → is_cut (tree stack bio.dev.0) bio.range ≡ true → IsCutAt setup stack bio cut
 cut_is setup stack good bio within cut is more =
     let other : cut.sectors ≢ bio.range.len =
-    not_same cut.sectors bio.range.len (sym (ap (λ o. option_map_or (λ (cut : Cut). not (cut.sectors == bio.range.len)) o false) is.first) ∙ more) in
+    not_same cut.sectors bio.range.len
+    (sym (cut_by_first (tree stack bio.dev.0) bio.range ∙ ap (λ o. option_map_or (λ (cut : Cut). not (cut.sectors == bio.range.len)) o false) is.first) ∙ more) in
     let fewer : cut.sectors < bio.range.len = omega (arith, is.most, other) in
     record {
       first = is.first;
@@ -256,5 +264,6 @@ cut_is setup stack good bio within cut is more =
 -- what is cut has a first piece
 pub cut_not_none : (stack : Stack) (bio : Bio) → HasNoFirst stack bio → is_cut (tree stack bio.dev.0) bio.range ≢ true
 cut_not_none stack bio none more =
-    let e : is_cut (tree stack bio.dev.0) bio.range ≡ false = ap (λ o. option_map_or (λ (cut : Cut). not (cut.sectors == bio.range.len)) o false) none in
+    let e : is_cut (tree stack bio.dev.0) bio.range ≡ false =
+    cut_by_first (tree stack bio.dev.0) bio.range ∙ ap (λ o. option_map_or (λ (cut : Cut). not (cut.sectors == bio.range.len)) o false) none in
     absurd cc

@@ -17,9 +17,9 @@ use Rattle.bio_books.specs.Links.{Linked, Made, NoRoom, Stray}
 use Rattle.task_steps.specs.declared.routes.Cut.{Cut}
 use Rattle.run_machine.specs.Scene.{Setup, setup_of, keeps_data, is_mirror}
 use Rattle.run_machine.specs.Kept.{Kept}
-use Rattle.run_machine.specs.Submissions.{Takes, Punts, Links, ToPush, ToCut, ToRecord, ToMaster, Doing, Rests, Drives, Copies, Breaks, Submission, landed, asks_at, settled, goes_on, cut_at, legs_of, leg_at, copies, submission_request, after_chain, after_master, after_leg, at_hand, punts_of, spent, submission_answered}
+use Rattle.run_machine.specs.Submissions.{Takes, Punts, Links, ToPush, ToCut, ToRecord, ToMaster, Doing, Rests, Drives, Copies, Breaks, Submission, landed, asks_at, settled, goes_on, cut_at, legs_of, leg_at, copies, submission_request, after_chain, after_master, after_leg, at_hand, punts_of, spent, submission_answered, is_cut}
 use Rattle.run_machine.specs.Requests.{Reply, HadBio, HadSlip, Missed, Did, LinkedTo, Spent}
-use Rattle.task_steps.specs.Within.{IsWithinDevice, IsItemWithin, AreWithin, ListsAreWithin, is_handed_on, is_cut, DoingFits, SubmissionFits, AskedFits, SubmissionsStayWithin}
+use Rattle.task_steps.specs.Within.{IsWithinDevice, IsItemWithin, AreWithin, ListsAreWithin, is_handed_on, DoingFits, SubmissionFits, AskedFits, SubmissionsStayWithin}
 use Rattle.task_steps.specs.Routed.{sent, IsLanded, IsCutAt}
 use Rattle.task_steps.proofs.Landing.{first_at, lands_within}
 use Rattle.task_steps.proofs.Devices.{cut_is, cut_not_none, leg_there}

@@ -12,7 +12,7 @@ use Rattle.stack_base.specs.Cutting.{IsCut, next}
 use Rattle.stack_base.specs.Mapping.{Slot, slot, head}
 use Rattle.stack_base.specs.Piece.{IsPiece}
 use Rattle.stack_base.specs.Stack.{IsStack}
-use Rattle.stack_base.specs.Tree.{Tree, Leaf, Split, Mirrored, Shape, Keeps, Cuts, Copies, shape_of, member_at, tree}
+use Rattle.stack_base.specs.Tree.{Tree, Leaf, Split, Mirrored, Shape, Keeps, Cuts, Copies, shape_of, member_at, tree, sizes_at}
 use Rattle.stack_base.proofs.KindCuts.{kind_cuts}
 use Rattle.stack_base.proofs.Pieces.{is_piece, piece_len}
 use Rattle.layout_model.proofs.ByShape.{cuts_is, copies_is, keeps_is, member_is}
@@ -24,7 +24,7 @@ use Rattle.run_machine.specs.Scene.{tree_number}
 use Rattle.run_machine.specs.Submissions.{first_length, mapped, landed}
 use Rattle.run_machine.proofs.TreeNumbers.{number_of_tree}
 use Rattle.task_steps.specs.Within.{IsWithinDevice, first_cut, is_handed_on}
-use Rattle.task_steps.specs.Routed.{sizes_at, handed, IsFirstCut, HasNoFirst, IsBelow, Stays, IsLanded}
+use Rattle.task_steps.specs.Routed.{handed, IsFirstCut, HasNoFirst, IsBelow, Stays, IsLanded}
 
 -- a bio that is not handed on stays where it is
 pub lands_here : (t : Tree) (bio : Bio) → is_handed_on t bio.range ≡ false → landed t bio ≡ bio

@@ -8,11 +8,11 @@ use Rattle.stack_base.specs.declared.stack.Kind.TheVariants.{Stripe, Limit, Mirr
 use Rattle.stack_base.specs.declared.stack.Stack.{Stack}
 use Rattle.stack_base.specs.Mapping.{size_of, smallest}
 use Rattle.stack_base.specs.Stack.{HasShape, IsStack}
-use Rattle.stack_base.specs.Tree.{size, tree}
+use Rattle.stack_base.specs.Tree.{size, tree, sizes_at}
 use Rattle.stack_base.proofs.EvenMembers.{stripes_go_by_smallest}
 use Rattle.stack_base.proofs.Unfolded.{size-tree}
 use Rattle.task_steps.specs.declared.routes.Route.{Route}
-use Rattle.task_steps.specs.Routed.{sizes_at, IsRoute, AreRoutes}
+use Rattle.task_steps.specs.Routed.{IsRoute, AreRoutes}
 
 -- the smallest of one size is this size
 lone_smallest : (sizes : List ℕ) → length sizes ≡ 1 → smallest sizes ∷ [] ≡ sizes

@@ -27,10 +27,10 @@ use Rattle.run_machine.specs.Scene.{is_device, has_set, keeps_data, is_mirror}
 use Rattle.run_machine.specs.Requests.{Reply, HadBio, HadSlip, Missed, Did, LinkedTo, Spent}
 use Rattle.run_machine.specs.Kept.{Kept}
 use Rattle.bioset_pools.specs.Sets.{is_empty, waits_first}
-use Rattle.run_machine.specs.Submissions.{Takes, Punts, Links, ToPush, ToCut, ToRecord, ToMaster, Doing, Rests, Drives, Copies, Breaks, first_length, mapped, landed, asks_at, landed_doing, settled, goes_on, cut_at, legs_of, leg_at, copies, submission_request, after_chain, after_master, after_leg, at_hand, punts_of, spent, submission_answered}
+use Rattle.run_machine.specs.Submissions.{Takes, Punts, Links, ToPush, ToCut, ToRecord, ToMaster, Doing, Rests, Drives, Copies, Breaks, first_length, mapped, landed, asks_at, landed_doing, settled, goes_on, cut_at, legs_of, leg_at, copies, submission_request, after_chain, after_master, after_leg, at_hand, punts_of, spent, submission_answered, is_cut}
 use Rattle.task_steps.specs.Routed.{routing_setup, places_at, sent}
 use Rattle.task_steps.specs.Routed.{copies_bios as copies_shape}
-use Rattle.task_steps.specs.Within.{IsWithinDevice, IsItemWithin, ListsAreWithin, is_cut, DoingFits}
+use Rattle.task_steps.specs.Within.{IsWithinDevice, IsItemWithin, ListsAreWithin, DoingFits}
 use Rattle.task_steps.specs.Stage.{Stage, has_book, is_bios, IsHome, IsServed, AreServed, RequestFits, Owes}
 use Rattle.task_steps.specs.Homes.{IsOwned, WantFits, DoingIsHome, IsSubmissionOf, SubmissionsStayHome}
 use Rattle.task_steps.proofs.Waiting.{BothHave, all_ordered, all_submitted, all_punted, all_unpunted}

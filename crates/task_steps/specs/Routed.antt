@@ -1,5 +1,5 @@
 -- The drivers of a stack, and what they say of a bio.
-use Rattle.std.specs.Prelude.{◌≡◌, ◌+◌, ◌-◌, ◌^◌, ◌<◌, ◌≤◌, ℕ, Bool, true, false, List, [], ◌∷◌, map, length, replicate, slice_get, slice_index_or, IsSomeAnd, Option, None, Some}
+use Rattle.std.specs.Prelude.{◌≡◌, ◌+◌, ◌-◌, ◌^◌, ◌<◌, ◌≤◌, ℕ, Bool, true, false, List, [], ◌∷◌, length, replicate, slice_get, slice_index_or, IsSomeAnd, Option, None, Some}
 use Rattle.stack_base.specs.declared.ids.DevId.{DevId}
 use Rattle.stack_base.specs.declared.ids.SetId.TheVariants.{Of}
 use Rattle.stack_base.specs.declared.mapping.Piece.{Piece}
@@ -9,7 +9,7 @@ use Rattle.stack_base.specs.declared.stack.Kind.TheVariants as kind
 use Rattle.stack_base.specs.declared.stack.Stack.{Stack}
 use Rattle.stack_base.specs.Mapping.{size_of, smallest}
 use Rattle.stack_base.specs.Piece.{IsPiece}
-use Rattle.stack_base.specs.Tree.{Tree, Leaf, Split, Mirrored, Shape, Keeps, Cuts, Copies, shape_of, size, tree}
+use Rattle.stack_base.specs.Tree.{Tree, Leaf, Split, Mirrored, Shape, Keeps, Cuts, Copies, shape_of, size, tree, sizes_at}
 use Rattle.stack_base.specs.Stack.{IsStack}
 use Rattle.bio_records.specs.declared.bio.Bio.{Bio}
 use Rattle.bio_records.specs.declared.bio.Pad.{Pad}
@@ -50,10 +50,6 @@ abbrev pub copies_bios : Shape → Bool
 copies_bios (Keeps sectors) = false
 copies_bios Cuts = false
 copies_bios Copies = true
-
--- the sizes of the members of a device
-abbrev pub sizes_at : Stack → Device → List ℕ
-sizes_at stack device = map (λ (m : DevId). size (tree stack m.0)) device.members.items
 
 -- a driver is that of a device
 abbrev pub IsDriver : Stack → Device → Driver → Type 0

@@ -1,5 +1,5 @@
 -- Bios within the devices of a stack, and submissions that have no others.
-use Rattle.std.specs.Prelude.{◌≡◌, ◌+◌, ◌<◌, ◌≤◌, ◌==◌, not, ℕ, Bool, true, false, All, List, length, Option, None, Some}
+use Rattle.std.specs.Prelude.{◌≡◌, ◌+◌, ◌<◌, ◌≤◌, ◌==◌, ℕ, Bool, true, false, All, List, length, Option, None, Some}
 use Rattle.std.specs.Option.{option_map_or}
 use Rattle.stack_base.specs.declared.ids.Range.{Range}
 use Rattle.stack_base.specs.declared.stack.Stack.{Stack}
@@ -14,7 +14,7 @@ use Rattle.bio_records.specs.Items.{Item}
 use Rattle.task_steps.specs.declared.routes.Cut.{Cut}
 use Rattle.run_machine.specs.Scene.{tree_number, keeps_data, is_mirror, setup_of}
 use Rattle.run_machine.specs.Requests.{Request, Reply, Punt, Popped}
-use Rattle.run_machine.specs.Submissions.{Ask, ToPush, ToCut, ToRecord, ToMaster, Doing, Rests, Drives, Copies, Breaks, Submission, first_length, legs_of, settled, submission_request, submission_answered}
+use Rattle.run_machine.specs.Submissions.{Ask, ToPush, ToCut, ToRecord, ToMaster, Doing, Rests, Drives, Copies, Breaks, Submission, first_length, legs_of, settled, submission_request, submission_answered, is_cut}
 use Rattle.run_machine.specs.Tasks.{Todo, TaskState, Writer, Rescuer, Completer, Keeper, request, answered}
 
 -- a bio with a sector, that ends within its device, which is one of the stack
@@ -44,9 +44,6 @@ first_cut (Split number kind sizes members) range =
 -- whether a run is one piece at a device that cuts, which hands it on as it is, and whether it is more than one
 abbrev pub is_handed_on : Tree → Range → Bool
 is_handed_on t range = option_map_or (λ (cut : Cut). cut.sectors == range.len) (first_cut t range) false
-
-abbrev pub is_cut : Tree → Range → Bool
-is_cut t range = option_map_or (λ (cut : Cut). not (cut.sectors == range.len)) (first_cut t range) false
 
 -- whether a device with this tree can be asked so for such a run
 abbrev pub AskFits : Tree → Range → Ask → Type 0

@@ -4,8 +4,8 @@ ghost use Rattle.stack_base.specs.declared.stack.Device.{Device as Devices};
 ghost use Rattle.stack_base.specs.Stack.{IsStack};
 ghost use Rattle.run_machine.specs.Scene.{tree_at};
 ghost use Rattle.bioset_pools.specs.Sets.{waits_first};
-ghost use Rattle.run_machine.specs.Submissions.{legs_of};
-ghost use Rattle.task_steps.specs.Within.{IsWithinDevice, is_cut};
+ghost use Rattle.run_machine.specs.Submissions.{legs_of, is_cut};
+ghost use Rattle.task_steps.specs.Within.{IsWithinDevice};
 ghost use Rattle.task_steps.specs.Routed.{routing_setup, IsRoute, IsRouteOf, IsManner, IsFirstCut, HasNoFirst, IsBelow, Stays, IsLanded, IsCutAt, IsLegAt, Routing};
 
 pub(crate) mod driver;

@@ -1,5 +1,5 @@
 -- The views of a clock's table: their sums and their tickets, after one of them changed.
-use Rattle.std.proofs.Common.{◌≡◌, ◌≢◌, ℕ, zero, suc, ◌+◌, ◌<◌, ◌≤◌, ⊎_elim, true, false, List, length, [], ◌∷◌, ◌++◌, set, arith, ap, refl, sym, subst, ◌∙◌}
+use Rattle.std.proofs.Common.{◌≡◌, ◌≢◌, ℕ, zero, suc, ◌+◌, ◌<◌, ◌≤◌, ⊎_elim, true, false, List, length, [], ◌∷◌, ◌++◌, set, arith, ap, refl, sym, subst, ◌∙◌, true≢false}
 use Rattle.std.specs.Prelude.{sum_by, IsPermutation}
 use Rattle.std.proofs.lemmas.List.Sums.{sum_by-cons, sum_by-set}
 use Rattle.std.proofs.lemmas.List.Sorted.{IsPermutation-refl, IsPermutation-sym, IsPermutation-trans, IsPermutation-append_left, IsPermutation-append_right, IsPermutation-append_comm}
@@ -95,11 +95,8 @@ pub last_tidy : (n : ℕ) (vs : List View) (w : View) → ((j : ℕ) (v : View) 
     → get_elem? (vs ++ w ∷ []) j ≡ some v → IsTidy n v
 last_tidy n vs w tidy h j v e = ⊎_elim (λ t. tidy j v t) (λ t. subst (IsTidy n) t h) (at_snoc vs w v j e)
 
-true_not : true ≡ false → ⊥
-true_not e = cc
-
 pub live_tidy : (n : ℕ) (v : View) → v.known ≤ n → is_live_pass v.rank ≡ true → IsTidy n v
-live_tidy n v h live = (h, λ spent. absurd (true_not (sym live ∙ spent)))
+live_tidy n v h live = (h, λ spent. absurd (true≢false (sym live ∙ spent)))
 
 no_split : (r : Rank) → first_in r ≡ 0 → split_in r ≡ 0
 no_split (First split) h = absurd (omega (arith, h))

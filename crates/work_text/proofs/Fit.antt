@@ -1,5 +1,5 @@
 -- Lines from the first write or `sync` line on that are not refused mean work as it has to be.
-use Rattle.std.proofs.Common.{◌≡◌, ◌⊎◌, ℕ, zero, suc, ◌+◌, ◌<◌, ◌≤◌, ◌==◌, Bool, true, false, nat_lt, nat_le, cond, List, [], ◌∷◌, ◌++◌, length, map, get_or, Option, None, Some, inl, inr, refl, sym, ap, ◌∙◌, subst, arith}
+use Rattle.std.proofs.Common.{◌≡◌, ◌⊎◌, ℕ, ◌+◌, ◌<◌, ◌≤◌, ◌==◌, Bool, true, false, nat_lt, nat_le, cond, List, [], ◌∷◌, ◌++◌, length, map, get_or, Option, None, Some, inl, inr, refl, sym, ap, ◌∙◌, subst, arith}
 use Rattle.std.specs.Prelude.{All, slice_get}
 use Rattle.std.specs.List.{AllPairs, list_any}
 use Rattle.std.specs.Prelude.{codes}
@@ -7,7 +7,7 @@ use Rattle.std.specs.Option.{option_and_then, option_map, option_or, option_to_l
 use Rattle.std.specs.Str.{bytes_eq}
 use Rattle.std.proofs.lemmas.Bool.{both_ways, eq-eqb, eqb-false, ltb-false, leb-false, or_parts}
 use Rattle.std.proofs.lemmas.List.{append-nil, length-map, length_push}
-use Rattle.std.proofs.lemmas.List.Elements.{All-cons, All-filter, All-head, All-nil, All-push, All-tail, All-weaker}
+use Rattle.std.proofs.lemmas.List.Elements.{All-filter, All-nil, All-push, All-weaker}
 use Rattle.std.proofs.lemmas.List.Quantifiers.{all_pairs_push}
 use Rattle.std.proofs.lemmas.Option.{none-some, same_Some, slice_get-map}
 use Rattle.stack_base.specs.declared.ids.DevId.{DevId}
@@ -15,6 +15,7 @@ use Rattle.stack_base.specs.declared.ids.PoolId.{PoolId}
 use Rattle.stack_base.specs.declared.ids.PoolId.TheVariants.{FsBios, FsVecs, Bios, Records}
 use Rattle.stack_base.specs.declared.stack.Device.{Device}
 use Rattle.stack_base.specs.declared.stack.Stack.{Stack}
+use Rattle.stack_base.proofs.ListLemmas.{any_not, unmapped}
 use Rattle.layout_model.specs.declared.write.Write.{Write}
 use Rattle.layout_model.specs.OneWay.{IsTop, AreApart}
 use Rattle.decl_text.specs.Text.{words}
@@ -223,16 +224,6 @@ lines_devices known number (line ∷ lines) begins none paired =
     let next = step known line paired (λ front. first_works line lines (begins front)) passes.0 in
     lines_devices (after_line known (said (words line))) (number + 1) lines (λ front. absurd (never_front (after_line known (said (words line))) next.behind front)) parts.1 next.paired
     ∙ after_devices known (said (words line)) next.works
-
--- what holds of all that is shown holds of what shows so
-unmapped : {X Y : Type 0} (P : Y → Type 0) (f : X → Y) (xs : List X) → All P (map f xs) → All (λ x. P (f x)) xs
-unmapped P f [] all = All-nil (λ x. P (f x))
-unmapped P f (x ∷ xs) all = All-cons (λ x. P (f x)) x xs (All-head P (f x) (map f xs) all) (unmapped P f xs (All-tail P (f x) (map f xs) all))
-
-any_not : {X : Type 0} (p : X → Bool) (xs : List X) (i : ℕ) (x : X) → list_any p xs ≡ false → slice_get xs i ≡ Some x → p x ≡ false
-any_not p [] i x none found = absurd (grind arith)
-any_not p (y ∷ ys) zero x none found = ap p (sym (same_Some y x found)) ∙ (or_parts (p y) (list_any p ys) none).0
-any_not p (y ∷ ys) (suc i) x none found = any_not p ys i x (or_parts (p y) (list_any p ys) none).1 found
 
 -- a device that is among no members is no member
 no_member : (stack : Stack) (number : ℕ) → is_among (all_members (shown_devices stack)) number ≡ false → IsTop stack number

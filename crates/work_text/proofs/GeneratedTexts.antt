@@ -5,6 +5,7 @@ use Rattle.std.proofs.Math.Nat.{le-div_iff_mul-le, mul-div-le, mul-le-mul, mul_a
 use Rattle.std.proofs.lemmas.Bool.{le-ltb, leb-true}
 use Rattle.std.proofs.lemmas.Bool.Decides.{nat_tests}
 use Rattle.std.proofs.lemmas.Fmt.{length-decimal-le}
+use Rattle.stack_base.proofs.ListLemmas.{Each}
 use Rattle.decl_text.specs.Text.{lines, most_bytes}
 use Rattle.decl_text.specs.Known.{nothing}
 use Rattle.decl_text.specs.Items.{number}
@@ -15,7 +16,7 @@ use Rattle.rand_pcg.specs.Lcg.{Lcg}
 use Rattle.work_text.specs.Work.{all_checks}
 use Rattle.work_text.specs.Generated.{NoGeneratedTextIsRefused, Run, behind, behind_all, chunk_in, counts, declarations, disk_words, generated, generated_lines, generator, limit_words, line_of, longest_in, memory_words, mirror_size, runs, stripe_size, stripe_words, text_of, write_words, writes, writes_from}
 use Rattle.work_text.proofs.GeneratorLemmas.{text_of-append}
-use Rattle.work_text.proofs.Said.{Each, IsLine, IsWord, Writes, body_of, decimal_writes, text_lines, word_by, word_on}
+use Rattle.work_text.proofs.Said.{IsLine, IsWord, Writes, body_of, decimal_writes, text_lines, word_by, word_on}
 use Rattle.work_text.proofs.Generating.{disk_item, disk0, disk1, disk2, disk3, k1, k2, k3, k4, k5, k6, k7, k8, k9, k10, k11, limit_item, limit0, limit1, limit2, limit3, memory, mirror, mirror_item, one_line, stripe_item, stripe_of, stripe0, stripe1}
 use Rattle.work_text.proofs.GeneratedWrites.{Before, with_writes, words_are, writes_right}
 

@@ -16,13 +16,14 @@ use Rattle.decl_text.specs.declared.item.Item.TheVariants as item
 use Rattle.stack_base.specs.declared.stack.Kind.{Kind}
 use Rattle.stack_base.specs.Tree.{Copies, Cuts, Leaf, Tree, member_at, over_shape, weight}
 use Rattle.stack_base.specs.Mapping.{size_of, smallest}
+use Rattle.stack_base.proofs.ListLemmas.{Each}
 use Rattle.layout_model.specs.Bound.{most_elements}
 use Rattle.layout_model.specs.Need.{needed, vectors}
 use Rattle.layout_model.specs.Sound.{Closed}
 use Rattle.layout_model.proofs.AtMost.{needed_le_weight}
 use Rattle.work_text.specs.Work.{all_checks, elements_in}
 use Rattle.work_text.specs.Generated.{runs, write_words, writes_from}
-use Rattle.work_text.proofs.Said.{Each, IsWord, Writes, body_of, decimal_writes, word_by}
+use Rattle.work_text.proofs.Said.{IsWord, Writes, body_of, decimal_writes, word_by}
 use Rattle.work_text.proofs.Generating.{Fine, k11, le_most, one_line, stripe_of}
 
 -- ---- what one write needs

@@ -13,9 +13,10 @@ use Rattle.decl_text.specs.declared.item.Item.TheVariants as item
 use Rattle.decl_text.specs.declared.item.What.TheVariants as what
 use Rattle.stack_base.specs.Tree.{over_shape}
 use Rattle.stack_base.specs.Mapping.{size_of, smallest}
+use Rattle.stack_base.proofs.ListLemmas.{Each}
 use Rattle.work_text.specs.Work.{all_checks}
 use Rattle.work_text.specs.Generated.{disk_words}
-use Rattle.work_text.proofs.Said.{Each, IsWord, Writes, body_of, body_text, body_words}
+use Rattle.work_text.proofs.Said.{IsWord, Writes, body_of, body_text, body_words}
 
 -- a line of these words is right where so much is known, and says this, which no check finds
 pub record Fine (known : Known) (line : List (List ℕ)) (says : Item) : Type 0 where

@@ -8,6 +8,7 @@ use Rattle.std.proofs.lemmas.List.Folds.{list_any-append, list_any_at, list_any_
 use Rattle.std.proofs.lemmas.List.FromFn.{length-range_with_len, get_or-range_with_len}
 use Rattle.std.proofs.lemmas.Option.{slice_get-get_or, slice_get_within, same_Some}
 use Rattle.stack_base.specs.declared.stack.Stack.{Stack}
+use Rattle.stack_base.proofs.ListLemmas.{any_or}
 use Rattle.decl_text.specs.Known.{Written}
 use Rattle.decl_text.specs.Checks.{shares}
 use Rattle.work_text.specs.Marks.{covers, IsRow, AreMarks}
@@ -56,17 +57,6 @@ shares_covers dev start len w some has =
           (λ is. both_ways (shares dev start len w) not_it (covered_shares dev start len (start + k) w (omega arith) (omega arith) is))))
           ∙ sym not_it
     ]
-
-or_swap : (a b c d : Bool) → ((a || b) || (c || d)) ≡ ((a || c) || (b || d))
-or_swap true b c d = refl
-or_swap false true true d = refl
-or_swap false true false d = refl
-or_swap false false c d = refl
-
--- two tests one behind the other, and both for all
-any_or : {X : Type 0} (p q : X → Bool) (xs : List X) → list_any (λ x. p x || q x) xs ≡ (list_any p xs || list_any q xs)
-any_or p q [] = refl
-any_or p q (x ∷ xs) = ap (λ b. (p x || q x) || b) (any_or p q xs) ∙ or_swap (p x) (q x) (list_any p xs) (list_any q xs)
 
 any_false : {X : Type 0} (xs : List X) → list_any (λ x. false) xs ≡ false
 any_false [] = refl

@@ -7,13 +7,9 @@ use Rattle.std.proofs.lemmas.Bool.Decides.{nat_tests}
 use Rattle.std.proofs.lemmas.Fmt.{decimal_is_IsNumeral, length-decimal-le}
 use Rattle.std.proofs.lemmas.List.Splits.{slice_split_at, slice_split_none}
 use Rattle.std.proofs.lemmas.Str.Parse.{IsNumeralModel, IsDigitsTest, numerals_by_value}
+use Rattle.stack_base.proofs.ListLemmas.{Each}
 use Rattle.decl_text.specs.Text.{is_blank, is_option, is_some_text, is_text, is_text_byte, lines, number_of, without_empty_end, words}
 use Rattle.work_text.specs.Generated.{line_of, text_of}
-
--- each element
-abbrev pub Each : {X : Type 0} → (X → Type 0) → List X → Type 0
-Each P [] = Unit {0}
-Each P (x ∷ xs) = P x × Each P xs
 
 all_of : {X : Type 0} (P : X → Type 0) (xs : List X) → Each P xs → All P xs
 all_of P [] each k d lt = absurd (omega (arith, lt))

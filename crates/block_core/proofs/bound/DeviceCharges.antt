@@ -7,7 +7,7 @@ use Rattle.stack_base.specs.declared.stack.Device.{Device}
 use Rattle.stack_base.specs.declared.stack.Stack.{Stack}
 use Rattle.stack_base.specs.declared.stack.Kind.{Kind}
 use Rattle.stack_base.specs.Stack.{IsStack}
-use Rattle.stack_base.specs.Tree.{Tree, Leaf, Split, Mirrored, tree}
+use Rattle.stack_base.specs.Tree.{Tree, Leaf, Split, Mirrored, tree, sizes_at}
 use Rattle.layout_model.proofs.RangeSums.{sum_next, sum_of_two}
 use Rattle.layout_model.proofs.Over.{can_cut}
 use Rattle.stack_base.proofs.KindCuts.{kind_cuts}
@@ -20,12 +20,12 @@ use Rattle.bio_records.specs.Items.{Item}
 use Rattle.bio_split.specs.Split.{split_rest}
 use Rattle.bio_books.specs.Books.{SlipItem}
 use Rattle.run_machine.specs.Scene.{Setup, tree_at, tree_number, setup_of}
-use Rattle.run_machine.specs.Submissions.{Want, ToPush, ToCut, ToMaster, first_length, landed, legs_of, leg_at}
+use Rattle.run_machine.specs.Submissions.{Want, ToPush, ToCut, ToMaster, first_length, landed, legs_of, leg_at, is_cut}
 use Rattle.block_core.specs.Charges.{run_charge, run_at, leg_charge}
 use Rattle.block_core.specs.Payers.{Record, PieceBio, Fragment, Paid, cost}
 use Rattle.block_core.proofs.moves.Moves.{piece}
 use Rattle.run_machine.proofs.TreeNumbers.{number_of_tree}
-use Rattle.block_core.proofs.moves.Geometry.{IsThere, IsWhole, is_cut, falls, goes, members_at, of_each_shape, sizes_at}
+use Rattle.block_core.proofs.moves.Geometry.{IsThere, IsWhole, falls, goes, members_at, of_each_shape}
 use Rattle.block_core.proofs.moves.LegTrees.{GoesDown, legs_go_down}
 use Rattle.block_core.proofs.sound.Orders.{AskFits}
 use Rattle.stack_base.specs.Tree.{Cuts, shape_of}

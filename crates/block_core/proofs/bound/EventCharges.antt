@@ -4,6 +4,7 @@ use Rattle.std.proofs.lemmas.List.Sums.{sum_by-cons, sum_by-append, sum_by_push}
 use Rattle.stack_base.specs.PoolId.{pool_number}
 use Rattle.stack_base.specs.Tree.{Tree, Leaf, Split, Mirrored}
 use Rattle.stack_base.specs.declared.ids.SetId.TheVariants.{Of}
+use Rattle.stack_base.proofs.ListLemmas.{Each}
 use Rattle.mempool_core.specs.Move.{Move as PoolMove, after_move, misses, gives, resizes}
 use Rattle.bio_records.specs.declared.bio.Pad.{Pad}
 use Rattle.bio_records.specs.Items.{Item}
@@ -30,7 +31,7 @@ use Rattle.block_core.proofs.moves.Sums.{upd-same, upd-other}
 use Rattle.block_core.proofs.sound.Misplaced.{was_after}
 use Rattle.block_core.proofs.sound.Splitting.{IsSameButClosed, total_but}
 use Rattle.block_core.proofs.sound.Facts.{TaskFits, Kept}
-use Rattle.block_core.proofs.sound.Orders.{Each, IsOwn, AskFits, TodoThere, TaskPlaced, Placed, Ground}
+use Rattle.block_core.proofs.sound.Orders.{IsOwn, AskFits, TodoThere, TaskPlaced, Placed, Ground}
 use Rattle.block_core.proofs.bound.TaskCharges.{charge_lands, copies_charge, pops_once, pops_not, punts_charge, later_charge, takes_spent, want_spends, new_spends, wants_below, on_tasks, on_submission, tells_charge, later_give, hands_back}
 use Rattle.block_core.proofs.bound.PoolPayers.{is_write_bio, is_write_vector, is_piece_bio, is_record, leg_bio}
 use Rattle.block_core.proofs.bound.DeviceCharges.{Priced, leaf_charge, mirror_charge, legs_next}

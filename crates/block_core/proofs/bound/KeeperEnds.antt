@@ -5,6 +5,7 @@ use Rattle.std.specs.List.{range_with_len, flat_map}
 use Rattle.std.proofs.lemmas.Bool.Decides.{nat_tests}
 use Rattle.std.proofs.lemmas.List.{get_or_past}
 use Rattle.std.proofs.lemmas.List.Elements.{All-nil, All-cons, All-append, All-get_or}
+use Rattle.stack_base.proofs.ListLemmas.{Each}
 use Rattle.elem_ledger.specs.Ledger.{LedgerId}
 use Rattle.bio_records.specs.declared.tasks.TaskLists.{TaskLists}
 use Rattle.run_machine.specs.declared.event.Event.{Event}
@@ -22,7 +23,6 @@ use Rattle.block_core.proofs.moves.Moves.{Move, Can, after, HasSubmission, with_
 use Rattle.block_core.proofs.moves.Moves as moves
 use Rattle.block_core.proofs.sound.Facts.{Fair}
 use Rattle.block_core.proofs.sound.Lasting.{runs_keep}
-use Rattle.block_core.proofs.sound.Orders.{Each}
 use Rattle.block_core.proofs.sound.Rounds.{TaskRounds}
 use Rattle.block_core.proofs.sound.TaskSubmissions.{all-upd}
 use Rattle.block_core.proofs.sound.EveryRun.{runs_tallied, start_whole}

@@ -6,6 +6,7 @@ use Rattle.std.proofs.lemmas.List.Sums.{sum_by-cons}
 use Rattle.stack_base.specs.declared.ids.DevId.{DevId}
 use Rattle.stack_base.specs.declared.ids.Status.{Status}
 use Rattle.stack_base.specs.declared.ids.SetId.TheVariants.{Of}
+use Rattle.stack_base.proofs.ListLemmas.{Each}
 use Rattle.bio_records.specs.declared.bio.Bio.{Bio}
 use Rattle.bio_records.specs.declared.bio.Pad.{Pad}
 use Rattle.bio_records.specs.declared.tasks.TaskLists.{TaskLists}
@@ -24,7 +25,7 @@ use Rattle.block_core.specs.Payers.{payer_at, Paid, MissesAtOnce, IsPunted, IsPo
 use Rattle.block_core.specs.Payers as paid
 use Rattle.block_core.proofs.moves.Moves.{with_submission, HasSubmission, Wants, with_want, Tells, Hands}
 use Rattle.block_core.proofs.moves.Sums.{sum_at-upd}
-use Rattle.block_core.proofs.sound.Orders.{Each, IsPlaced, DoingPlaced, each_map, each_filter, of_set}
+use Rattle.block_core.proofs.sound.Orders.{IsPlaced, DoingPlaced, each_map, each_filter, of_set}
 use Rattle.block_core.proofs.bound.DeviceCharges.{Priced}
 use Rattle.block_core.proofs.moves.Landings.{AreThere, IsLanding, copies_there}
 use Rattle.block_core.proofs.sound.SumParts.{unless_less}

@@ -2,10 +2,10 @@
 -- a mirror copies with the data of another place.
 use Rattle.std.proofs.Common.{◌≡◌, ℕ, true, [], None, Some, refl, arith}
 use Rattle.elem_ledger.specs.Ledger.{LedgerId}
-use Rattle.stack_base.specs.declared.ids.DevId.{DevId}
 use Rattle.stack_base.specs.declared.ids.SetId.TheVariants.{Fs}
 use Rattle.stack_base.specs.declared.ids.Status.{Status}
 use Rattle.stack_base.specs.declared.ids.Status.TheVariants.{Ok, Medium}
+use Rattle.stack_base.proofs.DeclaredSums.{device}
 use Rattle.layout_model.specs.declared.fragment.Fragment.{Fragment}
 use Rattle.bio_records.specs.declared.bio.Bio.{Bio}
 use Rattle.bio_records.specs.declared.bio.Pad.{Pad}
@@ -19,9 +19,6 @@ use Rattle.bio_lists.specs.Submission.{no_lists}
 use Rattle.block_core.specs.EachBio.{TaskCopies}
 use Rattle.block_core.specs.Hands.{HandIsRight}
 use Rattle.block_core.specs.Levels.{HoldsOneLevel}
-
-abbrev device : ℕ → DevId
-device number = record { 0 = number }
 
 -- the second sector of the first write of its writer, with the word of the first
 abbrev bio : ℕ → Bio

@@ -9,7 +9,7 @@ use Rattle.stack_base.specs.declared.stack.Stack.{Stack}
 use Rattle.stack_base.specs.declared.stack.Kind.{Kind}
 use Rattle.stack_base.specs.Stack.{IsStack}
 use Rattle.stack_base.specs.Mapping.{slot}
-use Rattle.stack_base.specs.Tree.{Tree, Leaf, Split, Mirrored, Cuts, shape_of, tree}
+use Rattle.stack_base.specs.Tree.{Tree, Leaf, Split, Mirrored, Cuts, shape_of, tree, sizes_at}
 use Rattle.layout_model.specs.declared.fragment.Fragment.{Fragment}
 use Rattle.layout_model.specs.Plan.{frags, leaves, plan}
 use Rattle.layout_model.proofs.Planned.{leaves_plan}
@@ -21,11 +21,11 @@ use Rattle.bio_records.specs.Runs.{place_number, place_at}
 use Rattle.bio_split.specs.Split.{split_rest}
 use Rattle.bio_books.specs.Books.{SlipItem}
 use Rattle.run_machine.specs.Scene.{Setup, tree_at, tree_number, setup_of}
-use Rattle.run_machine.specs.Submissions.{ToPush, ToMaster, first_length, landed, legs_of, leg_at}
+use Rattle.run_machine.specs.Submissions.{ToPush, ToMaster, first_length, landed, legs_of, leg_at, is_cut}
 use Rattle.block_core.specs.Fragments.{offset_of, fragment_of, fragments_of, leg_fragments}
 use Rattle.block_core.proofs.moves.Moves.{piece}
 use Rattle.run_machine.proofs.TreeNumbers.{number_of_tree}
-use Rattle.block_core.proofs.moves.Geometry.{IsThere, IsWhole, is_cut, falls, goes, members_at, of_each_shape, sizes_at}
+use Rattle.block_core.proofs.moves.Geometry.{IsThere, IsWhole, falls, goes, members_at, of_each_shape}
 use Rattle.block_core.proofs.moves.LegTrees.{GoesDown, legs_go_down}
 use Rattle.block_core.proofs.sound.Orders.{AskFits}
 

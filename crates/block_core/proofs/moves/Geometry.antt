@@ -12,7 +12,7 @@ use Rattle.bio_records.specs.declared.bio.Pad.{Pad}
 use Rattle.bio_records.specs.Items.{Item}
 use Rattle.bio_split.specs.Split.{split_rest}
 use Rattle.run_machine.specs.Scene.{Setup, tree_at, tree_number}
-use Rattle.run_machine.specs.Submissions.{first_length, mapped, landed, legs_of, leg_at}
+use Rattle.run_machine.specs.Submissions.{first_length, mapped, landed, legs_of, leg_at, is_cut}
 use Rattle.block_core.specs.Weights.{one}
 use Rattle.std.proofs.lemmas.Option.{slice_get-get_or, slice_get_cases}
 use Rattle.std.proofs.lemmas.List.{length-map}
@@ -21,7 +21,7 @@ use Rattle.stack_base.specs.declared.stack.Device.{Device}
 use Rattle.stack_base.specs.declared.stack.Kind.TheVariants as kind
 use Rattle.stack_base.specs.declared.stack.Stack.{Stack}
 use Rattle.stack_base.specs.Stack.{IsStack, HasShape}
-use Rattle.stack_base.specs.Tree.{Shape, Keeps as Keeping_, Cuts, Copies as Copying_, shape_of, member_at, tree}
+use Rattle.stack_base.specs.Tree.{Shape, Keeps as Keeping_, Cuts, Copies as Copying_, shape_of, member_at, sizes_at, tree}
 use Rattle.stack_base.proofs.KindCuts.{kind_cuts}
 use Rattle.stack_base.proofs.Pieces.{is_piece}
 use Rattle.layout_model.specs.Pieces.{IsFirstRun}
@@ -33,12 +33,6 @@ use Rattle.layout_model.proofs.MirrorLemmas.{leg_size}
 use Rattle.run_machine.specs.Scene.{setup_of}
 use Rattle.run_machine.proofs.TreeNumbers.{number_of_tree}
 use Rattle.block_core.proofs.moves.Moves.{piece}
-
--- whether a device cuts a run
-abbrev pub is_cut : Tree → Range → Bool
-is_cut (Leaf number sectors) range = false
-is_cut (Mirrored number sizes members) range = false
-is_cut (Split number kind sizes members) range = not (first_length kind sizes range == range.len)
 
 -- a bio that its device can serve
 pub record IsThere (setup : Setup) (bio : Bio) : Type 0 where
@@ -62,9 +56,6 @@ pub record Lands (setup : Setup) (bio to : Bio) : Type 0 where
   pub there : IsThere setup to
   pub low : to.dev.0 ≤ bio.dev.0
   pub settles : Settles (tree_at setup to.dev) to.range
-
-abbrev pub sizes_at : Stack → Device → List ℕ
-sizes_at stack device = map (λ (m : DevId). size (tree stack m.0)) device.members.items
 
 abbrev pub members_at : Stack → ℕ → Device → ℕ → Tree
 members_at stack number device = member_at number (map (λ (m : DevId). tree stack m.0) device.members.items)

@@ -5,6 +5,7 @@ use Rattle.std.proofs.lemmas.List.Sums.{sum_by-cons}
 use Rattle.stack_base.specs.declared.ids.DevId.{DevId}
 use Rattle.stack_base.specs.declared.stack.Kind.{Kind}
 use Rattle.stack_base.specs.Tree.{Tree, Split}
+use Rattle.stack_base.proofs.ListLemmas.{Each}
 use Rattle.bio_records.specs.declared.bio.Bio.{Bio}
 use Rattle.bio_records.specs.declared.bio.Pad.{Pad}
 use Rattle.bio_records.specs.declared.tasks.TaskLists.{TaskLists}
@@ -14,13 +15,13 @@ use Rattle.bio_lists.specs.Submission.{order, submitted}
 use Rattle.bio_split.specs.Split.{split_rest}
 use Rattle.run_machine.specs.Scene.{Setup, tree_at}
 use Rattle.bioset_pools.specs.Sets.{waits_first}
-use Rattle.run_machine.specs.Submissions.{Takes, Links, ToCut, Drives, Copies, settled, goes_on, copies, first_length, landed, legs_of, leg_at}
+use Rattle.run_machine.specs.Submissions.{Takes, Links, ToCut, Drives, Copies, settled, goes_on, copies, first_length, landed, legs_of, leg_at, is_cut}
 use Rattle.block_core.specs.Weights.{Weight, Lined, submission_weight}
 use Rattle.block_core.proofs.moves.Moves.{cut_lists, piece}
 use Rattle.block_core.proofs.moves.SubmissionWeights.{asks_weight, order_weight}
 use Rattle.block_core.proofs.sound.SumParts.{unless}
-use Rattle.block_core.proofs.moves.Geometry.{IsThere, is_cut}
-use Rattle.block_core.proofs.sound.Orders.{Each, IsPlaced, IsOwn, AskFits, DoingPlaced, Ground, each_map, each_less, each_append}
+use Rattle.block_core.proofs.moves.Geometry.{IsThere}
+use Rattle.block_core.proofs.sound.Orders.{IsPlaced, IsOwn, AskFits, DoingPlaced, Ground, each_map, each_less, each_append}
 
 abbrev pub AreThere : Setup → List (Item Pad) → Type 0
 AreThere setup items = Each (λ (item : Item Pad). IsThere setup item.bio) items

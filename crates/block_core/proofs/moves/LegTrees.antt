@@ -7,11 +7,11 @@ use Rattle.stack_base.specs.declared.ids.DevId.{DevId}
 use Rattle.stack_base.specs.declared.stack.Device.{Device}
 use Rattle.stack_base.specs.declared.stack.Stack.{Stack}
 use Rattle.stack_base.specs.Stack.{IsStack}
-use Rattle.stack_base.specs.Tree.{Tree, Leaf, Split, Mirrored, Copies as Copying_, shape_of, size, tree}
+use Rattle.stack_base.specs.Tree.{Tree, Leaf, Split, Mirrored, Copies as Copying_, shape_of, size, tree, sizes_at}
 use Rattle.layout_model.proofs.ByShape.{member_is}
 use Rattle.run_machine.specs.Scene.{tree_number}
 use Rattle.run_machine.proofs.TreeNumbers.{number_of_tree}
-use Rattle.block_core.proofs.moves.Geometry.{members_at, of_each_shape, sizes_at}
+use Rattle.block_core.proofs.moves.Geometry.{members_at, of_each_shape}
 
 -- where a mirror has such a leg, what is below it there is the tree of the member's number
 abbrev pub GoesDown : Stack → Tree → ℕ → Type 0

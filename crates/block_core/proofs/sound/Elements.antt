@@ -10,6 +10,7 @@ use Rattle.bio_records.specs.Items.{Item}
 use Rattle.bio_lists.specs.Submission.{submitted}
 use Rattle.layout_model.specs.Need.{needed, vectors}
 use Rattle.stack_base.specs.declared.ids.Status.{Status}
+use Rattle.stack_base.proofs.ListLemmas.{Each}
 use Rattle.bio_books.specs.Books.{Node, VectorItem, SlipItem, Holding, node_at, later_part}
 use Rattle.model_disks.specs.Disks.{DiskState}
 use Rattle.run_machine.specs.Scene.{Setup, Scene, tree_at}
@@ -23,7 +24,7 @@ use Rattle.block_core.proofs.moves.Moves.{Move, Can, after, lost, gained, limit_
 use Rattle.block_core.proofs.moves.Moves as moves
 use Rattle.block_core.proofs.sound.Facts.{DoingFits, SubmissionFits, TaskFits, Kept}
 use Rattle.block_core.proofs.moves.Geometry.{IsThere}
-use Rattle.block_core.proofs.sound.Orders.{Each, IsOwn, DoingPlaced, SubmissionPlaced, TodoThere, TaskPlaced, Placed, Ground}
+use Rattle.block_core.proofs.sound.Orders.{IsOwn, DoingPlaced, SubmissionPlaced, TodoThere, TaskPlaced, Placed, Ground}
 use Rattle.block_core.proofs.moves.Deltas.{delta}
 use Rattle.block_core.proofs.sound.TaskSubmissions.{submission_fits}
 use Rattle.block_core.proofs.sound.OrdersKept.{placed_at}

@@ -6,6 +6,7 @@ use Rattle.std.proofs.lemmas.List.Sums.{sum_by-cons}
 use Rattle.stack_base.specs.PoolId.{pool_number}
 use Rattle.stack_base.specs.Tree.{Tree, Leaf, Split, Mirrored}
 use Rattle.stack_base.specs.declared.ids.SetId.TheVariants.{Of}
+use Rattle.stack_base.proofs.ListLemmas.{Each}
 use Rattle.bio_records.specs.declared.bio.Bio.{Bio}
 use Rattle.bio_records.specs.declared.bio.Pad.{Pad}
 use Rattle.bio_records.specs.declared.tasks.TaskLists.{TaskLists}
@@ -29,7 +30,7 @@ use Rattle.block_core.proofs.moves.Sums.{upd-same, upd-other, same_or_not, withi
 use Rattle.block_core.proofs.sound.Facts.{TaskFits, Kept}
 use Rattle.block_core.proofs.moves.Deltas.{other_place, vacant_at}
 use Rattle.block_core.proofs.sound.TaskSubmissions.{submission_fits}
-use Rattle.block_core.proofs.sound.Orders.{Each, Placed, each_map, each_less, each_append}
+use Rattle.block_core.proofs.sound.Orders.{Placed, each_map, each_less, each_append}
 use Rattle.block_core.proofs.sound.OrdersKept.{placed_at}
 use Rattle.block_core.proofs.moves.Totals.{task_part, submission_part}
 use Rattle.block_core.proofs.images.Ancestors.{names_one}

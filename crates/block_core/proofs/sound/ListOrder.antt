@@ -8,6 +8,7 @@ use Rattle.stack_base.specs.declared.ids.SetId.TheVariants.{Fs, Of}
 use Rattle.stack_base.specs.declared.ids.Status.{Status}
 use Rattle.stack_base.specs.PoolId.{pool_number}
 use Rattle.stack_base.specs.Tree.{Tree, Leaf, Split, Mirrored}
+use Rattle.stack_base.proofs.ListLemmas.{Each}
 use Rattle.layout_model.specs.declared.fragment.Fragment.{Fragment}
 use Rattle.bio_records.specs.declared.bio.Pad.{Pad}
 use Rattle.bio_records.specs.declared.tasks.TaskLists.{TaskLists}
@@ -20,7 +21,7 @@ use Rattle.run_machine.specs.Runs.{State}
 use Rattle.block_core.specs.Orders.{IsAbove, AreAbove, GoUp, IsSetOf, IsOwnBelow, IsLegOf, DoingInOrder, DoingBelow, AreBelow, TaskInOrder, AreInListOrder}
 use Rattle.block_core.specs.Hands.{GatheredIsRight, WantIsRight, AskIsRight, DoingIsRight, HandIsRight, HandsAreRight}
 use Rattle.block_core.proofs.sound.Facts.{HandFits, DoingFits, TaskFits, Kept}
-use Rattle.block_core.proofs.sound.Orders.{Each, Above, Ordered, IsPlaced, IsOwn, WantFits, AskFits, DoingPlaced, HandHome, TaskPlaced, Placed}
+use Rattle.block_core.proofs.sound.Orders.{Above, Ordered, IsPlaced, IsOwn, WantFits, AskFits, DoingPlaced, HandHome, TaskPlaced, Placed}
 use Rattle.block_core.proofs.sound.LegLists.{HasLegs, TaskHasLegs, Legged}
 use Rattle.block_core.proofs.sound.CarriedLevels.{TaskOne}
 use Rattle.block_core.proofs.status.ToldEnds.{HasEnding}

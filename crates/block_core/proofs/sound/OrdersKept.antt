@@ -4,6 +4,7 @@ use Rattle.stack_base.specs.declared.ids.DevId.{DevId}
 use Rattle.stack_base.specs.PoolId.{pool_number}
 use Rattle.stack_base.specs.Tree.{Tree, Leaf, Split, Mirrored}
 use Rattle.stack_base.specs.declared.ids.SetId.TheVariants.{Of}
+use Rattle.stack_base.proofs.ListLemmas.{Each}
 use Rattle.elem_ledger.specs.Ledger.{LedgerId}
 use Rattle.bio_records.specs.declared.bio.Pad.{Pad}
 use Rattle.bio_records.specs.declared.tasks.TaskLists.{TaskLists}
@@ -24,7 +25,7 @@ use Rattle.block_core.proofs.moves.Moves as moves
 use Rattle.block_core.proofs.moves.Sums.{upd-same, upd-other, same_or_not}
 use Rattle.block_core.proofs.sound.Facts.{TaskFits, DoingIsIn, IsIn, Fair, Kept}
 use Rattle.block_core.proofs.sound.TaskSubmissions.{all-upd, submission_fits}
-use Rattle.block_core.proofs.sound.Orders.{Each, IsPlaced, IsOwn, AskFits, DoingPlaced, SubmissionPlaced, HandHome, TaskPlaced, Placed, Ground, each_map, each_filter, each_append, of_set, first_placed, pushed_placed, cut_placed, copies_placed, begun_placed, wants_placed, punts_placed, waiting_placed}
+use Rattle.block_core.proofs.sound.Orders.{IsPlaced, IsOwn, AskFits, DoingPlaced, SubmissionPlaced, HandHome, TaskPlaced, Placed, Ground, each_map, each_filter, each_append, of_set, first_placed, pushed_placed, cut_placed, copies_placed, begun_placed, wants_placed, punts_placed, waiting_placed}
 
 -- facts that see the place
 pub all_at : {X : Type 0} (P : ℕ → X → Type 0) (f : ℕ → X) (i : ℕ) (v : X) → ((j : ℕ) → P j (f j)) → P i v → (j : ℕ) → P j (upd f i v j)

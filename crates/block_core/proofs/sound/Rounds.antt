@@ -4,6 +4,7 @@ use Rattle.std.specs.Prelude.{slice_index_or, sum}
 use Rattle.std.proofs.lemmas.List.{length-set, get_or-set_same, get_or-set_other}
 use Rattle.std.proofs.lemmas.List.Sums.{sum_by-set}
 use Rattle.stack_base.specs.declared.ids.DevId.{DevId}
+use Rattle.stack_base.proofs.ListLemmas.{Each}
 use Rattle.bio_books.specs.Books.{keeping}
 use Rattle.bio_books.specs.Drops.{Closed}
 use Rattle.run_machine.specs.Maps.{upd}
@@ -15,7 +16,6 @@ use Rattle.block_core.specs.Weights.{Weight, total, one, task_weight}
 use Rattle.block_core.proofs.moves.Moves.{Move, Can, after, with_submission, gathered_of}
 use Rattle.block_core.proofs.moves.Moves as moves
 use Rattle.block_core.proofs.moves.Sums.{upd-same, upd-other, one-same, one-other, same_or_not, below_or}
-use Rattle.block_core.proofs.sound.Orders.{Each}
 use Rattle.block_core.proofs.moves.Totals.{part_of}
 use Rattle.std.specs.Prelude.{nat_le}
 use Rattle.std.proofs.lemmas.Bool.Decides.{nat_tests}

@@ -7,7 +7,6 @@ use Rattle.run_machine.specs.Submissions.{rests}
 use Rattle.run_machine.specs.Tasks.{TaskState, Writer, Rescuer, Completer, Duty, Resizes, Starts, Todo, NoBio, Empty}
 use Rattle.block_core.proofs.start.WritesAtStart.{each_of}
 use Rattle.block_core.proofs.moves.Sums.{same_or_not}
-use Rattle.block_core.proofs.sound.Orders.{Each}
 use Rattle.std.specs.Prelude.{zip, All}
 use Rattle.std.specs.List.{range_with_len, flat_map}
 use Rattle.std.proofs.lemmas.List.{length-append}
@@ -28,6 +27,7 @@ use Rattle.run_machine.specs.Opened.{Scenario, Change, scene, start, tasks as op
 use Rattle.std.specs.Option.{option_map_or}
 use Rattle.std.proofs.lemmas.Bool.Decides.{nat_tests}
 use Rattle.stack_base.specs.Tree.{Cuts}
+use Rattle.stack_base.proofs.ListLemmas.{Each}
 use Rattle.run_machine.proofs.Frames.{pools_are_numbered}
 use Rattle.block_core.specs.Scenarios.{IsScenario, AreSorted, KeepsSome, EveryPoolKeepsSome}
 use Rattle.block_core.proofs.stuck.NothingWaits.{IsPool}

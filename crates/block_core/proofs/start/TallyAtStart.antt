@@ -8,11 +8,11 @@ use Rattle.run_machine.specs.Submissions.{rests}
 use Rattle.run_machine.specs.Tasks.{TaskState, Writer, Rescuer, Completer, Duty, Resizes, Starts, Todo, NoBio, Empty}
 use Rattle.block_core.specs.Weights.{total, one}
 use Rattle.block_core.proofs.moves.Sums.{below_or}
-use Rattle.block_core.proofs.sound.Orders.{Each}
 use Rattle.std.specs.Prelude.{nat_le, fold, max, zip}
 use Rattle.std.specs.List.{range_with_len, flat_map}
 use Rattle.std.proofs.lemmas.Bool.Decides.{nat_tests}
 use Rattle.std.proofs.lemmas.List.FromFn.{get_or-map-range_with_len, length-map-range_with_len}
+use Rattle.stack_base.proofs.ListLemmas.{Each}
 use Rattle.layout_model.specs.declared.write.Write.{Write}
 use Rattle.run_machine.specs.Scene.{is_disk}
 use Rattle.run_machine.specs.Opened.{Scenario, Change, scene, start, tasks as opened_tasks, todos, todos_of, is_by, writers, duties, duties_of, keepers, no_task, round_count, writes_in, writes_from, setup as setup_in, at as device_at, in_round, from_round}

@@ -7,6 +7,7 @@ use Rattle.layout_model.proofs.RangeSums.{sum_same}
 use Rattle.stack_base.specs.declared.ids.Status.{Status}
 use Rattle.stack_base.specs.declared.ids.Status.TheVariants.{Ok, Io}
 use Rattle.stack_base.specs.declared.ids.SetId.TheVariants.{Of}
+use Rattle.stack_base.proofs.ListLemmas.{Each}
 use Rattle.layout_model.specs.declared.fragment.Fragment.{Fragment}
 use Rattle.bio_records.specs.declared.bio.Bio.{Bio}
 use Rattle.bio_records.specs.declared.bio.Pad.{Pad}
@@ -33,7 +34,7 @@ use Rattle.block_core.proofs.sound.TaskSubmissions.{submission_fits}
 use Rattle.block_core.proofs.moves.Deltas.{delta}
 use Rattle.block_core.proofs.sound.SumParts.{cut_weight, submission_part, named_away, unless_less}
 use Rattle.block_core.proofs.moves.SubmissionWeights.{landed_same}
-use Rattle.block_core.proofs.sound.Orders.{Each, IsOwn, TaskPlaced, Placed, Ground}
+use Rattle.block_core.proofs.sound.Orders.{IsOwn, TaskPlaced, Placed, Ground}
 use Rattle.block_core.proofs.sound.OrdersKept.{placed_at}
 use Rattle.block_core.proofs.moves.Misfits.{misfits, cut_fits}
 use Rattle.block_core.proofs.images.StillToCome.{over}

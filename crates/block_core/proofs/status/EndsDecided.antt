@@ -6,6 +6,7 @@ use Rattle.std.proofs.lemmas.List.Sums.{sum_by-cons, sum_by_push}
 use Rattle.stack_base.specs.declared.ids.DevId.{DevId}
 use Rattle.stack_base.specs.declared.ids.Status.{Status}
 use Rattle.stack_base.specs.declared.ids.Status.TheVariants.{Ok}
+use Rattle.stack_base.proofs.ListLemmas.{Each}
 use Rattle.layout_model.specs.declared.fragment.Fragment.{Fragment}
 use Rattle.bio_records.specs.declared.bio.Bio.{Bio}
 use Rattle.bio_records.specs.declared.bio.Pad.{Pad}
@@ -30,7 +31,7 @@ use Rattle.block_core.proofs.moves.Deltas.{vacant_at, delta}
 use Rattle.block_core.proofs.moves.BookMaps.{made, chained}
 use Rattle.block_core.proofs.sound.SumParts.{cut_weight}
 use Rattle.block_core.proofs.moves.SubmissionWeights.{landed_same}
-use Rattle.block_core.proofs.sound.Orders.{Each, IsOwn, TaskPlaced, Placed, Ground}
+use Rattle.block_core.proofs.sound.Orders.{IsOwn, TaskPlaced, Placed, Ground}
 use Rattle.block_core.proofs.sound.OrdersKept.{placed_at}
 use Rattle.block_core.proofs.moves.Misfits.{misfits, cut_fits}
 use Rattle.block_core.proofs.images.StillToCome.{over}

@@ -13,7 +13,7 @@ use Rattle.stack_base.specs.Stack.{IsStack, HasShape}
 use Rattle.stack_base.specs.Fault.{status_eq}
 use Rattle.stack_base.specs.Cutting.{next, IsCut}
 use Rattle.stack_base.specs.Mapping.{slot, head}
-use Rattle.stack_base.specs.Tree.{Tree, Leaf, Split, Mirrored, Cuts, shape_of, tree}
+use Rattle.stack_base.specs.Tree.{Tree, Leaf, Split, Mirrored, Cuts, shape_of, tree, sizes_at}
 use Rattle.stack_base.proofs.KindCuts.{kind_cuts}
 use Rattle.layout_model.specs.declared.fragment.Fragment.{Fragment}
 use Rattle.layout_model.specs.May.{may_end, each_may_end, some_may_end}
@@ -28,13 +28,13 @@ use Rattle.bio_records.specs.Items.{Item}
 use Rattle.bio_split.specs.Split.{split_rest}
 use Rattle.bio_books.specs.Books.{SlipItem}
 use Rattle.run_machine.specs.Scene.{Setup, tree_at, tree_number, setup_of}
-use Rattle.run_machine.specs.Submissions.{ToPush, ToMaster, first_length, landed, legs_of, leg_at}
+use Rattle.run_machine.specs.Submissions.{ToPush, ToMaster, first_length, landed, legs_of, leg_at, is_cut}
 use Rattle.block_core.specs.Fragments.{offset_of, fragment_of}
 use Rattle.block_core.proofs.moves.Sums.{same_or_not}
 use Rattle.block_core.proofs.status.Marks.{yes, may, bio_may, leg_may}
 use Rattle.block_core.proofs.moves.Moves.{piece}
 use Rattle.run_machine.proofs.TreeNumbers.{number_of_tree}
-use Rattle.block_core.proofs.moves.Geometry.{IsThere, IsWhole, is_cut, falls, goes, members_at, of_each_shape, sizes_at}
+use Rattle.block_core.proofs.moves.Geometry.{IsThere, IsWhole, falls, goes, members_at, of_each_shape}
 use Rattle.block_core.proofs.moves.LegTrees.{GoesDown, legs_go_down}
 use Rattle.block_core.proofs.sound.Orders.{AskFits}
 use Rattle.block_core.proofs.images.FragmentCounts.{IsCounted, place_on}

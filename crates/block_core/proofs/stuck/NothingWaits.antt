@@ -3,6 +3,7 @@ use Rattle.std.proofs.Common.{◌≡◌, ◌+◌, ◌*◌, ◌<◌, ◌≤◌, �
 use Rattle.std.specs.Prelude.{sum_by}
 use Rattle.std.proofs.lemmas.List.Sums.{sum_by-cons}
 use Rattle.stack_base.specs.Tree.{Tree, Leaf, Split, Mirrored}
+use Rattle.stack_base.proofs.ListLemmas.{Each}
 use Rattle.bio_records.specs.declared.bio.Bio.{Bio}
 use Rattle.bio_records.specs.declared.bio.Pad.{Pad}
 use Rattle.bio_records.specs.declared.tasks.TaskLists.{TaskLists}
@@ -16,7 +17,7 @@ use Rattle.block_core.specs.Weights.{Weight, Lined, sum_at, one, submission_weig
 use Rattle.block_core.proofs.moves.Sums.{one-other, same_or_not}
 use Rattle.block_core.proofs.sound.Facts.{Suits, DoingFits}
 use Rattle.block_core.proofs.sound.TaskSubmissions.{IsBusy}
-use Rattle.block_core.proofs.sound.Orders.{Each, Above, DoingPlaced, Ground}
+use Rattle.block_core.proofs.sound.Orders.{Above, DoingPlaced, Ground}
 use Rattle.std.specs.Prelude.{min}
 use Rattle.run_machine.specs.Scene.{keeps_data, is_mirror}
 use Rattle.block_core.proofs.stuck.Waits.{DoingWaits}

@@ -4,6 +4,7 @@ use Rattle.std.specs.Prelude.{slice_index_or, sum, sum_by}
 use Rattle.std.proofs.lemmas.Bool.{eq-eqb}
 use Rattle.stack_base.specs.declared.ids.DevId.{DevId}
 use Rattle.stack_base.specs.PoolId.{pool_number}
+use Rattle.stack_base.proofs.ListLemmas.{Each}
 use Rattle.mempool_core.specs.Move.{resizes}
 use Rattle.bio_records.specs.declared.tasks.TaskLists.{TaskLists}
 use Rattle.bio_books.specs.Books.{Node, node_at, keeping}
@@ -18,7 +19,7 @@ use Rattle.block_core.proofs.moves.Moves.{with_pool}
 use Rattle.block_core.proofs.moves.Sums.{one-other, same_or_not}
 use Rattle.block_core.proofs.sound.Facts.{DoingFits, TaskFits}
 use Rattle.block_core.proofs.sound.TaskSubmissions.{IsBusy}
-use Rattle.block_core.proofs.sound.Orders.{Each, DoingPlaced, TaskPlaced, each_map}
+use Rattle.block_core.proofs.sound.Orders.{DoingPlaced, TaskPlaced, each_map}
 use Rattle.run_machine.specs.Scene.{is_disk}
 use Rattle.run_machine.specs.declared.event.TaskId.{TaskId}
 use Rattle.run_machine.specs.declared.event.TaskId.TheVariants as id

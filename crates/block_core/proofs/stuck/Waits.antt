@@ -6,6 +6,7 @@ use Rattle.stack_base.specs.declared.ids.SetId.{SetId}
 use Rattle.stack_base.specs.declared.ids.SetId.TheVariants.{Fs, Of}
 use Rattle.stack_base.specs.PoolId.{pool_number}
 use Rattle.stack_base.specs.Tree.{Tree, Leaf, Split, Mirrored}
+use Rattle.stack_base.proofs.ListLemmas.{Each}
 use Rattle.bio_records.specs.declared.bio.Bio.{Bio}
 use Rattle.bio_records.specs.declared.bio.Pad.{Pad}
 use Rattle.bio_records.specs.declared.tasks.TaskLists.{TaskLists}
@@ -26,7 +27,7 @@ use Rattle.block_core.proofs.moves.Moves as moves
 use Rattle.block_core.proofs.sound.Facts.{TaskFits, Kept}
 use Rattle.block_core.proofs.moves.Geometry.{IsThere}
 use Rattle.block_core.proofs.sound.TaskSubmissions.{all-upd, submission_fits}
-use Rattle.block_core.proofs.sound.Orders.{Each, Above, IsPlaced, IsOwn, DoingPlaced, TaskPlaced, Placed, Ground, of_set}
+use Rattle.block_core.proofs.sound.Orders.{Above, IsPlaced, IsOwn, DoingPlaced, TaskPlaced, Placed, Ground, of_set}
 use Rattle.std.specs.Prelude.{All}
 use Rattle.std.proofs.lemmas.List.Elements.{All-nil, All-cons}
 use Rattle.bioset_pools.specs.Sets.{is_empty}

@@ -16,10 +16,10 @@ use Rattle.bio_records.specs.Items.{Item}
 use Rattle.bio_split.specs.Split.{split_rest}
 use Rattle.bio_books.specs.Books.{SlipItem}
 use Rattle.run_machine.specs.Scene.{Setup, tree_at, setup_of}
-use Rattle.run_machine.specs.Submissions.{Want, ToCut, ToMaster, first_length, landed, legs_of, leg_at}
+use Rattle.run_machine.specs.Submissions.{Want, ToCut, ToMaster, first_length, landed, legs_of, leg_at, is_cut}
 use Rattle.block_core.specs.Rooms.{need_at, leg_need}
 use Rattle.block_core.proofs.moves.Moves.{piece}
-use Rattle.block_core.proofs.moves.Geometry.{IsThere, is_cut, lands_needs, cuts}
+use Rattle.block_core.proofs.moves.Geometry.{IsThere, lands_needs, cuts}
 use Rattle.block_core.proofs.moves.LegTrees.{GoesDown, legs_go_down}
 use Rattle.block_core.proofs.sound.Orders.{AskFits}
 

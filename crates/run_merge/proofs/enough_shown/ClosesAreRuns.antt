@@ -7,6 +7,7 @@ use Rattle.std.proofs.lemmas.Bool.{true≢false, le-ltb, ne_eqb}
 use Rattle.std.proofs.lemmas.List.Elements.{All-head, All-tail, All-nil, All-weaker, Contains-append_left, Contains-append_right}
 use Rattle.std.proofs.lemmas.Option.{slice_get_cases}
 use Rattle.stack_base.specs.declared.ids.DevId.{DevId}
+use Rattle.stack_base.proofs.ListLemmas.{first_or, behind_first}
 use Rattle.bio_records.specs.Rescue.{Rescue}
 use Rattle.seat_lock.specs.History.{indicator, count, calls_by}
 use Rattle.seat_lock.proofs.Histories.{count_one}
@@ -37,7 +38,7 @@ use Rattle.run_merge.specs.Merging.{Ticketed, RiseFrom, without_tickets, history
 use Rattle.run_merge.specs.ObjectsByName.{get, made_of}
 use Rattle.run_merge.specs.Products.{LeadsTask, led_by, task_behind}
 use Rattle.run_merge.specs.SharedObjects.{ticketed, seen_at, tasks_left, state_left, ClosesAreRuns}
-use Rattle.run_merge.proofs.Fronts.{first_or, behind_first, has_some}
+use Rattle.run_merge.proofs.Fronts.{has_some}
 use Rattle.run_merge.proofs.enough_shown.TaskCounts.{walked, first_is, done_at, rounds_few, few_drawn, image_at, image_none}
 use Rattle.run_merge.proofs.enough_shown.DrewEvents.{drew_as_events}
 use Rattle.run_merge.proofs.enough_shown.CallTickets.{events_told, events_untold, rises_events}

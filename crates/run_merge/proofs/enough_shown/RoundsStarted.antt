@@ -7,6 +7,7 @@ use Rattle.std.proofs.lemmas.Bool.{true≢false}
 use Rattle.std.proofs.lemmas.List.Elements.{All-head, All-tail}
 use Rattle.std.proofs.lemmas.List.FromFn.{length-map-range_with_len}
 use Rattle.std.proofs.lemmas.List.Sums.{sum_by-append, sum_by-cons}
+use Rattle.bio_books.specs.Kept.{one_if}
 use Rattle.seat_lock.specs.History.{Leads}
 use Rattle.stack_base.specs.declared.ids.PoolId.{PoolId}
 use Rattle.run_machine.specs.declared.event.TaskId.{TaskId}
@@ -45,10 +46,6 @@ starts_left (Rescuer dev submission) = 0
 starts_left (Completer disk carried) = 0
 starts_left (Keeper (Keeps duties)) = starts duties
 starts_left (Keeper (Stops breach)) = 0
-
-abbrev one_if : Bool → ℕ
-one_if true = 1
-one_if false = 0
 
 is_keeper : TaskId → Bool
 is_keeper id.Keeper = true

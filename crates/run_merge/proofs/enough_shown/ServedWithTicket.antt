@@ -1,10 +1,11 @@
 -- What a thing serves with a ticket, its object serves in a run; where that is no event, the object stays as it is.
 use Rattle.std.proofs.Common.{◌≡◌, ◌+◌, ◌<◌, ◌⊎◌, ◌==◌, if◌then◌else◌, ℕ, zero, suc, Bool, true, false, Option, None, Some, length, inl, inr, refl, sym, ◌∙◌, ap, arith}
 use Rattle.std.specs.Option.{is_some}
-use Rattle.std.proofs.lemmas.Bool.{eq-eqb, ne_eqb, true≢false}
+use Rattle.std.proofs.lemmas.Bool.{eq-eqb, true≢false}
 use Rattle.elem_ledger.specs.Ledger.{LedgerId}
 use Rattle.stack_base.specs.declared.ids.PoolId.{PoolId}
 use Rattle.stack_base.specs.declared.ids.Status.{Status}
+use Rattle.stack_base.proofs.NumberLemmas.{not_zero}
 use Rattle.bio_records.specs.declared.bio.Pad.{Pad}
 use Rattle.bio_records.specs.Items.{Item}
 use Rattle.bio_records.specs.Rescue.{Rescue}
@@ -37,9 +38,6 @@ has_one old new got.Missed h = absurd h
 
 goes : (old new : LedgerPool) (move : Move) → PoolMoves old move new → PoolGoes old.state move new.state
 goes old new move h = (h.moves.can, h.moves.after)
-
-not_zero : (out : ℕ) → 0 < out → (out == 0) ≡ false
-not_zero out some = ne_eqb out 0 (λ none. omega (arith, some, none))
 
 resized : (old new : LedgerPool) (min out : ℕ) → ((out ≡ 0) × PoolMoves old (resizes min) new) ⊎ ((0 < out) × (new ≡ old))
     → new.state ≡ (if out == 0 then after_move old.state (resizes min) else old.state)

@@ -11,10 +11,10 @@ use Rattle.stack_base.specs.declared.ids.PoolId.{PoolId}
 use Rattle.stack_base.specs.declared.ids.PoolId.TheVariants.{Bios, Records}
 use Rattle.stack_base.specs.declared.ids.SetId.{SetId}
 use Rattle.stack_base.specs.declared.ids.SetId.TheVariants.{Fs, Of}
+use Rattle.stack_base.proofs.ListLemmas.{first_or, behind_first}
 use Rattle.mempool_core.specs.declared.Facts.{Facts}
 use Rattle.run_machine.specs.Opened.{at}
 use Rattle.run_merge.specs.Falling.{DevicePools, row_of, at_number, below, sets_below, records_below, with_facts, falling_below, MovesLast, MovesIf}
-use Rattle.run_merge.proofs.Fronts.{first_or, behind_first}
 
 -- a list is empty or has a last element
 pub parted : {A : Type 0} (xs : List A) → (xs ≡ []) ⊎ ((rest : List A) × (last : A) × (xs ≡ rest ++ last ∷ []))

@@ -5,8 +5,9 @@ use Rattle.std.specs.List.{range_with_len}
 use Rattle.std.specs.Option.{option_map_or}
 use Rattle.std.proofs.lemmas.Bool.{true≢false, eq-eqb, ne_eqb}
 use Rattle.std.proofs.lemmas.List.Elements.{All-nil, All-cons, All-head, All-tail}
+use Rattle.stack_base.proofs.ListLemmas.{first_or, behind_first}
 use Rattle.task_core.specs.Tables.{is_entry_of, look_up}
-use Rattle.run_merge.proofs.Fronts.{first_or, behind_first, has_some}
+use Rattle.run_merge.proofs.Fronts.{has_some}
 
 abbrev pub AreDistinct : List ℕ → Type 0
 AreDistinct [] = Unit {0}

@@ -8,6 +8,7 @@ use Rattle.std.proofs.lemmas.Simd.{map-map}
 use Rattle.stack_base.specs.declared.ids.DevId.{DevId}
 use Rattle.stack_base.specs.declared.ids.SetId.{SetId}
 use Rattle.stack_base.specs.declared.ids.SetId.TheVariants.{Fs, Of}
+use Rattle.stack_base.proofs.ListLemmas.{first_or, behind_first}
 use Rattle.run_machine.specs.Opened.{at}
 use Rattle.run_machine.specs.Scene.{has_set, is_disk}
 use Rattle.task_core.specs.Plains.{is_bios_number}
@@ -15,7 +16,7 @@ use Rattle.task_core.specs.Tables.{look_up}
 use Rattle.task_core.specs.opened.Openings.{itself, set_index, uses_set, slip_index, uses_slips}
 use Rattle.task_steps.specs.Routed.{Routing, routing_setup}
 use Rattle.shared_objects.specs.Holding.{by_pool, set_key, slip_key}
-use Rattle.run_merge.proofs.Fronts.{first_or, behind_first, has_some}
+use Rattle.run_merge.proofs.Fronts.{has_some}
 use Rattle.run_merge.proofs.leaving.Devices.{has_records}
 use Rattle.run_merge.proofs.leaving.FoundByKey.{AreDistinct, looked, numbers_apart, pairs}
 

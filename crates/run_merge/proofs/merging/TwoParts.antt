@@ -3,6 +3,7 @@ use Rattle.std.proofs.Common.{◌≡◌, ◌<◌, ◌++◌, ℕ, List, [], ◌�
 use Rattle.std.specs.Prelude.{All}
 use Rattle.std.proofs.lemmas.Bool.{true≢false}
 use Rattle.std.proofs.lemmas.List.Elements.{All-head, All-tail}
+use Rattle.stack_base.proofs.ListLemmas.{first_or, behind_first}
 use Rattle.elem_ledger.specs.Ledger.{LedgerId}
 use Rattle.run_machine.specs.Laws.{Object}
 use Rattle.run_machine.specs.Scene.{Setup}
@@ -12,7 +13,7 @@ use Rattle.run_merge.specs.Machines.{LeadsObject}
 use Rattle.run_merge.specs.Merging.{Ticketed, without_tickets}
 use Rattle.run_merge.specs.ObjectsByName.{StateAt}
 use Rattle.run_merge.specs.Products.{LeadsTask, led_by}
-use Rattle.run_merge.proofs.Fronts.{first_or, behind_first, is_none}
+use Rattle.run_merge.proofs.Fronts.{is_none}
 use Rattle.run_merge.proofs.merging.TicketOrder.{Ordered}
 
 -- where they lead an object and a task

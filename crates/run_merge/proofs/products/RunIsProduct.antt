@@ -4,6 +4,7 @@ use Rattle.std.specs.Prelude.{IsTrue}
 use Rattle.std.specs.Option.{is_some}
 use Rattle.std.proofs.lemmas.Bool.{eqb-true, eqb-false, true≢false}
 use Rattle.std.proofs.lemmas.List.Elements.{All-cons, All-nil}
+use Rattle.stack_base.proofs.ListLemmas.{first_or, behind_first}
 use Rattle.elem_ledger.specs.Ledger.{LedgerId}
 use Rattle.run_machine.specs.declared.event.Event.{Event}
 use Rattle.run_machine.specs.Laws.{Object, object_of}
@@ -22,7 +23,7 @@ use Rattle.run_merge.specs.Entries.{Entry, AreEvents, entries_in}
 use Rattle.run_merge.specs.Machines.{ServesAt, LeadsObject, entries_at}
 use Rattle.run_merge.specs.ObjectsByName.{get}
 use Rattle.run_merge.specs.Products.{LeadsTask, entries_by, led_by, AtEach, IsProduct, AreOfRun, RunsAreProducts}
-use Rattle.run_merge.proofs.Fronts.{first_or, behind_first, is_none}
+use Rattle.run_merge.proofs.Fronts.{is_none}
 use Rattle.run_merge.proofs.products.StateBehind.{entry_of, at_start, behind_run}
 use Rattle.run_merge.proofs.products.KnownBehind.{known}
 use Rattle.run_merge.proofs.products.ProductIsRun.{leads}

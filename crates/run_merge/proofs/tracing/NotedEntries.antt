@@ -5,6 +5,7 @@ use Rattle.std.specs.Prelude.{All, Contains}
 use Rattle.std.proofs.lemmas.Bool.{true≢false, eq-eqb, eqb-true, eqb-false}
 use Rattle.std.proofs.lemmas.List.Elements.{All-cons, All-head, All-nil, All-tail, Contains-append_left, Contains-append_right, Contains-append_cases}
 use Rattle.std.proofs.lemmas.List.Sums.{sum_by-cons}
+use Rattle.stack_base.proofs.ListLemmas.{first_or, behind_first}
 use Rattle.run_machine.specs.declared.event.Event.{Event}
 use Rattle.run_machine.specs.declared.event.What.{What}
 use Rattle.run_machine.specs.Events.{id_of, what_of}
@@ -22,7 +23,7 @@ use Rattle.shared_objects.proofs.steps.GlanceStays.{event_struck}
 use Rattle.run_merge.specs.Entries.{Entry, entries_in}
 use Rattle.run_merge.specs.Merging.{Ticketed, without_tickets}
 use Rattle.run_merge.specs.SharedObjects.{ticketed}
-use Rattle.run_merge.proofs.Fronts.{first_or, behind_first, is_none}
+use Rattle.run_merge.proofs.Fronts.{is_none}
 use Rattle.run_merge.proofs.enough_shown.BreaksOff.{stop_breaks}
 use Rattle.run_merge.proofs.enough_shown.CallTickets.{events_told, events_untold}
 use Rattle.run_merge.proofs.enough_shown.CallEvents.{ticketed_events}

@@ -10,7 +10,7 @@ use Rattle.bio_records.specs.declared.bio.Pad.{Pad}
 use Rattle.bio_records.specs.declared.bio.Slip.{Slip}
 use Rattle.bio_records.specs.declared.body.BioBody.{BioBody}
 use Rattle.bio_records.specs.declared.segment.Vector.{Vector}
-use Rattle.bio_records.specs.Clear.{IsClearBody}
+use Rattle.bio_records.specs.Clear.{IsClearBody, IsClearSlip, IsClearVector}
 use Rattle.run_machine.specs.Laws.{OfPool, object_of}
 use Rattle.run_machine.specs.Maps.{upd}
 use Rattle.run_machine.specs.Requests.{Request}
@@ -26,7 +26,7 @@ use Rattle.shared_objects.specs.declared.locks.Locks.{Locks}
 use Rattle.shared_objects.specs.declared.seats.TaskSeats.{TaskSeats}
 use Rattle.shared_objects.specs.Calling.{AreSeatedAt, FitsWith, HasAsked, HasAskedAt}
 use Rattle.shared_objects.specs.Desks.{HasCalled}
-use Rattle.shared_objects.specs.Holding.{AreLocked, AreSeatsOf, DeskHolds, IsClearSlip, IsClearVector, by_pool, calls_in, calls_of, desk_of, set_key, slip_key, stage_at}
+use Rattle.shared_objects.specs.Holding.{AreLocked, AreSeatsOf, DeskHolds, by_pool, calls_in, calls_of, desk_of, set_key, slip_key, stage_at}
 use Rattle.shared_objects.proofs.asking.PassAndCalls.{SeatCalls, fits_with, has_called, home_again, numbered_stays, owed_of, seat_calls}
 use Rattle.task_core.proofs.PoolLemmas.{bios_change, records_change, vecs_change, stands_for_bios, stands_for_records, bios_not_64, bios_of_set, slips_not_64, slips_of_set}
 use Rattle.shared_objects.proofs.asking.RowCalls.{mark_as, row_call, row_calls, row_fits, row_owed, row_seats}

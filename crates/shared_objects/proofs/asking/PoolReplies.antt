@@ -16,7 +16,7 @@ use Rattle.bio_records.specs.declared.bio.Pad.{Pad}
 use Rattle.bio_records.specs.declared.bio.Slip.{Slip}
 use Rattle.bio_records.specs.declared.body.BioBody.{BioBody}
 use Rattle.bio_records.specs.declared.segment.Vector.{Vector}
-use Rattle.bio_records.specs.Clear.{IsClearBody}
+use Rattle.bio_records.specs.Clear.{IsClearBody, IsClearSlip, IsClearVector}
 use Rattle.bio_records.specs.Items.{item_of}
 use Rattle.bio_books.specs.Views.{slip_item}
 use Rattle.bioset_pools.specs.Sets.{bios_of}
@@ -36,7 +36,7 @@ use Rattle.object_things.specs.Pools.{TookFrom, WaitsAt, had_of, take_request, t
 use Rattle.shared_objects.specs.Desks.{DeskState, HasCalled}
 use Rattle.shared_objects.specs.declared.locks.Locks.{Locks}
 use Rattle.shared_objects.specs.declared.seats.TaskSeats.{TaskSeats}
-use Rattle.shared_objects.specs.Holding.{DeskHolds, IsClearSlip, IsClearVector, stage_at}
+use Rattle.shared_objects.specs.Holding.{DeskHolds, stage_at}
 
 -- elements as pools hand them out are clear ones
 bio_is : (ledger : LedgerId) (el : Element (BioBody Pad)) → IsHandedOut IsClearBody ledger el → clear_bio el.share ≡ item_of el

@@ -9,7 +9,7 @@ use Rattle.std.proofs.lemmas.Option.{slice_get-get_or, none-some}
 use Rattle.task_core.specs.Tables.{is_entry_of, IsAt}
 use Rattle.task_core.specs.opened.Filled.{AreMade, IsNext}
 use Rattle.task_core.proofs.NumberTests.{is_itself, is_apart, clash, lt_or}
-use Rattle.model_disks.proofs.PageLemmas.{range_more}
+use Rattle.stack_base.proofs.ListLemmas.{range_more}
 
 pub below_or_last : (i n : ℕ) → i < n + 1 → (i < n) ⊎ (i ≡ n)
 below_or_last i n lt = search (lt, arith)

@@ -3,7 +3,7 @@ use Rattle.std.proofs.Common.{◌≡◌, ◌-◌, ◌<◌, ◌≤◌, ◌==◌, 
 use Rattle.std.specs.Prelude.{All, IsTrue, nat_lt, sum_by}
 use Rattle.std.specs.List.{list_any, range_with_len}
 use Rattle.std.proofs.lemmas.List.{length-replicate}
-use Rattle.std.proofs.lemmas.List.Elements.{All-append, All-cons, All-filter, All-head, All-map, All-nil, All-tail, All-weaker}
+use Rattle.std.proofs.lemmas.List.Elements.{All-append, All-cons, All-filter, All-map, All-nil, All-weaker}
 use Rattle.std.proofs.lemmas.List.FromFn.{get_or-range_with_len, length-range_with_len}
 use Rattle.std.proofs.lemmas.List.Sums.{sum_by-cons}
 use Rattle.fail_script.specs.Script.{Answers}
@@ -12,6 +12,7 @@ use Rattle.stack_base.specs.declared.stack.Stack.{Stack}
 use Rattle.stack_base.specs.PoolId.{pool_number}
 use Rattle.stack_base.specs.Stack.{HasRescuers, IsStack}
 use Rattle.stack_base.specs.Tree.{size, tree}
+use Rattle.stack_base.proofs.ListLemmas.{unmapped}
 use Rattle.layout_model.specs.declared.write.Write.{Write}
 use Rattle.layout_model.specs.May.{bads_of}
 use Rattle.layout_model.specs.NeedCounts.{nodes}
@@ -80,10 +81,6 @@ all_passing p (x ∷ xs) = by_test (all_passing p xs) (p x) refl
         let is : x ∷ filter p xs ≡ filter p (x ∷ xs) = rw (q) refl in
         subst (All (λ x. p x ≡ true)) is (All-cons (λ x. p x ≡ true) x (filter p xs) q rest)
     by_test rest false q = let is : filter p xs ≡ filter p (x ∷ xs) = rw (q) refl in subst (All (λ x. p x ≡ true)) is rest
-
-unmapped : {X Y : Type 0} (P : Y → Type 0) (f : X → Y) (xs : List X) → All P (map f xs) → All (λ x. P (f x)) xs
-unmapped P f [] all = All-nil (λ x. P (f x))
-unmapped P f (x ∷ xs) all = All-cons (λ x. P (f x)) x xs (All-head P (f x) (map f xs) all) (unmapped P f xs (All-tail P (f x) (map f xs) all))
 
 range_below : (n : ℕ) → All (λ k. k < n) (range_with_len 0 n)
 range_below n = λ k d lt.

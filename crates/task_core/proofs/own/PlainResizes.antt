@@ -1,13 +1,13 @@
 -- Reserves of the pools of one thread.
-use Rattle.std.proofs.Common.{◌≡◌, ◌⊎◌, inl, inr, ◌<◌, ◌≤◌, ◌==◌, if◌then◌else◌, ℕ, false, List, get_or, set, refl, sym, ap, subst, ◌∙◌, arith}
+use Rattle.std.proofs.Common.{◌≡◌, ◌⊎◌, inl, inr, ◌<◌, ◌≤◌, ◌==◌, if◌then◌else◌, ℕ, List, get_or, set, refl, sym, ap, subst, ◌∙◌}
 use Rattle.std.specs.Prelude.{IsTrue, slice_index_or}
-use Rattle.std.proofs.lemmas.Bool.Decides.{nat_tests}
 use Rattle.std.proofs.lemmas.List.{set-get_or}
 use Rattle.stack_base.specs.declared.ids.DevId.{DevId}
 use Rattle.stack_base.specs.declared.ids.SetId.{SetId}
 use Rattle.stack_base.specs.declared.ids.PoolId.{PoolId}
 use Rattle.stack_base.specs.declared.ids.PoolId.TheVariants.{FsVecs, Records}
 use Rattle.stack_base.specs.PoolId.{pool_number}
+use Rattle.stack_base.proofs.NumberLemmas.{not_zero}
 use Rattle.mempool_core.specs.Move.{resizes, after_move}
 use Rattle.mempool_core.specs.Pool.{LedgerPool}
 use Rattle.mempool_core.specs.Pool as pool
@@ -24,9 +24,6 @@ use Rattle.task_core.proofs.Keeping.{set_is_bios, mirror_is_slips}
 use Rattle.task_core.proofs.own.PlainLemmas.{kept_by, with_bios, with_records, with_vecs, bios_there, bios_entered, bios_move, bios_stage, records_there, records_entered, records_move, records_stage, vecs_entered, vecs_move, vecs_stage}
 use Rattle.task_core.proofs.own.PlainFacts.{set_is}
 use Rattle.task_core.proofs.NumberTests.{is_itself}
-
-not_zero : (out : ℕ) → 0 < out → (out == 0) ≡ false
-not_zero out lt = grind (lt, arith, nat_tests)
 
 -- a resize that was a move, or changed nothing, as what is served
 moved_so : (old new : Objects) (n min out : ℕ) → out ≡ 0 → PoolMoves old n (resizes min) new

@@ -1,5 +1,5 @@
 -- Takes of the objects of one thread.
-use Rattle.std.proofs.Common.{◌≡◌, ℕ, Bool, [], get_or, subst}
+use Rattle.std.proofs.Common.{◌≡◌, ℕ, Bool, get_or, subst}
 use Rattle.std.specs.Prelude.{IsTrue, Ok, slice_index_or}
 use Rattle.elem_ledger.specs.declared.element.Element.{Element}
 use Rattle.elem_ledger.specs.Ledger.{LedgerId}
@@ -16,7 +16,7 @@ use Rattle.bio_records.specs.declared.bio.Pad.{Pad}
 use Rattle.bio_records.specs.declared.bio.Slip.{Slip}
 use Rattle.bio_records.specs.declared.body.BioBody.{BioBody}
 use Rattle.bio_records.specs.declared.segment.Vector.{Vector}
-use Rattle.bio_records.specs.Clear.{IsClearBody}
+use Rattle.bio_records.specs.Clear.{IsClearBody, IsClearVector, IsClearSlip}
 use Rattle.bio_records.specs.Items.{item_of}
 use Rattle.bioset_pools.specs.Sets.{bios_of}
 use Rattle.bio_books.specs.Views.{slip_item}
@@ -28,12 +28,6 @@ use Rattle.task_steps.specs.Views.{took_bio, took_vec, took_slip, vec_item}
 use Rattle.task_core.specs.Plains.{objects_of, stage_of, Holds}
 use Rattle.task_core.proofs.Keeping.{set_is_bios, mirror_is_slips}
 use Rattle.task_core.proofs.own.PlainLemmas.{kept_by, owed_by, take_moves, with_bios, with_records, with_vecs, bios_there, bios_entered, bios_move, bios_stage, records_there, records_entered, records_move, records_stage, vecs_entered, vecs_move, vecs_stage}
-
-abbrev IsClearSlip : Slip → Type 0
-IsClearSlip slip = slip ≡ record { legs = 0 }
-
-abbrev IsClearVector : Vector → Type 0
-IsClearVector vector = vector.segments.items ≡ []
 
 -- an element as its pool hands it out is a clear one
 pub clear_bio_is : (ledger : LedgerId) (element : Element (BioBody Pad)) → IsHandedOut IsClearBody ledger element → item_of element ≡ clear_bio ledger

@@ -2,9 +2,9 @@
 ghost use Rattle.std.specs.Prelude.{◌≡◌, ◌<◌, length, true, None};
 ghost use Rattle.bio_records.specs.Items.{item_of, IsAlone};
 ghost use Rattle.run_machine.specs.Scene.{tree_at};
-ghost use Rattle.run_machine.specs.Submissions.{Rests, Drives, goes_on};
+ghost use Rattle.run_machine.specs.Submissions.{Rests, Drives, goes_on, is_cut};
 ghost use Rattle.task_steps.specs.declared.submission.Doing.TheVariants as doing';
-ghost use Rattle.task_steps.specs.Within.{IsWithinDevice, ListsAreWithin, is_cut, DoingFits, SubmissionFits};
+ghost use Rattle.task_steps.specs.Within.{IsWithinDevice, ListsAreWithin, DoingFits, SubmissionFits};
 ghost use Rattle.task_steps.specs.Routed.{routing_setup};
 ghost use Rattle.task_steps.specs.SubmissionViews.{asking, cutting, copying, attempt_of, ask_of, doing_of, landed_submission, submission_of, IsWantAlone, IsAskOfAlone, IsDoingAlone, is_asking};
 ghost use Rattle.task_steps.specs.Answers.{AsksFirst, Does, SubmissionReady};

@@ -28,6 +28,7 @@ use Rattle.block_core.proofs.start.FactsAtStart.{start_opened}
 use Rattle.block_core.proofs.start.RoomAtStart.{start_roomy}
 use Rattle.block_core.proofs.unrefused.NodeNeeds.{Needs, needs_known}
 use Rattle.block_core.proofs.unrefused.RoomKept.{runs_roomy}
+use Rattle.block_core.proofs.moves.StepsTold.{touch_in}
 use Rattle.trace_replay.specs.Names.{Names, no_names, names_after, event_placed, placed}
 use Rattle.trace_replay.specs.Traces.{AreRead, NextPlacesAreVacant}
 use Rattle.trace_replay.proofs.renaming.Books.{elsewhere}
@@ -112,10 +113,6 @@ shuts_none writer key w place is = subst opens_none is tt
 
 passes_none : (w place : ℕ) → Opens w place ≢ Passes
 passes_none w place is = subst opens_none is tt
-
-abbrev touch_in : Option What → Touch
-touch_in None = Passes
-touch_in (Some what) = touch_of what
 
 module _ (names : Names) where
   linked : (writer name : ℕ) (read : What) (how : _) (test : Bool) → (if test then Some (what.Link writer how (names.opened writer)) else None) ≡ Some read

@@ -1,7 +1,7 @@
 -- One more number.
 use Rattle.std.proofs.Common.{◌∷◌, [], ◌++◌, length, sym, ap, ◌∙◌, arith}
 use Rattle.std.proofs.lemmas.List.FromFn.{length-range_with_len}
-use Rattle.model_disks.proofs.PageLemmas.{range_more}
+use Rattle.stack_base.proofs.ListLemmas.{range_more}
 use Rattle.model_disks.proofs.pages.in_turn.Goals as goal
 
 pub push_reserved-requires : goal.push_reserved-requires

@@ -1,7 +1,8 @@
 //! What a driver does that cuts bios.
 ghost use Rattle.std.specs.Prelude.{◌≡◌, ◌<◌, true, IfOk};
 ghost use Rattle.stack_base.specs.Tree.{tree};
-ghost use Rattle.task_steps.specs.Within.{IsWithinDevice, ListsAreWithin, DoingFits, is_cut};
+ghost use Rattle.run_machine.specs.Submissions.{is_cut};
+ghost use Rattle.task_steps.specs.Within.{IsWithinDevice, ListsAreWithin, DoingFits};
 ghost use Rattle.plain_core.specs.objects.Lists.{lists_of, ListsHaveCapacity};
 ghost use Rattle.plain_core.specs.steps.Views.{want_of_plain};
 ghost use Rattle.plain_core.specs.steps.Submissions.{CanTurn, cuts_for, CutsInto, CutSteps};

@@ -5,12 +5,12 @@ use Rattle.std.specs.Prelude.{slice_get}
 use Rattle.stack_base.specs.Stack.{AreMemberSizes, HasShape, IsStack}
 use Rattle.stack_base.specs.declared.stack.Stack.{Stack}
 use Rattle.stack_base.specs.declared.stack.Kind.TheVariants.{Linear, Stripe}
-use Rattle.stack_base.specs.Tree.{size, shape_of, tree}
+use Rattle.stack_base.specs.Tree.{size, shape_of, tree, sizes_at}
 use Rattle.stack_base.specs.declared.stack.Device.{Device}
 use Rattle.stack_base.specs.Mapping.{size_of, smallest}
 use Rattle.stack_base.proofs.MemberSizes.{members_small}
 use Rattle.mirror_map.specs.Legs.{MirrorState}
-use Rattle.task_steps.specs.Routed.{copies_bios, sizes_at}
+use Rattle.task_steps.specs.Routed.{copies_bios}
 use Rattle.task_steps.proofs.Opening.{stripe_small, limit_sizes, mirror_size}
 use Rattle.task_steps.proofs.routes.driver.driver_of.Goals as goal
 

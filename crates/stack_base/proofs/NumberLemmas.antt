@@ -1,0 +1,14 @@
+-- Tests of numbers.
+use Rattle.std.proofs.Common.{◌≡◌, ℕ, ◌<◌, ◌==◌, false, eqb, sym, ◌∙◌, inl, inr, arith}
+use Rattle.std.proofs.lemmas.Bool.{cases_eq, eq-eqb, ne_eqb}
+
+-- two numbers are equal from either side
+pub eqb_flips : (x y : ℕ) → eqb x y ≡ eqb y x
+eqb_flips x y = elim (cases_eq x y) [
+  | inl same ↦ eq-eqb x y same ∙ sym (eq-eqb y x (sym same))
+  | inr other ↦ ne_eqb x y other ∙ sym (ne_eqb y x (λ same. other (sym same)))
+]
+
+-- what is not 0 is told apart from it
+pub not_zero : (out : ℕ) → 0 < out → (out == 0) ≡ false
+not_zero out some = ne_eqb out 0 (λ none. omega (arith, some, none))
