@@ -13,7 +13,7 @@ use std::sync::Wait;
 /// The most tasks that a run has: eight writers, a rescuer or a completer for each of 32 devices, and the keeper of rounds.
 pub const MOST_TASKS: usize = 41;
 
-/// A list of tasks, as many as a run has at the most, which takes no memory. Contracts see the list.
+/// A list of tasks, as many as a run has at the most, so that dealing takes no memory. Contracts see the list.
 #[derive(Drop)]
 pub struct Few<T: Drop> {
     // All of them are there. An unused place of the vector holds a blank, which a task has none of.

@@ -24,7 +24,8 @@ pub trait Gate {
     /// Called behind each step of a task.
     fn after(&self, task: TaskId);
 
-    /// Is shown what is left of shared objects, as they were closed: so each event in their histories has a ticket of its own.
+    /// Is shown what is left of shared objects, as they were closed: so each event in their histories has a ticket of its own. Who ran the workers
+    /// calls it, and not `run_workers`: workers share the gate by reference, and a close is told to it alone.
     fn closed(&mut self, closed: &Closed)
         requires { HasClosed closed.now }
         ensures { shown self.new ≡ Some (showing closed.now) };

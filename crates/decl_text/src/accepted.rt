@@ -7,6 +7,9 @@ use stack_base::{PoolId, Stack};
 
 /// A stack and the scripts of its pools, which the declarations of a text mean. They have no refusal but perhaps that a mirror of two
 /// members or more has no rescuer.
+///
+/// The stack is kept by the lines that declare it, of which none is refused, and not by what they say: so each fact of such lines follows from the
+/// type, and none has to be listed. That some lines mean it is a truncated fact, since a type may keep only facts that have one proof.
 #[derive(Drop)]
 pub struct Accepted {
     pub stack: Stack,

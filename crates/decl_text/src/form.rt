@@ -1,4 +1,5 @@
-//! The forms of lines: what may stand behind the first word of each.
+//! The forms of lines: what may stand behind the first word of each. They are a table (places, options, members), so that whether words and numbers
+//! are right is asked once for all lines.
 ghost use Rattle.std.specs.Prelude.{◌≡◌};
 ghost use Rattle.decl_text.specs.Words.{has_number, is_one_of, is_word, key_word};
 ghost use Rattle.decl_text.specs.Forms.{form};

@@ -145,7 +145,8 @@ fn is_text(line: &[u8]) -> bool
         .all(|byte| is_blank(*byte) || (b' ' < *byte && *byte < 127))
 }
 
-/// Whether a line has blanks at the most, so that it has no word and says nothing. A reader that asks first makes no list of words for it.
+/// Whether a line has blanks at the most, so that it has no word and says nothing. A reader that asks first makes no list of words for it: a text may
+/// have four million of them, and a list of no words that is moved about costs more than the line.
 pub fn is_blank_line(line: &[u8]) -> bool
     ensures { result ≡ list_all is_blank line.now }
 {

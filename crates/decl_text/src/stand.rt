@@ -4,7 +4,8 @@ ghost use Rattle.decl_text.specs.Stands.{may_stand};
 
 use crate::Command;
 
-/// Where a line stands, as far as it matters for what the line may be about.
+/// Where a line stands, as far as it matters for what the line may be about. A declaration between a `sync` and a `resize` line needs no case of its
+/// own, since it is refused itself.
 #[derive(Clone, Copy, PartialEq, Eq)]
 pub enum Stand {
     /// Before all writes and `sync` lines.

@@ -12,7 +12,7 @@ use crate::form::Key;
 use std::alloc::{AllocError, Global};
 use std::marker::Model;
 
-/// A part of a line without blanks.
+/// A part of a line without blanks. It is borrowed from the text until a device keeps its name, since a text may have two million of them.
 #[derive(Drop)]
 pub struct Word<'a> {
     bytes: &'a [u8],

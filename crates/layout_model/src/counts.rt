@@ -18,6 +18,9 @@ const SEGMENT_SECTORS: u64 = 8;
 const OWN_SEGMENTS: u64 = 4;
 
 /// What a write needs, as counts.
+///
+/// It is a sum over the sectors of a run, each with what begins there: so need and number of fragments are sums without a list. The record that a
+/// mirror takes counts where its run begins, once, and not once a leg or a piece below.
 #[derive(Clone, Copy, PartialEq, Eq)]
 pub struct Needs {
     /// The elements of pools: bios, vectors and records.

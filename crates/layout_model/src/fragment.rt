@@ -12,6 +12,9 @@ use stack_base::{DevId, Device, Kind, Stack};
 use std::alloc::{AllocError, Global};
 
 /// A part of a write that comes to a disk as one bio. Places and lengths count sectors.
+///
+/// By its definition it is an interval, with a law that no sector is left out, so that a class of sectors that were none could not go unseen. Its
+/// rank, by which fragments are sorted, is one number: its offset times 2^32 and its disk.
 #[derive(Clone, Copy, Debug, PartialEq, Eq)]
 pub struct Fragment {
     /// The number of the write.

@@ -42,6 +42,8 @@ pub struct TooMuchWork {
 
 /// What the writes need together, and `z`, as it was given.
 ///
+/// The number of writes is bounded by no condition, since each needs its own bio: the first with too much work is among the first 1,048,577.
+///
 /// # Errors
 ///
 /// Exactly where the writes need more than 1,048,576 elements.

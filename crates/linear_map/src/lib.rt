@@ -31,7 +31,8 @@ impl Model for Linear {
 
 impl Linear {
     /// A linear device over members of these sizes in sectors, as an accepted stack has them: from 1 to 8 members, with no more than
-    /// 262,144 sectors together (`linear_conf`, `drivers/md/md-linear.c`).
+    /// 262,144 sectors together (`linear_conf`, `drivers/md/md-linear.c`). Members with a sector are not asked for, since nothing rests on it;
+    /// nor do stripes, limits and zoned devices.
     #[tactic(auto, unfolding(stack_base::specs::Mapping::size_of))]
     pub fn new(sizes: ArrayVec<u64, 8>) -> Linear
         requires shape { HasShape Kind.Linear (length sizes.items) }

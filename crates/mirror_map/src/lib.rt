@@ -31,7 +31,8 @@ impl Model for Mirror {
 
 impl Mirror {
     /// A mirror over these members, of which there are from 1 to 8, with the size in sectors of the smallest of them, as the stack that
-    /// it stands in has it (`setup_conf`, `drivers/md/raid1.c`).
+    /// it stands in has it (`setup_conf`, `drivers/md/raid1.c`). It tells its size, though legs do not need it: of a leg only its number has
+    /// to be one of a member.
     pub fn new(members: ArrayVec<DevId, 8>, size: u64) -> Mirror
         requires { 1 ≤ length members.items }
         ensures { result ≡ record { members = members.items; size = size } }

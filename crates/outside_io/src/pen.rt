@@ -32,7 +32,9 @@ fn put_all<K: Sink>(sink: &mut K, text: &[u8]) -> Result<(), Failed>
 ///
 /// So what has many parts is written straight through, with no exit at each of them. What the pen is told waits in a buffer of 8,192 bytes,
 /// which takes no memory, and goes on to the sink where that is full: a put for each line of a trace would be a call of the system for
-/// each event. So a line leaves later than its event. Whoever ends a text calls [`Pen::finish`], which hands on the rest.
+/// each event. So a line leaves later than its event. Whoever ends a text calls [`Pen::finish`], which hands on the rest: nothing can be said of
+/// what a drop would write. What is pending is part of what the pen stands at, so the relation of one call composes with that of the next.
+///
 /// All calls of one text name the same sink.
 #[derive(Drop)]
 pub struct Pen {

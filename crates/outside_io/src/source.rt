@@ -11,7 +11,8 @@ use thiserror::Error;
 pub struct Failed;
 
 impl Failed {
-    // A fault, which is counted. The count stays at its last number.
+    // A fault, which is counted. A count rises at a failure and at nothing else, so that no body can fail, try again and answer as if nothing had
+    // been. It stands at 2^64 - 1 once it is there, and "the count rose" holds then too: min (before + 1) (2^64 - 1) <= now.
     pub(crate) fn counted(faults: &mut u64) -> Failed
         ensures rises { faults.new ≡ risen faults.old }
         ensures later { faults.old ≤ faults.new }

@@ -9,7 +9,8 @@ use std::io::{Read, Write};
 
 /// Gives what a reader of std gives.
 ///
-/// Each take is one read, and an error of it a fault, an interrupted read too.
+/// Each take is one read, and an error of it a fault, an interrupted read too. That it is one is in no clause, since std's traits tell of bytes and
+/// count no calls; a test counts them.
 #[derive(Drop)]
 pub struct StdSource<R> {
     from: R,

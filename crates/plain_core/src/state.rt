@@ -29,6 +29,10 @@ use task_core::{Event, Opened, Routes, TaskId, What, drop_tasks, open_tasks};
 use work_text::Work;
 
 /// A state of the machine of a run, without elements and ledgers.
+///
+/// A task's slot rises with its place (8 writers, 32 rescuers, 32 completers, the keeper), so that no two tasks share one. Room in a task's lists is
+/// made by the call that changes the object, behind its question, and not before the step, so that an event that is no step is told so without
+/// memory.
 #[derive(Drop)]
 pub struct Core {
     routes: Arc<Routes>,
@@ -95,7 +99,7 @@ fn step_at(
 
 impl Core {
     /// The state in which the runs of a text begin, of which these are the stack, the scripts of its pools and the work over it. No object is
-    /// opened for it.
+    /// opened for it. It wants less than an accepted text gives (`CanOpen`), so that it opens a stack whose rescuers were taken away, too.
     ///
     /// # Errors
     /// Where there is no memory.
@@ -121,7 +125,9 @@ impl Core {
         })
     }
 
-    /// The plain state of what was opened of a text: pools, disks, books, the tally and the tasks as they are there, without an element.
+    /// The plain state of what was opened of a text: pools, disks, books, the tally and the tasks as they are there, without an element. It reads
+    /// these, and no copy of the text, so that opening keeps no more than a run needs. What they share of the stack is an `Arc` of its routes, of
+    /// which the core takes a share.
     ///
     /// # Errors
     /// Where there is no memory.

@@ -24,10 +24,15 @@ const SERVED: usize = 1;
 const THING: usize = 0;
 
 // How often a caller looks whether its turn has come before it sleeps. A look takes some nanoseconds, and a turn that is handed to a sleeper
-// some thousand; but who looks keeps a processor from whoever is served.
+// some thousand; but who looks keeps a processor from whoever is served. Who passes a turn on wakes sleepers only where a later turn was drawn,
+// so a free lock makes no system call.
 const LOOKS: u32 = 300;
 
 /// A lock round a thing. It serves one caller at a time, and has a history of its calls.
+///
+/// The history stands in the rule of the table alone, with a beginning of it in each seat's view, so that no list grows in a running program. A
+/// turn has three steps (a draw, looks, a pass-on): the look takes the thing and the pass-on puts it back, so it is never out while none is
+/// served.
 #[derive(Drop)]
 pub struct SeatLock<T: Thing> {
     table: Table<T, View<T, T::Asked, T::Told>, Snapshot<T>, Turning, Global>,
@@ -44,7 +49,8 @@ impl<T: Thing> Model for SeatLock<T> {
     ghost invariant = { λ l. (l.table.shared.table_id.words ≡ 2) × (l.table.shared.table_id.slots ≡ 1) };
 }
 
-/// The right to call a lock, one call at a time. It has no bytes. Contracts see what is known of the lock through it.
+/// The right to call a lock, one call at a time. It has no bytes. Contracts see what is known of the lock through it, and not the turn that it may
+/// have: between two calls it has none, which the type keeps.
 pub struct Seat<T: Thing> {
     inner: atomic_table::Seat<T, View<T, T::Asked, T::Told>>,
 }

@@ -32,7 +32,8 @@ pub trait Thing {
     /// Whether a thing of this mark can be asked so.
     ghost fits: { Self.Mark → Self.Request → Type 0 };
 
-    /// What a thing of this mark owes of each reply to a request, beside its place in the history.
+    /// What a thing of this mark owes of each reply to a request, beside its place in the history: so what is no plain data may go in and come
+    /// back.
     ghost owes: { Self.Mark → Self.Request → Self.Reply → Type 0 };
 
     /// The machine: the data before, what is asked and what is told, and the data after.

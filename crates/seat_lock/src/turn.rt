@@ -59,7 +59,8 @@ impl<T, A, R, B: Call<A, R>> Play<T, View<T, A, R>> for PassOn<B> {
     ghost then = { Passed B.calls };
 }
 
-/// A look that tells a seat what a split or a join made of it.
+/// A look that tells a seat what a split or a join made of it. It changes no word: the step itself tells its caller nothing, and the look what the
+/// rule makes of it.
 pub struct Learn;
 
 impl<T: Thing> Play<T, View<T, T::Asked, T::Told>> for Learn {

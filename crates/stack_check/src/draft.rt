@@ -57,7 +57,7 @@ impl Model for FsReserves {
     ghost view = { λ reserves. record { bios = reserves.bios; vecs = reserves.vecs } };
 }
 
-/// What was declared, each in the order of its lines.
+/// What was declared, each in the order of its lines. What is known of the lines so far is one record of the definitions, and this is seen as it.
 #[derive(Drop)]
 pub(crate) struct Draft<'a> {
     pub(crate) devices: Devices<'a>,

@@ -31,7 +31,8 @@ impl Stripe {
     /// A stripe of chunks of `chunk` sectors over `members` members, the smallest of which has `smallest` sectors. It is as an accepted
     /// stack has it: a chunk of 1 sector or more, from 1 to 8 members, and no more than 262,144 sectors together. What a member has
     /// besides the whole chunks of the smallest one is not used (`create_strip_zones`, `drivers/md/raid0.c`), so the sizes of the
-    /// others do not matter.
+    /// others do not matter: it is seen as one over members of the smallest size, and a law says that a stripe goes by nothing else
+    /// (`stripes_go_by_smallest`).
     pub fn new(chunk: u64, members: u32, smallest: u64) -> Stripe
         requires shape { HasShape (Kind.Stripe chunk) members }
         requires small { size_of (Kind.Stripe chunk) (replicate members smallest) ≤ 262144 }

@@ -79,6 +79,11 @@ pub enum Unmade {
 ///
 /// All elements that they are handed and hand out are of the ledgers that they name, one for each pool. Where others use them too, a call
 /// may need a ticket that it cannot get: it changes nothing then, and hands back what it was handed. Plain objects always answer.
+///
+/// What they tell of a call (`serves`) and what they owe for it are two clauses: the first is theirs to define, as the machine's relation or a seat's
+/// history, and the second is one definition for all. Which bio a disk completes is told by the chooser's own relation and by theirs (`chooses`,
+/// `picks`), so that a run by a stream of words can say which index each word gave. They may also tell that none was left when the disk was asked
+/// again, for disks that others use; the objects of one thread never do.
 pub trait Objects {
     /// Which objects there are, and which ledger each pool has.
     ghost stage: { Self → Stage };

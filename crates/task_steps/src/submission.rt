@@ -94,7 +94,9 @@ impl Kept {
     }
 }
 
-/// What a submission is at.
+/// What a submission is at. It is put in its place and handed on by no result: a step takes it out once, and what follows is put where nothing is
+/// (`put`). It is large, since it can keep what came back of a refused call: as part of each callee's result, runs took 1.15 to 1.4 times the
+/// instructions.
 #[derive(Drop)]
 pub enum Doing {
     /// It is over.
@@ -111,7 +113,8 @@ pub enum Doing {
         leg: u32,
         want: Want,
     },
-    /// It cannot go on, and keeps what it had at hand and what came back. A punt that was refused has its bios there, and no more in the lists.
+    /// It cannot go on, and keeps what it had at hand and what came back, so that every element is still somebody's, though no task of a run comes to
+    /// that. A punt that was refused has its bios there, and no more in the lists, which would want their order.
     Breaks {
         breach: Breach,
         kept: Kept,

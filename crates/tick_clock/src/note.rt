@@ -5,7 +5,7 @@ use std::marker::Model;
 
 /// Keeps the greatest ticket that it has seen. Contracts see it as that number.
 ///
-/// It is of no clock: what it has seen of one clock it can bring to another.
+/// It is of no clock: what it has seen of one clock it can bring to another, where it is taken as seen, and the next ticket is above it.
 #[derive(Drop)]
 pub struct Note {
     pub(crate) seen: u64,

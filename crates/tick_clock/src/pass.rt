@@ -11,6 +11,9 @@ use std::marker::Model;
 ///
 /// Contracts see also which tickets were drawn with it, the last ticket of its clock that it has found, and whether it is the first
 /// pass of its clock. It may be dropped; its tickets then stay drawn, and no other pass ever shows them.
+///
+/// It shows some row of all tickets, not the row: two passes that were never joined show two, which no clause compares. A join, and a draw that
+/// finds no ticket, end with a look, so that what the pass has found is the last ticket at a moment of the call.
 #[derive(Drop)]
 pub struct Pass {
     pub(crate) seat: Seat<u64, View>,

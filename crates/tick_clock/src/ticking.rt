@@ -18,7 +18,8 @@ pub enum Rank {
 pub struct Ticket {
     /// The number that was drawn.
     pub number: u64,
-    /// The greatest ticket that its pass or its note had seen before; 0 where they had seen none.
+    /// The greatest ticket that its pass or its note had seen before; 0 where they had seen none. It is kept so that "one more than what was
+    /// seen" is one line of the definition.
     pub seen: u64,
 }
 

@@ -15,6 +15,9 @@ pub struct Name {
 }
 
 /// The nodes that a run has opened, as its trace names them.
+///
+/// They get places in the order of opening, neither any vacant one nor the lowest: then names are put into places without a look at the state. At
+/// 2^32 nodes of one writer there is no next place, and `replay` answers that memory is wanting; no text comes there.
 #[derive(Drop)]
 pub struct Names {
     /// How many nodes each writer has opened.

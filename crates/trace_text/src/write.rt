@@ -240,7 +240,8 @@ fn put_what(into: &mut LineBytes, stack: &Stack, what: What)
 }
 
 /// Makes `into` the event's line, without the byte 10 that would end it. Where the stack has what the event names, and its devices have different
-/// names, `read_event` reads the event again. A device that the stack does not have is told by no name.
+/// names, `read_event` reads the event again. A device that the stack does not have is told by no name, so that a trace needs no condition on
+/// runs: that each event of a run names what the stack has is a law beside it.
 pub fn write_event(e: &Event, stack: &Stack, into: &mut ArrayVec<u8, 128>)
     ensures { into.new.items ≡ line_of_event stack.now e.now }
 {

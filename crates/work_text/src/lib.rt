@@ -51,6 +51,8 @@ pub struct Work {
 /// The work of a text whose declarations were accepted, which end before the first write or `sync` line. A `sync` line behind which no
 /// write follows is checked and left out, with its `resize` lines.
 ///
+/// That the rest begins with a write or has no line is asked for, as `read_decl` answers it: else this would check declarations too.
+///
 /// # Errors
 ///
 /// Where a line is refused, with the first of them and its number, or where there is no memory.

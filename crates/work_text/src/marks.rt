@@ -36,8 +36,9 @@ fn no_mark_of(alloc: Global, stack: &Stack, dev: DevId) -> Result<Marks, AllocEr
     Marks::none(alloc, sectors)
 }
 
-/// A mark for each sector of a device: a number for each round, and 0 where there is no mark. They are kept by pages, of which most stay empty where
-/// a disk is large: a page takes time only once a mark is set in it.
+/// A mark for each sector of a device: a number for each round, and 0 where there is no mark. So a write is compared with its own sectors alone. They
+/// are kept by pages, of which most stay empty where a disk is large: a page takes time only once a mark is set in it, so a large disk costs
+/// what is written to it. Room for all marks is taken when the text is opened.
 #[derive(Drop)]
 pub(crate) struct Marks {
     count: u64,

@@ -16,6 +16,9 @@ use std::marker::Model;
 
 /// A device whose chunks go round members of any sizes, seen as the sectors of a chunk and the members' sizes in sectors, in their order
 /// (`struct r0conf`, `drivers/md/raid0.h`).
+///
+/// Past its last zone it has slots that stand for nothing, as a linear device has: the law of cutting holds there too, since a piece ends with its
+/// chunk wherever chunks lie.
 #[derive(Drop)]
 pub struct Zoned {
     chunk: u64,
@@ -40,6 +43,9 @@ impl Zoned {
     /// or more, and from 1 to 8 members, with fewer than 2^32 sectors together. First chunks go round all members up to the whole
     /// chunks of the smallest, then round those that have more, up to the next smallest, and so on (`create_strip_zones`,
     /// `drivers/md/raid0.c`). What a member has besides whole chunks is not used.
+    ///
+    /// The bound is 2^32 and not 262,144 sectors: a valid stack bounds a zoned device by its whole chunks, so what is left of its members is
+    /// bounded only member by member.
     pub fn new(chunk: u64, sizes: ArrayVec<u64, 8>) -> Zoned
         requires shape { HasShape (Kind.Zoned chunk) (length sizes.items) }
         requires small { sum sizes.items < 2 ^ 32 }

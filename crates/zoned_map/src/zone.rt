@@ -7,7 +7,8 @@ use arrayvec::ArrayVec;
 use std::marker::Model;
 
 /// A zone: the members that it goes round, the chunk of each of them that it begins at, and how many chunks it has (`struct strip_zone`,
-/// `drivers/md/raid0.h`).
+/// `drivers/md/raid0.h`). The definitions have zones by levels, the different numbers of chunks of the members: a filter over a range of numbers, so
+/// that they rise and none is left out by their form. The code sorts; the definitions do not.
 #[derive(Default, Drop)]
 pub struct Zone {
     pub members: ArrayVec<u32, 8>,
