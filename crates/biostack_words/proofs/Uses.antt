@@ -3,6 +3,7 @@ use Rattle.std.proofs.Common.{◌≡◌, ◌∙◌, ◌&&◌, ◌||◌, Bool, co
 use Rattle.std.proofs.lemmas.List.{map-append}
 use Rattle.std.proofs.lemmas.Slice.Eq.{bytes_eq-Decides}
 use Rattle.std.proofs.lemmas.Bool.Decides.{Decides-like, same_from_decides}
+use Rattle.std.proofs.lemmas.Bool.{not-true}
 use Rattle.std.specs.Str.{bytes_eq}
 use Rattle.clap.specs.Walk.{Row, at_row, more_values, with_values, without, Text, has_row, used}
 use Rattle.clap.specs.Faults.{use_fault}
@@ -109,10 +110,6 @@ both_true : (a b : Bool) → (a && b) ≡ true → (a ≡ true) × (b ≡ true)
 both_true true b e = (refl, e)
 both_true false b e = absurd (true≢false (sym e))
 
-not_true : (a : Bool) → not a ≡ true → a ≡ false
-not_true true e = absurd (true≢false (sym e))
-not_true false e = refl
-
 -- two of one kind
 are_twice : (setting : Setting) (done more : List Setting) → has setting.kind done ≡ true → are_once (done ++ setting ∷ more) ≡ false
 are_twice setting [] more some = absurd (true≢false (sym some))
@@ -132,7 +129,7 @@ one_more setting (first ∷ done) once none =
     let parts = both_true (not (has first.kind done)) (are_once done) once in
     let apart = neither (is_setting_of setting.kind first) (has setting.kind done) none in
     let other : is_setting_of first.kind setting ≡ false = is_of_back first setting ∙ apart.0 in
-    let fresh : has first.kind (done ++ setting ∷ []) ≡ false = has_on first.kind done (setting ∷ []) ∙ rw (not_true (has first.kind done) parts.0, other) refl in
+    let fresh : has first.kind (done ++ setting ∷ []) ≡ false = has_on first.kind done (setting ∷ []) ∙ rw (not-true (has first.kind done) parts.0, other) refl in
     rw (fresh, one_more setting done parts.1 apart.1) refl
 
 pub repeated : (setting : Setting) (done more : List Setting) → has setting.kind done ≡ true → given_once (done ++ setting ∷ more) ≡ None

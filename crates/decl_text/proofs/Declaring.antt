@@ -6,6 +6,7 @@ use Rattle.std.specs.Option.{option_or}
 use Rattle.std.proofs.lemmas.Bool.Decides.{nat_tests}
 use Rattle.std.proofs.lemmas.List.Sums.{sum_by-cons}
 use Rattle.std.proofs.lemmas.Option.{none-some}
+use Rattle.std.proofs.lemmas.Bool.{not-false}
 use Rattle.decl_text.specs.Text.{is_name, is_option, number_of}
 use Rattle.decl_text.specs.Words.{has_number, is_word, is_within}
 use Rattle.decl_text.specs.Commands.{command_of}
@@ -23,7 +24,7 @@ use Rattle.decl_text.specs.declared.form.Key.TheVariants.{Chunk, Max, Rescuer, R
 use Rattle.decl_text.specs.declared.form.Place.{Place}
 use Rattle.decl_text.specs.declared.form.Place.TheVariants.{Name, Mention, Number, OneOf}
 use Rattle.decl_text.specs.declared.item.Item.{Item}
-use Rattle.decl_text.proofs.FormLemmas.{first_not, others_not, not_not, number_is, value_passes, wrong}
+use Rattle.decl_text.proofs.FormLemmas.{first_not, others_not, number_is, value_passes, wrong}
 
 -- nothing, or a declaration
 abbrev pub Declares : Option Item → Type 0
@@ -40,7 +41,7 @@ formed_by form words fine = record { placed = others_not _ _ (first_not _ _ (fir
 
 -- a name at the first place
 pub named : (places : List Place) (name : List ℕ) (rest : List (List ℕ)) → list_any (λ (at : Place × List ℕ). is_misplaced at.0 at.1) (zip (Name ∷ places) (name ∷ rest)) ≡ false → is_name name ≡ true
-named places name rest placed = not_not (is_name name) (others_not (is_option name) _ (first_not (is_misplaced Name name) _ placed))
+named places name rest placed = not-false (is_name name) (others_not (is_option name) _ (first_not (is_misplaced Name name) _ placed))
 
 -- an option that is nowhere is there no times
 missing_by : (name : Key) (first : Option (List ℕ)) (word : List ℕ) (words : List (List ℕ)) → value_of name word ≡ first → (value_in name words ≡ None → times name words ≡ 0)
@@ -105,7 +106,7 @@ meaning_declares command.Bad (a ∷ []) other stands formed fine = tt
 meaning_declares command.Bad (a ∷ b ∷ []) other stands formed fine = tt
 meaning_declares command.Bad (a ∷ b ∷ c ∷ []) other stands formed fine = tt
 meaning_declares command.Bad (disk ∷ from ∷ count ∷ word ∷ []) other stands formed fine =
-    (number_from_least 1 (2 ^ 64 - 1) count (number_of count) refl (not_not (is_within 1 (2 ^ 64 - 1) (number_of count)) (third_number disk from count word fine)), kind_fails word)
+    (number_from_least 1 (2 ^ 64 - 1) count (number_of count) refl (not-false (is_within 1 (2 ^ 64 - 1) (number_of count)) (third_number disk from count word fine)), kind_fails word)
 meaning_declares command.Bad (a ∷ b ∷ c ∷ d ∷ e ∷ more) other stands formed fine = tt
 meaning_declares command.Linear [] other stands formed fine = tt
 meaning_declares command.Linear (a ∷ more) other stands formed fine = (named [] a more (formed_by (form command.Linear) (a ∷ more) formed).placed, tt)
@@ -148,7 +149,7 @@ first_declares : (first : List ℕ) (rest : List (List ℕ)) (b : Bool) (o : Opt
 first_declares first rest true o comment of_first other stands formed fine = rw comment tt
 first_declares first rest false None comment of_first other stands formed fine = rw (comment, of_first) tt
 first_declares first rest false (Some c) comment of_first other stands formed fine =
-    rw (comment, of_first) (meaning_declares c rest (rw (comment, of_first) at other) (not_not _ (rw (comment, of_first) at stands)) (rw (comment, of_first) at formed) (rw (comment, of_first) at fine))
+    rw (comment, of_first) (meaning_declares c rest (rw (comment, of_first) at other) (not-false _ (rw (comment, of_first) at stands)) (rw (comment, of_first) at formed) (rw (comment, of_first) at fine))
 
 pub said_declares : (line : List (List ℕ)) → begins_work line ≡ false → misplaced Front line ≡ false → malformed line ≡ false → misnumbered line ≡ false → Declares (said line)
 said_declares [] other stands formed fine = tt

@@ -61,10 +61,11 @@ record IsFit (known : Known) : Type 0 where
   names : AreNamedApart known.devices
   bad : (of : BadOf) → Contains known.bad of → IsFitBad (sectors_at known.devices of.disk) of.bad
 
--- a disk has as many sectors as its line says
-abbrev one_more : List Tree → Declared → List Tree
+-- the trees behind one more device
+abbrev pub one_more : List Tree → Declared → List Tree
 one_more below device = below ++ tree_over below device ∷ []
 
+-- a disk has as many sectors as its line says
 disk_size : (number : ℕ) (does : What) (members : List Tree) → declares_disk does ≡ true → size (grown number does members) ≡ sectors_of does
 disk_size number (what.Disk sectors) members is = refl
 disk_size number _ members is = cc

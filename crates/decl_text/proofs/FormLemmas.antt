@@ -2,7 +2,7 @@
 use Rattle.std.proofs.Common.{◌≡◌, ◌≤◌, ◌||◌, ℕ, Bool, true, false, not, List, [], ◌∷◌, length, drop, zip, Some, None, Option, if◌then◌else◌, is_some, true≢false, refl, sym, ◌∙◌, arith, length-drop, take, ◌-◌}
 use Rattle.std.specs.List.{list_any}
 use Rattle.std.specs.Option.{option_or}
-use Rattle.std.proofs.lemmas.Bool.{ltb-false}
+use Rattle.std.proofs.lemmas.Bool.{ltb-false, not-false}
 use Rattle.std.proofs.lemmas.List.{take_all}
 use Rattle.std.proofs.lemmas.Option.{none-some, same_Some}
 use Rattle.decl_text.specs.Text.{is_option, is_number, number_of}
@@ -64,13 +64,9 @@ within_some : (least most : ℕ) (n : Option ℕ) → is_within least most n ≡
 within_some least most None is = is
 within_some least most (Some n) is = refl
 
-pub not_not : (b : Bool) → not b ≡ false → b ≡ true
-not_not true is = refl
-not_not false is = sym is
-
 some_number : (least most : ℕ) (value : Option (List ℕ)) → fails (has_number (Number least most)) value ≡ false → fails (λ v. is_some (number_of v)) value ≡ false
 some_number least most None fine = refl
-some_number least most (Some v) fine = rw (within_some least most (number_of v) (not_not (is_within least most (number_of v)) fine)) refl
+some_number least most (Some v) fine = rw (within_some least most (number_of v) (not-false (is_within least most (number_of v)) fine)) refl
 
 pub numbers : (name : Key) (least most : ℕ) (words : List (List ℕ)) → list_any (λ word. fails (has_number (Number least most)) (value_of name word)) words ≡ false
     → list_any (λ word. fails (λ v. is_some (number_of v)) (value_of name word)) words ≡ false
@@ -83,7 +79,7 @@ numbers name least most (word ∷ words) fine =
 value_by : (may : List ℕ → Bool) (first more : Option (List ℕ)) (v : List ℕ) → fails may first ≡ false → (more ≡ Some v → may v ≡ true)
     → option_or first more ≡ Some v → may v ≡ true
 value_by may None more v fine later found = later found
-value_by may (Some w) more v fine later found = rw (sym (same_Some _ _ found)) (not_not (may w) fine)
+value_by may (Some w) more v fine later found = rw (sym (same_Some _ _ found)) (not-false (may w) fine)
 
 pub value_passes : (may : List ℕ → Bool) (name : Key) (words : List (List ℕ)) (v : List ℕ) → list_any (λ word. fails may (value_of name word)) words ≡ false
     → value_in name words ≡ Some v → may v ≡ true

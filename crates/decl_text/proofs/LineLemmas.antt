@@ -1,6 +1,7 @@
 -- What a line says, by its first word.
 use Rattle.std.proofs.Common.{◌≡◌, ◌||◌, ℕ, Bool, true, false, not, List, [], ◌∷◌, Some, None, Option, Ok, Err, if◌then◌else◌, drop, refl, sym, ap, ◌∙◌, arith}
 use Rattle.std.proofs.lemmas.Option.{none-some}
+use Rattle.std.proofs.Math.Bool.{or-true, or-false}
 use Rattle.decl_text.specs.Text.{is_text, words}
 use Rattle.decl_text.specs.Commands.{command_of}
 use Rattle.decl_text.specs.Forms.{form, is_malformed, is_misnumbered}
@@ -132,21 +133,13 @@ commanded stand line word rest command text is first_is =
     record { told = λ known at. rw (told known line (word ∷ rest) text is, parts.0, parts.1, at) refl; said = rw (is, parts.0, parts.1) refl }
 
 -- it may not stand there
-or_true : (b : Bool) → (b || true) ≡ true
-or_true true = refl
-or_true false = refl
-
 late_said : (stand : Stand) (line : List ℕ) (rest : List (List ℕ)) (command : Command) → Commanded stand line command rest → may_stand stand command ≡ false → Says stand line (Err (Wrong BadWord))
-late_said stand line rest command c late = λ known at. rw (c.told known at, late, or_true) refl
-
-or_false : (b : Bool) → (b || false) ≡ b
-or_false true = refl
-or_false false = refl
+late_said stand line rest command c late = λ known at. rw (c.told known at, late, or-true) refl
 
 -- it may
 told_there : (stand : Stand) (line : List ℕ) (rest : List (List ℕ)) (command : Command) → Commanded stand line command rest → may_stand stand command ≡ true
     → (known : Known) → stand_of known ≡ stand → first_found line_checks known line ≡ (if is_malformed (form command) rest then Some BadWord else (if is_misnumbered (form command) rest then Some BadNumber else None))
-told_there stand line rest command c stands known at = rw (c.told known at, stands, or_false) refl
+told_there stand line rest command c stands known at = rw (c.told known at, stands, or-false) refl
 
 item_said : (stand : Stand) (line : List ℕ) (rest : List (List ℕ)) (command : Command) (item : Item) → Commanded stand line command rest → may_stand stand command ≡ true
     → CommandSays command rest (Ok item) → Says stand line (Ok (Some item))

@@ -4,6 +4,7 @@ use Rattle.std.proofs.lemmas.Bool.{cases_lt}
 use Rattle.stack_base.specs.Mapping.{Slot, slot, head}
 use Rattle.stack_base.specs.Cutting.{next, IsCut}
 use Rattle.stack_base.specs.Tree.{Tree, Leaf, Split, Mirrored}
+use Rattle.stack_base.proofs.ListLemmas.{first_or, behind_first}
 use Rattle.layout_model.specs.Way.{Place, heads, place}
 use Rattle.layout_model.specs.Laws.{FragmentsFollow}
 use Rattle.layout_model.proofs.Sound.{Sound, cut_of_split, sound_leg, sound_piece}
@@ -40,14 +41,6 @@ module _ (head_of : ℕ → ℕ → ℕ) (next_of : ℕ → ℕ) (slot_of : ℕ 
 abbrev further : Place → ℕ → Place
 further p n = record { disk = p.disk; at = p.at + n }
 
-abbrev first_of : List ℕ → ℕ
-first_of [] = 0
-first_of (x ∷ xs) = x
-
-abbrev rest_of : List ℕ → List ℕ
-rest_of [] = []
-rest_of (x ∷ xs) = xs
-
 -- sectors whose heads agree at every device of the way
 follow : (t : Tree) → Sound t → (r s n : ℕ) (choices : List ℕ) → r ≤ s → heads t r (s + n) choices ≡ heads t r s choices
     → place t (s + n) choices ≡ further (place t s choices) n
@@ -56,7 +49,7 @@ follow (Leaf number sectors) sound r s n choices le same = refl
 follow (Split number kind sizes members) sound r s n choices le same =
     let cut = cut_of_split number kind sizes members sound in
     let h = head kind sizes r s in
-    let top : head kind sizes r (s + n) ≡ h = ap first_of same in
+    let top : head kind sizes r (s + n) ≡ h = ap (first_or 0) same in
     let at_s : slot kind sizes s ≡ record { member = (slot kind sizes h).member; at = (slot kind sizes h).at + (s - h) } = along_piece (head kind sizes) (next kind sizes) (slot kind sizes) cut r s le in
     let le_n : r ≤ s + n = omega arith in
     let behind : h ≤ s = head_before (head kind sizes) (next kind sizes) (slot kind sizes) cut r s le in
@@ -69,14 +62,14 @@ follow (Split number kind sizes members) sound r s n choices le same =
     let lower : heads below start (start + (s - h) + n) choices ≡ heads below start (start + (s - h)) choices =
     sym (ap (λ (x : Slot). heads (members x.member) start x.at choices) at_n)
     ∙ sym (ap (λ g. heads (members (slot kind sizes (s + n)).member) (slot kind sizes g).at (slot kind sizes (s + n)).at choices) top)
-    ∙ ap rest_of same
+    ∙ ap behind_first same
     ∙ ap (λ (x : Slot). heads (members x.member) start x.at choices) at_s in
     ap (λ (x : Slot). place (members x.member) x.at choices) at_n
     ∙ follow (members (slot kind sizes h).member) (sound_piece number kind sizes members sound (slot kind sizes h).member) start (start + (s - h)) n choices (omega arith) lower
     ∙ sym (ap (λ (x : Slot). further (place (members x.member) x.at choices) n) at_s)
 follow (Mirrored number sizes members) sound r s n [] le same = refl
 follow (Mirrored number sizes members) sound r s n (choice ∷ choices) le same =
-    follow (members choice) (sound_leg number sizes members sound choice) r s n choices le (ap rest_of same)
+    follow (members choice) (sound_leg number sizes members sound choice) r s n choices le (ap behind_first same)
 
 pub fragments_follow : FragmentsFollow
 fragments_follow t write offset r len f sound is j lt =

@@ -10,6 +10,10 @@ use Rattle.layout_model.proofs.AtMost.{fragments_le_needed}
 use Rattle.layout_model.proofs.SmallCounts.{needed_small}
 use Rattle.layout_model.proofs.Stacks.{tree_sound}
 
+-- what stands for a write where there is none
+abbrev pub no_write : Write
+no_write = record { task = 0; dev = record { 0 = 0 }; start = 0; count = 0; tag = 0 }
+
 -- a choice between one and nothing
 one_or_none : (b : Bool) → cond b 1 0 ≤ 1
 one_or_none true = omega arith

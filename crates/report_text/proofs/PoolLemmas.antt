@@ -1,11 +1,11 @@
 -- The pools of a stack by falling number, told device by device.
-use Rattle.std.proofs.Common.{◌+◌, ◌-◌, ◌≡◌, ◌<◌, ◌≤◌, ◌==◌, ◌||◌, ℕ, suc, Bool, true, false, true≢false, List, [], ◌∷◌, ◌++◌, length, map, take, drop, get_or, Option, refl, sym, ap, ◌∙◌, subst, arith}
+use Rattle.std.proofs.Common.{◌+◌, ◌-◌, ◌≡◌, ◌<◌, ◌≤◌, ◌==◌, ◌||◌, ℕ, suc, Bool, true, false, List, [], ◌∷◌, ◌++◌, length, map, take, drop, get_or, Option, refl, sym, ap, ◌∙◌, subst, arith}
 use Rattle.std.proofs.lemmas.List.{append_assoc, append-nil, take-append-drop, take-map, drop-map, map-append, length-map, length-append, get_or-map, drop_all}
 use Rattle.std.proofs.Math.Seq.{take-append_seam, drop-append_seam, drop-cons}
 use Rattle.std.proofs.lemmas.List.Concat.{flat_map-append}
 use Rattle.std.proofs.lemmas.List.Folds.{list_any-append}
 use Rattle.std.proofs.lemmas.List.Elements.{All-append, All-cons}
-use Rattle.std.proofs.lemmas.Bool.{ne_eqb, eq-eqb}
+use Rattle.std.proofs.lemmas.Bool.{ne_eqb, eq-eqb, or_parts}
 use Rattle.std.specs.Prelude.{codes, decimal, All}
 use Rattle.std.specs.List.{flat_map, list_any}
 use Rattle.stack_base.specs.declared.ids.DevId.{DevId}
@@ -44,14 +44,6 @@ Lacks pools pool = list_any (λ q. same_pool q pool) pools ≡ false
 neither : (a b : Bool) → a ≡ false → b ≡ false → (a || b) ≡ false
 neither a b first second = rw first second
 
-first_not : (a b : Bool) → (a || b) ≡ false → a ≡ false
-first_not false b not_both = refl
-first_not true b not_both = not_both
-
-others_not : (a b : Bool) → (a || b) ≡ false → b ≡ false
-others_not false b not_both = not_both
-others_not true b not_both = absurd (true≢false not_both)
-
 lacks_both : (xs ys : List PoolId) (pool : PoolId) → Lacks xs pool → Lacks ys pool → Lacks (xs ++ ys) pool
 lacks_both xs ys pool first second =
     list_any-append (λ q. same_pool q pool) xs ys ∙ neither (list_any (λ q. same_pool q pool) xs) (list_any (λ q. same_pool q pool) ys) first second
@@ -62,7 +54,8 @@ unfolding facts_of
 skip [] behind pool lacks = refl
 skip (p ∷ more) behind pool lacks =
     let others = list_any (λ q. same_pool q pool) (ids more) in
-    rw (first_not (same_pool p.0 pool) others lacks) (skip more behind pool (others_not (same_pool p.0 pool) others lacks))
+    let first = or_parts (same_pool p.0 pool) others lacks in
+    rw first.0 (skip more behind pool first.1)
 
 here : (p : PoolId × Facts) (behind : Entries) (pool : PoolId) → same_pool p.0 pool ≡ true → facts_of (p ∷ behind) pool ≡ p.1
 unfolding facts_of

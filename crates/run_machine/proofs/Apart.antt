@@ -54,6 +54,11 @@ of_range count base make is test a (suc n) = by_test (of_range count base make i
     by_test rest false = wider count (base + (a + 1)) (base + a) (base + (a + 1) + n) (base + a + suc n) (map make (filter test (range_with_len (a + 1) n)))
         (omega arith) (omega arith) rest
 
+-- there is one keeper at most
+pub one_keeper : (list : List Duty) → length (keepers list) ≤ 1
+one_keeper [] = omega arith
+one_keeper (duty ∷ list) = omega arith
+
 of_keepers : (count : ℕ) (list : List Duty) → Rises count (8 + count + count) (keepers list) (8 + count + count + 1)
 of_keepers count [] = omega arith
 of_keepers count (duty ∷ list) = (omega arith, omega arith)

@@ -1,5 +1,6 @@
 -- What runs begin with, written out for examples: it is what the runs of a scenario begin with, where it is so place by place.
-use Rattle.std.proofs.Common.{◌≡◌, ℕ, List, [], length, replicate, slice_get, slice_index_or, None, subst}
+use Rattle.std.proofs.Common.{◌≡◌, ◌==◌, if◌then◌else◌, ℕ, Bool, true, false, List, [], ◌∷◌, length, replicate, sum_by, refl, slice_get, slice_index_or, None, subst, arith}
+use Rattle.std.proofs.lemmas.List.Sums.{sum_by-cons}
 use Rattle.elem_ledger.specs.Ledger.{LedgerId}
 use Rattle.fail_script.specs.Script.{Answers}
 use Rattle.stack_base.specs.declared.ids.PoolId.{PoolId}
@@ -7,11 +8,12 @@ use Rattle.stack_base.specs.declared.ids.PoolId.TheVariants.{FsBios, FsVecs, Bio
 use Rattle.stack_base.specs.declared.stack.Stack.{Stack}
 use Rattle.stack_base.specs.Tree.{tree, size}
 use Rattle.layout_model.specs.May.{bads_of}
+use Rattle.layout_model.specs.NeedCounts.{nodes}
 use Rattle.mempool_core.specs.Move.{opened}
 use Rattle.model_disks.specs.Moves as disk
 use Rattle.run_machine.specs.declared.event.Event.{Event}
 use Rattle.run_machine.specs.Scene.{Setup, Scene, rescuer_at}
-use Rattle.run_machine.specs.Tasks.{TaskState}
+use Rattle.run_machine.specs.Tasks.{Todo, TaskState}
 use Rattle.run_machine.specs.Objects.{Objects, TallyState}
 use Rattle.run_machine.specs.Events.{pool_of}
 use Rattle.run_machine.specs.Opened.{Scenario, at, no_task, places_of, reserve_of, script_at}
@@ -45,6 +47,15 @@ reserves_are reserve stack bios vecs of_sets of_mirrors FsBios = bios
 reserves_are reserve stack bios vecs of_sets of_mirrors FsVecs = vecs
 reserves_are reserve stack bios vecs of_sets of_mirrors (Bios dev) = of_sets dev.0
 reserves_are reserve stack bios vecs of_sets of_mirrors (Records dev) = of_mirrors dev.0
+
+-- where one writer has one write, its book has a place for each node of it, and the other books have none
+pub first_places : (stack : Stack) (todo : Todo) (count : ℕ) → count ≡ nodes stack todo.write → (writer : ℕ)
+    → (if 0 == writer then count else 0) ≡ sum_by (λ (todo : Todo). nodes stack todo.write) (if 0 == writer then todo ∷ [] else [])
+first_places stack todo count is writer = by_test (0 == writer)
+  where
+    by_test : (own : Bool) → (if own then count else 0) ≡ sum_by (λ (todo : Todo). nodes stack todo.write) (if own then todo ∷ [] else [])
+    by_test true = omega (arith, is, sum_by-cons (λ (todo : Todo). nodes stack todo.write) todo [])
+    by_test false = refl
 
 module _ (setup : Setup) (reserve : PoolId → ℕ) (tally : TallyState) (s : Scenario) where
   -- the setup, the reserves and the tally are the scenario's, and no disk of it has bad sectors

@@ -1,7 +1,8 @@
 -- Runs that are given event by event, for examples: each with the task's place, the reply, and what becomes of the objects.
-use Rattle.std.proofs.Common.{◌≡◌, ℕ, List, [], ◌∷◌, Some, refl, IsTrue, nat_lt}
-use Rattle.std.proofs.lemmas.Bool.{ltb-true}
-use Rattle.mempool_core.specs.Move.{Move, after_move}
+use Rattle.std.proofs.Common.{◌≡◌, ◌==◌, ℕ, Bool, true, false, List, [], ◌∷◌, Some, refl, sym, subst, IsTrue, nat_lt}
+use Rattle.std.proofs.lemmas.Bool.{eqb-true, ltb-true}
+use Rattle.stack_base.proofs.ListLemmas.{Each}
+use Rattle.mempool_core.specs.Move.{Move, PoolState, after_move}
 use Rattle.bio_records.specs.declared.bio.Pad.{Pad}
 use Rattle.bio_records.specs.Items.{Item}
 use Rattle.model_disks.specs.Disks.{DiskState}
@@ -86,3 +87,20 @@ in_book place reply writer change = record {
   reply = reply;
   change = λ old. record old { book = upd old.book writer (change (old.book writer)) };
 }
+
+-- Nothing is out of any pool: of these by what is shown of each, and of all others, whose numbers are none of these.
+module _ (pools : ℕ → PoolState) where
+  abbrev IsHome : ℕ → Type 0
+  IsHome number = (pools number).facts.out ≡ 0
+
+  one_home : (number : ℕ) (numbers : List ℕ) → Each IsHome numbers → (Each (λ other. (number == other) ≡ false) numbers → IsHome number) → IsHome number
+  one_home number [] at others = others tt
+  one_home number (other ∷ numbers) at others = by_test (number == other) refl (λ is. one_home number numbers at.1 (λ rest. others (is, rest)))
+    where
+      by_test : (b : Bool) → (number == other) ≡ b → ((number == other) ≡ false → IsHome number) → IsHome number
+      by_test true is next = subst IsHome (sym (eqb-true number other is)) at.0
+      by_test false is next = next is
+
+  pub all_home : (numbers : List ℕ) → Each IsHome numbers → ((number : ℕ) → Each (λ other. (number == other) ≡ false) numbers → IsHome number)
+      → (number : ℕ) → IsHome number
+  all_home numbers at others number = one_home number numbers at (others number)

@@ -1,5 +1,5 @@
 -- A submission: the bio that its driver has and what the driver asks for, and the task's two lists (`submit_bio_noacct`, block/blk-core.c).
-use Rattle.std.specs.Prelude.{◌+◌, ◌-◌, ◌==◌, ◌++◌, if◌then◌else◌, min, ℕ, Bool, true, false, List, [], ◌∷◌, length, map, Option, None, Some}
+use Rattle.std.specs.Prelude.{◌+◌, ◌-◌, ◌==◌, ◌++◌, if◌then◌else◌, min, ℕ, Bool, true, false, List, [], ◌∷◌, length, map, Option, None, Some, not}
 use Rattle.stack_base.specs.declared.ids.DevId.{DevId}
 use Rattle.stack_base.specs.declared.ids.Range.{Range}
 use Rattle.stack_base.specs.declared.ids.SetId.TheVariants.{Of}

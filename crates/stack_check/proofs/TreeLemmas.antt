@@ -11,13 +11,10 @@ use Rattle.stack_base.proofs.DeclaredKinds.{size_of_le}
 use Rattle.decl_text.specs.declared.item.What.{What}
 use Rattle.decl_text.specs.declared.item.What.TheVariants as what
 use Rattle.decl_text.specs.Known.{Declared, trees, tree_of, tree_over, grown, sectors_of}
+use Rattle.decl_text.proofs.Fits.{one_more}
 use Rattle.stack_check.specs.Sound.{what_size}
 use Rattle.stack_check.specs.Rows.{size_with}
 use Rattle.std.proofs.lemmas.Simd.{map-map}
-
--- the trees behind one more device
-abbrev one_more : List Tree → Declared → List Tree
-one_more below device = below ++ tree_over below device ∷ []
 
 pub trees_push : (devices : List Declared) (device : Declared) → trees (devices ++ device ∷ []) ≡ trees devices ++ tree_over (trees devices) device ∷ []
 trees_push devices device = fold_push one_more [] devices device

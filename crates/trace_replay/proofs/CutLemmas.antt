@@ -3,16 +3,13 @@ use Rattle.std.proofs.Common.{◌≡◌, ◌+◌, ◌-◌, ◌++◌, ◌<◌, �
 use Rattle.std.specs.List.{before_first}
 use Rattle.std.proofs.lemmas.List.{drop_all, length-take-le, take-append-drop}
 use Rattle.decl_text.specs.Places.{At, left}
-use Rattle.decl_text.specs.Text.{lines, without_empty_end}
+use Rattle.decl_text.specs.Text.{lines}
 use Rattle.decl_text.proofs.Cuts.{before_append, none_before, none_pass_one_more}
+use Rattle.decl_text.proofs.SplitLemmas.{no_lines}
 use Rattle.trace_replay.specs.Lines.{is_told, told_lines}
 use Rattle.trace_replay.specs.Parts.{AreTextParts, HasNoEventBefore, IsFirstEventAt}
 use Rattle.trace_replay.proofs.LineLemmas.{passed_over}
 use Rattle.trace_replay.proofs.WalkLemmas.{cut_on}
-
-no_lines : lines [] ≡ []
-unfolding without_empty_end
-no_lines = refl
 
 pub at_first : (text : List ℕ) → HasNoEventBefore text 0 1
 at_first text = record {

@@ -25,6 +25,7 @@ use Rattle.model_disks.specs.Disks.{sum_of_words}
 use Rattle.model_disks.specs.Runs.{written_runs}
 use Rattle.decl_text.specs.Reading.{NonePass}
 use Rattle.decl_text.specs.Text.{lines}
+use Rattle.decl_text.proofs.SplitLemmas.{no_lines}
 use Rattle.trace_text.specs.Names.{DevicesAreNamed, is_any}
 use Rattle.trace_text.proofs.NameWords.{is_visible, list_all_follows, name_is_word}
 use Rattle.report_text.specs.Pools.{told_pools, name_of_device, pool_name}
@@ -32,7 +33,7 @@ use Rattle.report_text.specs.Report as said
 use Rattle.report_text.specs.Report.{Reported, report, run_lines}
 use Rattle.trace_replay.specs.Lines.{is_told}
 use Rattle.trace_replay.specs.Traces.{TellsNoEvent, ReportsTellNoEvent}
-use Rattle.trace_replay.proofs.TextLines.{is_inner, inner_first, no_lines}
+use Rattle.trace_replay.proofs.TextLines.{is_inner, inner_first}
 
 -- the text has no byte that ends a line
 abbrev IsInner : List ℕ → Type 0

@@ -7,6 +7,7 @@ use Rattle.std.proofs.lemmas.List.Splits.{slice_split-cons_yes, slice_split-cons
 use Rattle.std.proofs.lemmas.Bool.Decides.{nat_tests}
 use Rattle.decl_text.specs.Reading.{NonePass}
 use Rattle.decl_text.specs.Text.{lines, without_empty_end}
+use Rattle.decl_text.proofs.SplitLemmas.{no_lines}
 use Rattle.trace_text.specs.Laws.{is_line_byte}
 use Rattle.trace_text.proofs.NameWords.{list_all_follows}
 use Rattle.block_core.proofs.start.FactsAtStart.{all_map}
@@ -57,10 +58,6 @@ kept [] more some = refl
 kept (part ∷ []) [] some = absurd some
 kept (part ∷ []) (next ∷ more) some = kept_first part next more
 kept (part ∷ next ∷ parts) more some = kept_first part next (parts ++ more) ∙ ap (λ all. part ∷ all) (kept (next ∷ parts) more some)
-
-pub no_lines : lines [] ≡ []
-unfolding without_empty_end
-no_lines = refl
 
 pub lines_at : (body back : List ℕ) → lines (body ++ 10 ∷ back) ≡ slice_split ends_line body ++ lines back
 lines_at body back = ap without_empty_end (split_at body back) ∙ kept (slice_split ends_line body) (slice_split ends_line back) (some_parts back)

@@ -2,7 +2,6 @@
 use Rattle.std.proofs.Common.{◌≡◌, Some, None, refl, arith}
 use Rattle.std.specs.Prelude.{codes, decimal}
 use Rattle.std.proofs.lemmas.Fmt.{decimal_digit}
-use Rattle.stack_base.specs.declared.ids.DevId.{DevId}
 use Rattle.stack_base.specs.declared.ids.PoolId.TheVariants.{FsBios, FsVecs, Bios, Records}
 use Rattle.stack_base.specs.declared.ids.Status.TheVariants as status
 use Rattle.stack_base.specs.declared.stack.Stack.{Stack}
@@ -11,17 +10,10 @@ use Rattle.run_machine.specs.declared.event.Got.TheVariants as got
 use Rattle.run_machine.specs.declared.event.How.TheVariants as how
 use Rattle.run_machine.specs.declared.event.End.TheVariants as end
 use Rattle.run_machine.specs.declared.event.What.TheVariants as what
+use Rattle.run_machine.proofs.cases.OneDisk.{a}
+use Rattle.run_machine.proofs.cases.OneMirror.{b, m}
 use Rattle.trace_text.specs.Lines.{line_of_event, device_name}
 use Rattle.trace_text.specs.Reading.{long_of, plain_number, short_of}
-
-a : DevId
-a = record { 0 = 0 }
-
-b : DevId
-b = record { 0 = 1 }
-
-m : DevId
-m = record { 0 = 2 }
 
 record AreNamed (stack : Stack) : Type 0 where
   first : device_name stack a ≡ codes "a"
@@ -44,11 +36,9 @@ linked : (stack : Stack) → line_of_event stack (record { task = task.Writer 0;
 linked stack = rw (digit_0, digit_1) refl
 
 had_record : (stack : Stack) → AreNamed stack → line_of_event stack (record { task = task.Writer 0; what = what.Take (Records m) got.Ordinary }) ≡ codes "event w0 take m.records ordinary"
-unfolding m
 had_record stack named = rw (digit_0, named.third) refl
 
 missed : (stack : Stack) → AreNamed stack → line_of_event stack (record { task = task.Writer 0; what = what.Try (Bios m) got.Missed }) ≡ codes "event w0 try m.bios missed"
-unfolding m
 missed stack named = rw (digit_0, named.third) refl
 
 punted : (stack : Stack) → AreNamed stack → line_of_event stack (record { task = task.Writer 0; what = what.Punt m 1 }) ≡ codes "event w0 punt m 1"

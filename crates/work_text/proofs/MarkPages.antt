@@ -6,8 +6,8 @@ use Rattle.std.proofs.lemmas.Bool.Decides.{nat_tests}
 use Rattle.std.proofs.lemmas.List.{length-set, get_or-set_same, get_or-set_other, get_or-replicate, get_or_past, length-replicate}
 use Rattle.std.proofs.lemmas.List.FromFn.{length-map-range_with_len, get_or-map-range_with_len, fill_by_all}
 use Rattle.std.proofs.Math.Nat.{div-add-mod}
+use Rattle.std.proofs.Math.Bool.{or-true}
 use Rattle.work_text.specs.Marks.{IsSetAt, mark_in, marks_in}
-use Rattle.work_text.proofs.OverlapLemmas.{or_true}
 use Rattle.work_text.proofs.MarkLemmas.{inside}
 
 -- there is a mark for each sector
@@ -31,7 +31,7 @@ one_passes test start (suc len) at from before passes =
   where
     by_place : (at ≡ start) ⊎ (at ≢ start) → (at ≢ start → list_any test (range_with_len (start + 1) len) ≡ true) → list_any test (range_with_len start (suc len)) ≡ true
     by_place (inl same) later = rw (ap test (sym same) ∙ passes) refl
-    by_place (inr other) later = ap (λ b. test start || b) (later other) ∙ or_true (test start)
+    by_place (inr other) later = ap (λ b. test start || b) (later other) ∙ or-true (test start)
 
 -- empty pages have no mark
 empty_page : (n place : ℕ) → get_or {A = List ℕ} (replicate n []) place [] ≡ []

@@ -7,6 +7,7 @@ use Rattle.std.proofs.lemmas.List.Elements.{All-head, All-tail}
 use Rattle.std.proofs.lemmas.List.Folds.{list_any-append, list_any_at, list_any_none}
 use Rattle.std.proofs.lemmas.List.FromFn.{length-range_with_len, get_or-range_with_len}
 use Rattle.std.proofs.lemmas.Option.{slice_get-get_or, slice_get_within, same_Some}
+use Rattle.std.proofs.Math.Bool.{or-true, or-false}
 use Rattle.stack_base.specs.declared.stack.Stack.{Stack}
 use Rattle.stack_base.proofs.ListLemmas.{any_or}
 use Rattle.decl_text.specs.Known.{Written}
@@ -99,32 +100,24 @@ slice_get-set_other (x ∷ xs) zero (suc j) y other = refl
 slice_get-set_other (x ∷ xs) (suc i) zero y other = refl
 slice_get-set_other (x ∷ xs) (suc i) (suc j) y other = slice_get-set_other xs i j y (λ e. other (ap suc e))
 
-pub or_true : (b : Bool) → (b || true) ≡ true
-or_true true = refl
-or_true false = refl
-
-or_false : (b : Bool) → (b || false) ≡ b
-or_false true = refl
-or_false false = refl
-
 -- one more write, at its own device and at another
 covers_here : (dev at : ℕ) (w : Written) (writes : List Written) → dev ≡ w.dev
     → list_any (covers dev at) (writes ++ w ∷ []) ≡ (list_any (covers dev at) writes || (nat_le w.start at && nat_lt at (w.start + w.count)))
 covers_here dev at w writes here =
     list_any-append (covers dev at) writes (w ∷ [])
-    ∙ ap (λ b. list_any (covers dev at) writes || b) (or_false (covers dev at w) ∙ ap (λ b. b && (nat_le w.start at && nat_lt at (w.start + w.count))) (eq-eqb w.dev dev (sym here)))
+    ∙ ap (λ b. list_any (covers dev at) writes || b) (or-false (covers dev at w) ∙ ap (λ b. b && (nat_le w.start at && nat_lt at (w.start + w.count))) (eq-eqb w.dev dev (sym here)))
 
 covers_there : (dev at : ℕ) (w : Written) (writes : List Written) → (dev ≡ w.dev → ⊥)
     → list_any (covers dev at) (writes ++ w ∷ []) ≡ list_any (covers dev at) writes
 covers_there dev at w writes there =
     list_any-append (covers dev at) writes (w ∷ [])
-    ∙ ap (λ b. list_any (covers dev at) writes || b) (or_false (covers dev at w) ∙ ap (λ b. b && (nat_le w.start at && nat_lt at (w.start + w.count))) (ne_eqb w.dev dev (λ e. there (sym e))))
-    ∙ or_false (list_any (covers dev at) writes)
+    ∙ ap (λ b. list_any (covers dev at) writes || b) (or-false (covers dev at w) ∙ ap (λ b. b && (nat_le w.start at && nat_lt at (w.start + w.count))) (ne_eqb w.dev dev (λ e. there (sym e))))
+    ∙ or-false (list_any (covers dev at) writes)
 
 -- a place that is marked where this holds
 marked_is : (b : Bool) (mark old : ℕ) → (cond b mark old == mark) ≡ ((old == mark) || b)
-marked_is true mark old = eq-eqb mark mark refl ∙ sym (or_true (old == mark))
-marked_is false mark old = sym (or_false (old == mark))
+marked_is true mark old = eq-eqb mark mark refl ∙ sym (or-true (old == mark))
+marked_is false mark old = sym (or-false (old == mark))
 
 marked_past : (b : Bool) (mark old : ℕ) → old ≤ mark → cond b mark old ≤ mark
 marked_past true mark old past = omega arith

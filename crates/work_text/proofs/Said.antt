@@ -7,8 +7,10 @@ use Rattle.std.proofs.lemmas.Bool.Decides.{nat_tests}
 use Rattle.std.proofs.lemmas.Fmt.{decimal_is_IsNumeral, length-decimal-le}
 use Rattle.std.proofs.lemmas.List.Splits.{slice_split_at, slice_split_none}
 use Rattle.std.proofs.lemmas.Str.Parse.{IsNumeralModel, IsDigitsTest, numerals_by_value}
+use Rattle.std.proofs.lemmas.Bool.{not-true}
 use Rattle.stack_base.proofs.ListLemmas.{Each}
 use Rattle.decl_text.specs.Text.{is_blank, is_option, is_some_text, is_text, is_text_byte, lines, number_of, without_empty_end, words}
+use Rattle.decl_text.proofs.SplitLemmas.{no_lines}
 use Rattle.work_text.specs.Generated.{line_of, text_of}
 
 all_of : {X : Type 0} (P : X → Type 0) (xs : List X) → Each P xs → All P xs
@@ -107,10 +109,6 @@ body_some (word ∷ next ∷ more) are some = go word are.0.some
 abbrev pub IsLine : List (List ℕ) → Type 0
 IsLine line = Each IsWord line × (1 ≤ length line)
 
-no_lines : lines [] ≡ []
-unfolding without_empty_end
-no_lines = refl
-
 -- the lines of a text are those that it is made of
 pub text_lines : (all : List (List (List ℕ))) → Each IsLine all → lines (text_of all) ≡ map body_of all
 text_lines [] are = no_lines
@@ -135,10 +133,6 @@ decimal_digits n small = numerals.from (decimal n) (decimal_is_IsNumeral n small
 
 digit_byte : (byte : ℕ) → is_ascii_digit byte ≡ true → IsWordByte byte
 digit_byte byte digit = record { blank = grind (arith, nat_tests); end = grind (arith, nat_tests); text = grind (arith, nat_tests) }
-
-not_true : (a : Bool) → not a ≡ true → a ≡ false
-not_true true e = absurd (true≢false (sym e))
-not_true false e = refl
 
 both : (a b : Bool) → (a && b) ≡ true → (a ≡ true) × (b ≡ true)
 both true b e = (refl, e)
@@ -194,7 +188,7 @@ byte_by : (byte : ℕ) → is_word_byte byte ≡ true → IsWordByte byte
 byte_by byte test =
     let blank = both (not (is_blank byte)) (not (byte == 10) && is_text_byte byte) test in
     let rest = both (not (byte == 10)) (is_text_byte byte) blank.1 in
-    record { blank = not_true (is_blank byte) blank.0; end = not_true (byte == 10) rest.0; text = rest.1 }
+    record { blank = not-true (is_blank byte) blank.0; end = not-true (byte == 10) rest.0; text = rest.1 }
 
 bytes_by : (word : List ℕ) → list_all is_word_byte word ≡ true → Each IsWordByte word
 bytes_by [] test = tt

@@ -79,16 +79,12 @@ meaning_begun command.Write rest is numbers = write_works rest numbers
 meaning_begun command.Sync rest is numbers = sync_works rest
 meaning_begun _ rest is numbers = absurd (cc)
 
-not_not : (b : Bool) → not b ≡ false → b ≡ true
-not_not true is = refl
-not_not false is = absurd (cc)
-
 first_works : (stand : Stand) (first : List ℕ) (rest : List (List ℕ)) (b : Bool) (o : Option Command) → is_comment first ≡ b → command_of first ≡ o → is_front stand ≡ false
     → misplaced stand (first ∷ rest) ≡ false → misnumbered (first ∷ rest) ≡ false → Works (said (first ∷ rest))
 first_works stand first rest true o comment of_first behind stands numbers = rw comment tt
 first_works stand first rest false None comment of_first behind stands numbers = rw (comment, of_first) tt
 first_works stand first rest false (Some c) comment of_first behind stands numbers =
-    rw (comment, of_first) (meaning_works stand c rest behind (not_not _ (rw (comment, of_first) at stands)) (rw (comment, of_first) at numbers))
+    rw (comment, of_first) (meaning_works stand c rest behind (not-false _ (rw (comment, of_first) at stands)) (rw (comment, of_first) at numbers))
 
 pub said_works : (stand : Stand) (line : List (List ℕ)) → is_front stand ≡ false → misplaced stand line ≡ false → misnumbered line ≡ false → Works (said line)
 said_works stand [] behind stands numbers = tt

@@ -1,5 +1,5 @@
 -- No task of any run of any scenario that is allowed breaks off.
-use Rattle.std.proofs.Common.{◌≡◌, ◌≤◌, ◌++◌, not, ℕ, Bool, false, List, [], ◌∷◌, length, map, filter, refl, subst, arith, ap, None}
+use Rattle.std.proofs.Common.{◌≡◌, ◌≤◌, ◌++◌, not, ℕ, Bool, false, List, length, map, filter, refl, subst, arith, ap, None}
 use Rattle.std.specs.Prelude.{zip}
 use Rattle.std.specs.List.{range_with_len, list_any}
 use Rattle.std.specs.Option.{is_some}
@@ -15,9 +15,10 @@ use Rattle.bio_records.specs.declared.tasks.TaskLists.{TaskLists}
 use Rattle.run_machine.specs.declared.event.Event.{Event}
 use Rattle.run_machine.specs.Scene.{Scene, is_disk}
 use Rattle.run_machine.specs.Submissions.{Doing, Rests, Drives, Copies, Breaks, rests, doing_breach}
-use Rattle.run_machine.specs.Tasks.{TaskState, Writer, Rescuer, Completer, Keeper, Keeps, Stops, Duty, Todo, NoBio, Empty, look_of, is_broken}
+use Rattle.run_machine.specs.Tasks.{TaskState, Writer, Rescuer, Completer, Keeper, Keeps, Stops, Todo, NoBio, Empty, look_of, is_broken}
 use Rattle.run_machine.specs.Opened.{Scenario, scene, start, tasks as opened_tasks, todos, todos_of, is_by, writers, duties, keepers, places_of, setup as setup_in, at as device_at}
 use Rattle.run_machine.specs.Runs.{State, IsRun, IsLet}
+use Rattle.run_machine.proofs.Apart.{one_keeper}
 use Rattle.block_core.specs.Scenarios.{IsScenario, IsNaming}
 use Rattle.block_core.specs.Breaks.{ElementsAreAllowed, GoesUnrefused, NoTaskBreaks}
 use Rattle.block_core.proofs.sound.Facts.{DoingFits, TaskFits, Fair}
@@ -46,11 +47,6 @@ unbroken scene (Rescuer dev submission) fits on = ap is_some (unbroken_submissio
 unbroken scene (Completer disk carried) fits on = on
 unbroken scene (Keeper (Keeps duties)) fits on = refl
 unbroken scene (Keeper (Stops breach)) fits on = absurd fits
-
--- there is one keeper at most
-one_keeper : (ds : List Duty) → length (keepers ds) ≤ 1
-one_keeper [] = omega arith
-one_keeper (duty ∷ ds) = omega arith
 
 module _ (s : Scenario) (ledger : ℕ → LedgerId) (good : IsScenario s) (allowed : ElementsAreAllowed s) (naming : IsNaming ledger) where
   -- a book has no more places than all writes need elements

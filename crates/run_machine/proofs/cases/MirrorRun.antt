@@ -1,6 +1,6 @@
 -- A mirror of two, with one bio and one record in reserve and no ordinary memory: 25 events, in one of which a bio is punted, after which the state
 -- has ended.
-use Rattle.std.proofs.Common.{◌≡◌, ◌+◌, ◌==◌, ◌++◌, ℕ, Bool, inl, List, [], ◌∷◌, length, slice_index_or, codes, Option, None, Some, refl, arith, false, true}
+use Rattle.std.proofs.Common.{◌≡◌, ◌+◌, ◌==◌, ◌++◌, ℕ, inl, List, [], ◌∷◌, length, slice_index_or, codes, Option, None, Some, refl, arith, false, true}
 use Rattle.std.specs.Global.{Global}
 use Rattle.elem_ledger.specs.Ledger.{LedgerId}
 use Rattle.stack_base.specs.declared.ids.DevId.{DevId}
@@ -40,10 +40,11 @@ use Rattle.run_machine.specs.Objects.{clear_bio, clear_slip, done_one}
 use Rattle.run_machine.specs.Opened.{no_task}
 use Rattle.run_machine.specs.Opened as texts
 use Rattle.run_machine.specs.Runs.{State, IsRun, HasEnded}
-pub use Rattle.run_machine.proofs.cases.OneMirror.{a, b, m, mirror, setup, write, todo, reserve, scripts, objects, stack, scenario, setup_is, objects_are}
+pub use Rattle.run_machine.proofs.cases.OneDisk.{a}
+pub use Rattle.run_machine.proofs.cases.OneMirror.{b, m, mirror, setup, write, todo, reserve, scripts, objects, stack, scenario, setup_is, objects_are}
 use Rattle.run_machine.proofs.Beginnings.{state_by, runs_as}
 use Rattle.run_machine.proofs.Texts.{Says, sound_at}
-use Rattle.run_machine.proofs.Turns.{Turn, follow, AreTurns, turns_run, takes, rescues, on_disk, in_book}
+use Rattle.run_machine.proofs.Turns.{Turn, follow, AreTurns, turns_run, takes, rescues, on_disk, in_book, all_home}
 
 abbrev pub tasks : List TaskState
 tasks = Writer 0 (todo ∷ []) NoBio rests ∷ Rescuer m rests ∷ Completer a Empty ∷ Completer b Empty ∷ []
@@ -233,16 +234,16 @@ module _ (some : LedgerId) where
   mirror_runs = turns_run scene start turns events are_turns
 
   -- no write is unfinished then, and each element is at home
-  all_home : (number : ℕ) (one two three : Bool) → (number == 65) ≡ one → (number == 5) ≡ two → (number == 4) ≡ three
-      → ((follow (setup true) start turns).objects.pool number).facts.out ≡ 0
+  others_home : (number : ℕ) → (number == 65) ≡ false → (number == 5) ≡ false → (number == 4) ≡ false → ((follow (setup true) start turns).objects.pool number).facts.out ≡ 0
   unfolding upd
-  all_home number true two three is_one is_two is_three = rw is_one refl
-  all_home number false true three is_one is_two is_three = rw (is_one, is_two) refl
-  all_home number false false true is_one is_two is_three = rw (is_one, is_two, is_three) refl
-  all_home number false false false is_one is_two is_three = rw (is_one, is_two, is_three) refl
+  others_home number bios records own = rw (bios, records, own) refl
 
   mirror_ends : HasEnded (follow (setup true) start turns)
-  mirror_ends = record { writes = refl; pools = λ number. all_home number (number == 65) (number == 5) (number == 4) refl refl refl }
+  unfolding upd
+  mirror_ends = record {
+    writes = refl;
+    pools = all_home (follow (setup true) start turns).objects.pool (65 ∷ 5 ∷ 4 ∷ []) (refl, (refl, (refl, tt))) (λ number other. others_home number other.0 other.1.0 other.1.1.0);
+  }
 
 -- two disks of eight sectors, their mirror, no ordinary memory, and one write of the mirror's first sector
 abbrev text : List ℕ

@@ -35,6 +35,7 @@ use Rattle.run_machine.proofs.cases.MirrorRun as mirrored
 use Rattle.run_machine.proofs.cases.StuckRun as unrescued
 use Rattle.run_machine.proofs.cases.SplitRun as cut
 use Rattle.run_machine.proofs.cases.RoundsRun as rounds
+use Rattle.run_machine.proofs.cases.OneDisk.{a}
 
 -- a state with another pool, other books, another tally or another task
 abbrev with_pool : State → ℕ → PoolState → State
@@ -151,7 +152,7 @@ module _ (some : LedgerId) where
 
   -- Vectors: a write takes one if it has more than four segments, and before its node is linked.
   abbrev long : Todo
-  long = record { number = 0; round = 0; write = record { task = 0; dev = one.a; start = 0; count = 33; tag = 0 } }
+  long = record { number = 0; round = 0; write = record { task = 0; dev = a; start = 0; count = 33; tag = 0 } }
 
   no_vector : IsEnabled one_write (one_at 1) (one.by_writer some (what.Take FsVecs Ordinary)) → ⊥
   unfolding upd
@@ -221,20 +222,20 @@ module _ (some : LedgerId) where
   unfolding upd next next_member slot among
   rest_waits = not_next _ _ _ 0 refl (λ can. absurd (omega (arith, can.needs.1)))
 
-  another_sector : IsEnabled one_write (one_at 2) (one.by_writer some (what.Push one.a 1 1 0)) → ⊥
+  another_sector : IsEnabled one_write (one_at 2) (one.by_writer some (what.Push a 1 1 0)) → ⊥
   unfolding upd
   another_sector = not_next _ _ _ 0 refl (λ can. absurd (omega (arith, can.needs.1)))
 
   -- Ends of bios: one waits in the disk at this index, and it ends as the bad ranges say.
-  nothing_waits : IsEnabled one_write (one_at 0) (one.by_completer some (what.Complete one.a 0 Ok)) → ⊥
+  nothing_waits : IsEnabled one_write (one_at 0) (one.by_completer some (what.Complete a 0 Ok)) → ⊥
   unfolding upd
   nothing_waits = not_next _ _ _ 1 refl (λ can. none-some _ can.needs.1.1)
 
-  not_at_this_index : IsEnabled one_write (one_at 3) (one.by_completer some (what.Complete one.a 1 Ok)) → ⊥
+  not_at_this_index : IsEnabled one_write (one_at 3) (one.by_completer some (what.Complete a 1 Ok)) → ⊥
   unfolding upd
   not_at_this_index = not_next _ _ _ 1 refl (λ can. none-some _ can.needs.1.1)
 
-  no_bad_range : IsEnabled one_write (one_at 3) (one.by_completer some (what.Complete one.a 0 Io)) → ⊥
+  no_bad_range : IsEnabled one_write (one_at 3) (one.by_completer some (what.Complete a 0 Io)) → ⊥
   unfolding upd
   no_bad_range = not_next _ _ _ 1 refl (λ can. cc)
 

@@ -1,6 +1,6 @@
 -- A mirror of two disks of eight sectors, with one bio and one record in reserve and no ordinary memory, and one write of its first sector: what
 -- runs with a rescuer for the mirror's set and without one have in common.
-use Rattle.std.proofs.Common.{◌≡◌, ◌+◌, ◌==◌, if◌then◌else◌, ℕ, zero, suc, Bool, List, [], ◌∷◌, sum_by, slice_index_or, codes, refl, arith, false, true}
+use Rattle.std.proofs.Common.{◌≡◌, ◌+◌, ◌==◌, if◌then◌else◌, ℕ, zero, suc, Bool, List, [], ◌∷◌, slice_index_or, codes, refl, arith, false, true}
 use Rattle.std.specs.Global.{Global}
 use Rattle.fail_script.specs.Script.{Answers, only_tail}
 use Rattle.stack_base.specs.declared.ids.DevId.{DevId}
@@ -17,14 +17,12 @@ use Rattle.layout_model.specs.NeedCounts.{nodes as nodes_of}
 use Rattle.run_machine.specs.Scene.{Setup}
 use Rattle.run_machine.specs.Tasks.{Todo}
 use Rattle.run_machine.specs.Objects.{Objects, TallyState}
-use Rattle.run_machine.specs.Opened.{Scenario, at, places_of, reserve_of}
+use Rattle.run_machine.specs.Opened.{Scenario, at, reserve_of}
 use Rattle.run_machine.specs.Opened as texts
-use Rattle.run_machine.proofs.Beginnings.{IsOfScenario, objects_by, reserves_are}
+use Rattle.run_machine.proofs.Beginnings.{IsOfScenario, objects_by, reserves_are, first_places}
 use Rattle.run_machine.proofs.Beginnings as begins
 use Rattle.run_machine.proofs.Texts.{device, disk as disk_of, stack_of}
-
-abbrev pub a : DevId
-a = at 0
+use Rattle.run_machine.proofs.cases.OneDisk.{a}
 
 abbrev pub b : DevId
 b = at 1
@@ -98,13 +96,9 @@ module _ (memory : Global) where
     rescuer_is (suc (suc zero)) = refl
     rescuer_is (suc (suc (suc n))) = refl
 
-    places_if : (own : Bool) → (if own then 4 else 0) ≡ sum_by (λ (todo : Todo). nodes_of (stack rescuer) todo.write) (if own then todo ∷ [] else [])
+    four_nodes : 4 ≡ nodes_of (stack rescuer) write
     unfolding tree_below over_shape needed begins
-    places_if true = refl
-    places_if false = refl
-
-    places_are : (writer : ℕ) → (setup rescuer).places writer ≡ places_of (scenario rescuer) writer
-    places_are writer = places_if (0 == writer)
+    four_nodes = refl
 
     bads_are : (dev : ℕ) → [] ≡ bads_of (stack rescuer) dev
     bads_are zero = refl
@@ -129,7 +123,7 @@ module _ (memory : Global) where
       count_is = refl;
       tree_is = tree_is;
       rescuer_is = rescuer_is;
-      places_are = places_are;
+      places_are = first_places (stack rescuer) todo 4 four_nodes;
       reserve_is = reserves_are reserve (stack rescuer) refl refl bios_are records_are;
       bads_are = bads_are;
       tally_is = refl;

@@ -1,9 +1,8 @@
 -- One write of a sector to a disk of 64: seven events, after which the state has ended.
-use Rattle.std.proofs.Common.{◌≡◌, ◌==◌, if◌then◌else◌, ℕ, Bool, List, [], ◌∷◌, sum_by, codes, None, Some, refl, arith, false, true}
+use Rattle.std.proofs.Common.{◌≡◌, ◌==◌, if◌then◌else◌, ℕ, List, [], ◌∷◌, codes, None, Some, refl, arith, true}
 use Rattle.std.specs.Global.{Global}
 use Rattle.elem_ledger.specs.Ledger.{LedgerId}
 use Rattle.fail_script.specs.Script.{Answers, only_tail}
-use Rattle.stack_base.specs.declared.ids.DevId.{DevId}
 use Rattle.stack_base.specs.declared.ids.PoolId.{PoolId}
 use Rattle.stack_base.specs.declared.ids.PoolId.TheVariants.{FsBios, FsVecs}
 use Rattle.stack_base.specs.declared.ids.Status.TheVariants.{Ok}
@@ -39,17 +38,14 @@ use Rattle.run_machine.specs.Requests.{HadBio, LinkedTo, Did, Completed, Dropped
 use Rattle.run_machine.specs.Submissions.{rests}
 use Rattle.run_machine.specs.Tasks.{Todo, TaskState, Writer, Completer, NoBio, Empty, filled_short}
 use Rattle.run_machine.specs.Objects.{clear_bio, done_one, TallyState}
-use Rattle.run_machine.specs.Opened.{Scenario, at, places_of}
+use Rattle.run_machine.specs.Opened.{Scenario}
 use Rattle.run_machine.specs.Opened as texts
 use Rattle.run_machine.specs.Runs.{State, IsRun, HasEnded}
-use Rattle.run_machine.proofs.Beginnings.{IsOfScenario, objects_by, state_by}
+use Rattle.run_machine.proofs.Beginnings.{IsOfScenario, objects_by, state_by, first_places}
 use Rattle.run_machine.proofs.Beginnings as begins
 use Rattle.run_machine.proofs.Texts.{Says, sound_at}
-use Rattle.run_machine.proofs.cases.OneDisk.{tree_of, rescuer_of, reserve, stack, tree_is, rescuer_is, bads_are, reserve_is}
-use Rattle.run_machine.proofs.Turns.{Turn, follow, AreTurns, turns_run, takes, on_disk, in_book}
-
-abbrev pub a : DevId
-a = at 0
+use Rattle.run_machine.proofs.cases.OneDisk.{tree_of, rescuer_of, reserve, stack, tree_is, rescuer_is, bads_are, reserve_is, a}
+use Rattle.run_machine.proofs.Turns.{Turn, follow, AreTurns, turns_run, takes, on_disk, in_book, all_home}
 
 abbrev pub setup : Setup
 setup = record {
@@ -152,13 +148,9 @@ module _ (some : LedgerId) where
   one_write_runs = turns_run scene start turns events are_turns
 
   -- no write is unfinished then, and each element is at home
-  all_home : (number : ℕ) (is : Bool) → (number == 65) ≡ is → ((follow setup start turns).objects.pool number).facts.out ≡ 0
-  unfolding upd
-  all_home number true is = rw is refl
-  all_home number false is = rw is refl
-
   one_write_ends : HasEnded (follow setup start turns)
-  one_write_ends = record { writes = refl; pools = λ number. all_home number (number == 65) refl }
+  unfolding upd
+  one_write_ends = record { writes = refl; pools = all_home (follow setup start turns).objects.pool (65 ∷ []) (refl, tt) (λ number other. rw other.0 refl) }
 
 -- a disk of 64 sectors, and one write of its first sector
 abbrev text : List ℕ
@@ -169,13 +161,9 @@ module _ (memory : Global) where
   abbrev pub scenario : Scenario
   scenario = record { stack = stack memory 64; scripts = scripts; writes = write ∷ []; rounds = 0 ∷ []; changes = [] }
 
-  places_if : (own : Bool) → (if own then 1 else 0) ≡ sum_by (λ (todo : Todo). nodes (stack memory 64) todo.write) (if own then todo ∷ [] else [])
+  one_node : 1 ≡ nodes (stack memory 64) write
   unfolding tree_below over_shape needed begun
-  places_if true = refl
-  places_if false = refl
-
-  places_are : (writer : ℕ) → setup.places writer ≡ places_of scenario writer
-  places_are writer = places_if (0 == writer)
+  one_node = refl
 
   tasks_are : tasks ≡ texts.tasks scenario
   unfolding tree_below over_shape
@@ -186,7 +174,7 @@ module _ (memory : Global) where
     count_is = refl;
     tree_is = tree_is memory 64;
     rescuer_is = rescuer_is memory 64;
-    places_are = places_are;
+    places_are = first_places (stack memory 64) todo 1 one_node;
     reserve_is = reserve_is memory 64;
     bads_are = bads_are memory 64;
     tally_is = refl;

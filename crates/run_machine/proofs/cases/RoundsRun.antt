@@ -3,7 +3,6 @@ use Rattle.std.proofs.Common.{◌≡◌, ◌+◌, ◌++◌, ◌*◌, ◌==◌, i
 use Rattle.std.specs.Global.{Global}
 use Rattle.elem_ledger.specs.Ledger.{LedgerId}
 use Rattle.fail_script.specs.Script.{Answers, only_tail}
-use Rattle.stack_base.specs.declared.ids.DevId.{DevId}
 use Rattle.stack_base.specs.declared.ids.PoolId.{PoolId}
 use Rattle.stack_base.specs.declared.ids.PoolId.TheVariants.{FsBios, FsVecs}
 use Rattle.stack_base.specs.declared.ids.Status.TheVariants.{Ok}
@@ -39,17 +38,14 @@ use Rattle.run_machine.specs.Requests.{HadBio, LinkedTo, Did, Completed, Dropped
 use Rattle.run_machine.specs.Submissions.{rests}
 use Rattle.run_machine.specs.Tasks.{Todo, TaskState, Writer, Completer, Keeper, NoBio, Empty, Keeps, Resizes, Starts, filled_short}
 use Rattle.run_machine.specs.Objects.{clear_bio, done_one, TallyState}
-use Rattle.run_machine.specs.Opened.{Scenario, at, places_of}
+use Rattle.run_machine.specs.Opened.{Scenario, places_of}
 use Rattle.run_machine.specs.Opened as texts
 use Rattle.run_machine.specs.Runs.{State, IsRun, HasEnded}
 use Rattle.run_machine.proofs.Beginnings.{IsOfScenario, objects_by, state_by, runs_as}
 use Rattle.run_machine.proofs.Beginnings as begins
 use Rattle.run_machine.proofs.Texts.{Says, sound_at}
-use Rattle.run_machine.proofs.cases.OneDisk.{tree_of, rescuer_of, reserve, stack, tree_is, rescuer_is, bads_are, reserve_is}
-use Rattle.run_machine.proofs.Turns.{Turn, follow, AreTurns, turns_run, takes, on_disk, in_book}
-
-abbrev pub a : DevId
-a = at 0
+use Rattle.run_machine.proofs.cases.OneDisk.{tree_of, rescuer_of, reserve, stack, tree_is, rescuer_is, bads_are, reserve_is, a}
+use Rattle.run_machine.proofs.Turns.{Turn, follow, AreTurns, turns_run, takes, on_disk, in_book, all_home}
 
 abbrev pub setup : Setup
 setup = record {
@@ -206,13 +202,9 @@ module _ (some : LedgerId) where
   reserve_is_home = refl
 
   -- no write is unfinished, and nothing is out of any pool
-  all_home : (number : ℕ) (is : Bool) → (number == 65) ≡ is → ((follow setup start turns).objects.pool number).facts.out ≡ 0
-  unfolding upd
-  all_home number true is = rw is refl
-  all_home number false is = rw is refl
-
   rounds_end : HasEnded (follow setup start turns)
-  rounds_end = record { writes = refl; pools = λ number. all_home number (number == 65) refl }
+  unfolding upd
+  rounds_end = record { writes = refl; pools = all_home (follow setup start turns).objects.pool (65 ∷ []) (refl, tt) (λ number other. rw other.0 refl) }
 
 -- a disk of eight sectors, no ordinary memory, and two writes with a `sync` line between them, behind which a reserve changes
 abbrev text : List ℕ

@@ -1,6 +1,6 @@
 -- A linear device over a limit and a disk: a write is cut, its first piece is cut again, and each first piece goes all the way down before a
 -- rest is cut. Then each part ends: 21 events, after which the state has ended.
-use Rattle.std.proofs.Common.{◌≡◌, ◌+◌, ◌==◌, if◌then◌else◌, ℕ, zero, suc, Bool, List, [], ◌∷◌, sum_by, slice_index_or, codes, Option, None, Some, refl, arith, true, false}
+use Rattle.std.proofs.Common.{◌≡◌, ◌+◌, ◌==◌, if◌then◌else◌, ℕ, zero, suc, List, [], ◌∷◌, slice_index_or, codes, Option, None, Some, refl, arith, false}
 use Rattle.std.specs.Global.{Global}
 use Rattle.elem_ledger.specs.Ledger.{LedgerId}
 use Rattle.fail_script.specs.Script.{Answers, only_tail}
@@ -47,13 +47,13 @@ use Rattle.run_machine.specs.Requests.{HadBio, LinkedTo, Did, Completed, Dropped
 use Rattle.run_machine.specs.Submissions.{rests}
 use Rattle.run_machine.specs.Tasks.{Todo, TaskState, Writer, Completer, NoBio, Empty}
 use Rattle.run_machine.specs.Objects.{clear_bio, done_one, TallyState}
-use Rattle.run_machine.specs.Opened.{Scenario, at, places_of, reserve_of}
+use Rattle.run_machine.specs.Opened.{Scenario, at, reserve_of}
 use Rattle.run_machine.specs.Opened as texts
 use Rattle.run_machine.specs.Runs.{State, IsRun, HasEnded}
-use Rattle.run_machine.proofs.Beginnings.{IsOfScenario, objects_by, state_by, reserves_are}
+use Rattle.run_machine.proofs.Beginnings.{IsOfScenario, objects_by, state_by, reserves_are, first_places}
 use Rattle.run_machine.proofs.Beginnings as begins
 use Rattle.run_machine.proofs.Texts.{device, disk as disk_of, stack_of, Says, sound_at}
-use Rattle.run_machine.proofs.Turns.{Turn, follow, AreTurns, turns_run, takes, on_disk, in_book}
+use Rattle.run_machine.proofs.Turns.{Turn, follow, AreTurns, turns_run, takes, on_disk, in_book, all_home}
 
 -- disks 0 and 1 of eight sectors, device 2 that lets at most two sectors pass to disk 0, and device 3 with device 2 and then disk 1
 abbrev limit : Tree
@@ -259,17 +259,16 @@ module _ (some : LedgerId) where
   split_runs = turns_run scene start turns events are_turns
 
   -- no write is unfinished then, and each element is at home
-  all_home : (number : ℕ) (one two three : Bool) → (number == 65) ≡ one → (number == 6) ≡ two → (number == 4) ≡ three
-      → ((follow setup start turns).objects.pool number).facts.out ≡ 0
+  others_home : (number : ℕ) → (number == 65) ≡ false → (number == 6) ≡ false → (number == 4) ≡ false → ((follow setup start turns).objects.pool number).facts.out ≡ 0
   unfolding upd
-  all_home number true two three is_one is_two is_three = rw is_one refl
-  all_home number false true three is_one is_two is_three = rw (is_one, is_two) refl
-  all_home number false false true is_one is_two is_three = rw (is_one, is_two, is_three) refl
-  all_home number false false false is_one is_two is_three = rw (is_one, is_two, is_three) refl
+  others_home number bios records own = rw (bios, records, own) refl
 
   split_ends : HasEnded (follow setup start turns)
-  unfolding next next_member slot among
-  split_ends = record { writes = refl; pools = λ number. all_home number (number == 65) (number == 6) (number == 4) refl refl refl }
+  unfolding next next_member slot among upd
+  split_ends = record {
+    writes = refl;
+    pools = all_home (follow setup start turns).objects.pool (65 ∷ 6 ∷ 4 ∷ []) (refl, (refl, (refl, tt))) (λ number other. others_home number other.0 other.1.0 other.1.1.0);
+  }
 
 -- the two disks, the limit l, the linear device d, no ordinary memory, and one write of five sectors
 abbrev text : List ℕ
@@ -305,13 +304,9 @@ module _ (memory : Global) where
   rescuer_is (suc (suc (suc zero))) = refl
   rescuer_is (suc (suc (suc (suc n)))) = refl
 
-  places_if : (own : Bool) → (if own then 3 else 0) ≡ sum_by (λ (todo : Todo). nodes_of stack todo.write) (if own then todo ∷ [] else [])
+  three_nodes : 3 ≡ nodes_of stack write
   unfolding tree_below over_shape size_of smallest needed begun head slot among next next_member
-  places_if true = refl
-  places_if false = refl
-
-  places_are : (writer : ℕ) → setup.places writer ≡ places_of scenario writer
-  places_are writer = places_if (0 == writer)
+  three_nodes = refl
 
   bads_are : (dev : ℕ) → [] ≡ bads_of stack dev
   bads_are zero = refl
@@ -343,7 +338,7 @@ module _ (memory : Global) where
     count_is = refl;
     tree_is = tree_is;
     rescuer_is = rescuer_is;
-    places_are = places_are;
+    places_are = first_places stack todo 3 three_nodes;
     reserve_is = reserves_are reserve stack refl refl bios_are records_are;
     bads_are = bads_are;
     tally_is = refl;

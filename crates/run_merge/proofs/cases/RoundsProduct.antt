@@ -22,7 +22,8 @@ use Rattle.run_machine.specs.Requests.{Request, Reply, Write, TakeBio, GiveBio, 
 use Rattle.run_machine.specs.Runs.{State, IsRun}
 use Rattle.run_machine.specs.Scene.{Scene}
 use Rattle.run_machine.proofs.Turns.{follow, turns_run, does_step}
-use Rattle.run_machine.proofs.cases.RoundsRun.{a, bio, closed, events, ledger, rounds_run, scenario, scene, scene_is, setup, start, start_is, turns}
+use Rattle.run_machine.proofs.cases.RoundsRun.{bio, closed, events, ledger, rounds_run, scenario, scene, scene_is, setup, start, start_is, turns}
+use Rattle.run_machine.proofs.cases.OneDisk.{a}
 use Rattle.shared_objects.specs.Calls.{is_same_object}
 use Rattle.shared_objects.proofs.SameNames.{same_is}
 use Rattle.run_merge.specs.Entries.{Entry, entries_in}

@@ -8,15 +8,12 @@ use Rattle.std.proofs.lemmas.List.Elements.{All-head, All-tail, All-cons, All-ni
 use Rattle.object_things.specs.Histories.{Call, IsNextTicket, or_last, TicketsRise}
 use Rattle.shared_objects.specs.Logs.{events_in}
 use Rattle.shared_objects.proofs.logs.CallsLead.{event_first, quiet_first}
+use Rattle.shared_objects.proofs.logs.StepNotes.{HasTicket}
 use Rattle.run_merge.specs.Merging.{Ticketed, RiseFrom}
 use Rattle.run_merge.specs.SharedObjects.{ticketed}
 use Rattle.run_merge.proofs.enough_shown.CallEvents.{ticketed_events}
 use Rattle.run_merge.proofs.enough_shown.LogLeads.{is_told}
 use Rattle.run_merge.proofs.closing.RunUpTo.{rises_from}
-
--- each event has a ticket
-abbrev pub HasTicket : Call → Type 0
-HasTicket call = is_told call ≡ true → is_some call.told.ticket ≡ true
 
 pub events_append : (xs ys : List Call) → ticketed_events (xs ++ ys) ≡ ticketed_events xs ++ ticketed_events ys
 events_append xs ys = ap (map ticketed) (filter-append is_told xs ys) ∙ map-append ticketed (events_in xs) (events_in ys)

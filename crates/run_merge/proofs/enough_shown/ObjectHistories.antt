@@ -15,11 +15,12 @@ use Rattle.object_things.specs.Histories.{Call, drawn_in, LeadDrawn}
 use Rattle.object_things.specs.Stamps.{ThingState, StepOf}
 use Rattle.shared_objects.specs.Kinds.{ThingAt, serves_at, looks_at, answers_at}
 use Rattle.shared_objects.proofs.tickets.TicketsOfCalls.{keeps}
+use Rattle.shared_objects.proofs.logs.StepNotes.{HasTicket}
 use Rattle.run_merge.specs.Machines.{ServesAt, LeadsObject}
 use Rattle.run_merge.specs.Merging.{without_tickets}
 use Rattle.run_merge.specs.Products.{is_next_round}
 use Rattle.run_merge.specs.SharedObjects.{seen_at}
-use Rattle.run_merge.proofs.enough_shown.CallTickets.{HasTicket, events_told, events_untold}
+use Rattle.run_merge.proofs.enough_shown.CallTickets.{events_told, events_untold}
 use Rattle.run_merge.proofs.enough_shown.CallEvents.{ticketed_events}
 use Rattle.run_merge.proofs.enough_shown.ServedWithTicket.{pool_is, pool_stays, pool_ledger, list_is, list_stays, disk_is, disk_stays, book_is, book_stays, HasNext, tally_is, tally_stays}
 use Rattle.run_merge.proofs.enough_shown.LogLeads.{is_told}

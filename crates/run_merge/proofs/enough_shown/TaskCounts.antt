@@ -31,7 +31,7 @@ use Rattle.run_merge.specs.Merging.{Ticketed, RiseFrom, without_tickets, all_of,
 use Rattle.run_merge.specs.Products.{is_next_round}
 use Rattle.run_merge.specs.SharedObjects.{ticketed}
 use Rattle.run_merge.proofs.enough_shown.BreaksOff.{stop_breaks}
-use Rattle.run_merge.proofs.enough_shown.CallTickets.{HasTicket, rises_events}
+use Rattle.run_merge.proofs.enough_shown.CallTickets.{rises_events}
 use Rattle.run_merge.proofs.enough_shown.CallEvents.{ticketed_events, event_histories}
 use Rattle.run_merge.proofs.enough_shown.ObjectHistories as calls
 use Rattle.run_merge.proofs.enough_shown.ObjectHistories.{told_drew}
@@ -43,6 +43,7 @@ use Rattle.run_merge.proofs.enough_shown.LogLeads.{is_told, AskSome, Walked, wal
 use Rattle.run_merge.proofs.closing.EventsAndEntries.{sorted_length}
 use Rattle.shared_objects.proofs.sharing.FewTasks.{few_of}
 use Rattle.shared_objects.proofs.steps.BrokenRests.{broken_rests}
+use Rattle.shared_objects.proofs.logs.StepNotes.{HasTicket}
 use Rattle.run_merge.proofs.merging.Picked.{is_at, is_by, entries_filter, filter_swap}
 
 -- a call that left its task as it was drew no ticket

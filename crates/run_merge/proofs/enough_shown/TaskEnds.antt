@@ -20,12 +20,13 @@ use Rattle.shared_objects.specs.Logs.{HasStopped}
 use Rattle.shared_objects.specs.Passes.{found_by, numbers_of}
 use Rattle.shared_objects.proofs.tickets.TicketsOfCalls.{last_drawn, keeps}
 use Rattle.shared_objects.proofs.tickets.CallOwners.{first_there, logged, kept, IsInPlace, in_place}
+use Rattle.shared_objects.proofs.logs.StepNotes.{HasTicket}
 use Rattle.run_merge.specs.Closing.{IsThrough, WasRefused, HasLast}
 use Rattle.run_merge.specs.Machines.{ServesAt, TallyMachine, LeadsObject}
 use Rattle.run_merge.specs.Merging.{Ticketed, without_tickets, done_by}
 use Rattle.run_merge.specs.ObjectsByName.{get}
 use Rattle.run_merge.specs.SharedObjects.{ticketed, seen_at}
-use Rattle.run_merge.proofs.enough_shown.CallTickets.{HasTicket, events_append, events_untold, rises_events, none_greater, rises_above, rises_parts}
+use Rattle.run_merge.proofs.enough_shown.CallTickets.{events_append, events_untold, rises_events, none_greater, rises_above, rises_parts}
 use Rattle.run_merge.proofs.enough_shown.CallEvents.{ticketed_events, event_histories}
 use Rattle.run_merge.proofs.enough_shown.TallyLooks.{parts_ready, history_parts, IsSeen, seen_then, left_look, lets_ask}
 use Rattle.run_merge.proofs.enough_shown.ObjectHistories.{told_drew, IsReady, ready_first, ready_behind, serves_is, serves_none, drawn_leads}

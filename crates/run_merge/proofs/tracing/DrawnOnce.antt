@@ -22,10 +22,11 @@ use Rattle.shared_objects.specs.Kinds.{ThingAt}
 use Rattle.shared_objects.specs.Logs.{tickets_in}
 use Rattle.shared_objects.specs.Passes.{numbers_of}
 use Rattle.shared_objects.proofs.tickets.TicketsOfCalls.{drawn_of, drew_of, numbers_is}
+use Rattle.shared_objects.proofs.logs.StepNotes.{HasTicket}
 use Rattle.run_merge.specs.Merging.{Ticketed, sorted, all_of}
 use Rattle.run_merge.specs.SharedObjects.{ticketed}
 use Rattle.run_merge.proofs.enough_shown.TaskCounts.{done_at, image_at, all_placed, log_drew}
-use Rattle.run_merge.proofs.enough_shown.CallTickets.{HasTicket, events_told, events_untold}
+use Rattle.run_merge.proofs.enough_shown.CallTickets.{events_told, events_untold}
 use Rattle.run_merge.proofs.enough_shown.CallEvents.{ticketed_events, event_histories}
 use Rattle.run_merge.proofs.enough_shown.PlaceSums.{total, total_most, total_list, by_places}
 use Rattle.run_merge.proofs.enough_shown.LogLeads.{is_told}

@@ -28,6 +28,7 @@ use Rattle.shared_objects.specs.Logs.{is_event, events_in}
 use Rattle.shared_objects.specs.Noting.{notes_of}
 use Rattle.shared_objects.proofs.tickets.TicketsOfCalls.{flat_there}
 use Rattle.shared_objects.proofs.tickets.CallOwners.{logged}
+use Rattle.shared_objects.proofs.logs.StepNotes.{HasTicket}
 use Rattle.run_merge.specs.Entries.{Entry, AreEvents, entries_in}
 use Rattle.run_merge.specs.Joining.{IsJoined}
 use Rattle.run_merge.specs.Merging.{Ticketed, all_of, done_by, without_tickets, sorted}
@@ -35,7 +36,6 @@ use Rattle.run_merge.specs.SharedObjects.{ticketed, entry_histories}
 use Rattle.run_merge.specs.Tracing.{notes_in, NotesAreRuns}
 use Rattle.run_merge.proofs.enough_shown.TaskCounts.{first_is, done_at}
 use Rattle.run_merge.proofs.enough_shown.CallEvents.{ticketed_events, event_histories}
-use Rattle.run_merge.proofs.enough_shown.CallTickets.{HasTicket}
 use Rattle.run_merge.proofs.enough_shown.ObjectHistories.{told_drew}
 use Rattle.run_merge.proofs.enough_shown.CalledObjects.{ask_some}
 use Rattle.run_merge.proofs.enough_shown.LogLeads.{is_told}

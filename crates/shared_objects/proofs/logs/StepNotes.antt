@@ -31,7 +31,7 @@ all_right P [] ys all = all
 all_right P (x ∷ xs) ys all = all_right P xs ys (All-tail P x (xs ++ ys) all)
 
 -- an event drew a ticket
-abbrev HasTicket : Call → Type 0
+abbrev pub HasTicket : Call → Type 0
 HasTicket call = is_event call.asked call.told.reply ≡ true → is_some call.told.ticket ≡ true
 
 pub earlier_tickets : (log more : List Call) → HaveTickets (log ++ more) → HaveTickets log

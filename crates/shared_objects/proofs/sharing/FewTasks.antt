@@ -17,7 +17,8 @@ use Rattle.decl_text.proofs.Fits.{accepted_fit}
 use Rattle.run_machine.specs.Submissions.{rests}
 use Rattle.run_machine.specs.Opened.{Scenario, at, duties, is_by, keepers, most_writers, setup, tasks, todos, todos_of, writers}
 use Rattle.run_machine.specs.Scene.{is_device, is_disk, keeps_data, rescuer_at}
-use Rattle.run_machine.specs.Tasks.{NoBio, Empty, Duty, Writer, Rescuer, Completer}
+use Rattle.run_machine.specs.Tasks.{NoBio, Empty, Writer, Rescuer, Completer}
+use Rattle.run_machine.proofs.Apart.{one_keeper}
 use Rattle.task_steps.specs.TaskViews.{TaskOf}
 use Rattle.task_core.specs.declared.opening.Opened.{Opened}
 use Rattle.task_core.specs.opened.OfOne.{IsOpened, scenario_in}
@@ -43,10 +44,6 @@ few_of_both p q apart (x ∷ xs) = by_test (p x) (q x) refl refl (few_of_both p 
     by_test true false e f le = omega (arith, le)
     by_test false true e f le = omega (arith, le)
     by_test false false e f le = omega (arith, le)
-
-one_keeper : (ds : List Duty) → length (keepers ds) ≤ 1
-one_keeper [] = omega arith
-one_keeper (duty ∷ ds) = omega arith
 
 right_of : (a b : Bool) → (a && b) ≡ true → b ≡ true
 right_of true b e = e

@@ -6,6 +6,7 @@ use Rattle.std.proofs.lemmas.Bool.Decides.{nat_tests}
 use Rattle.stack_base.specs.PoolId.{pool_number}
 use Rattle.stack_base.specs.declared.ids.DevId.{DevId}
 use Rattle.stack_base.specs.declared.ids.SetId.{SetId}
+use Rattle.stack_base.proofs.ListLemmas.{first_or, behind_first}
 use Rattle.bio_books.specs.Books.{BookState}
 use Rattle.bio_records.specs.Rescue.{Rescue}
 use Rattle.mempool_core.specs.Pool.{LedgerPool}
@@ -25,14 +26,6 @@ use Rattle.task_steps.specs.Stage.{AreServed}
 use Rattle.object_things.specs.Pools.{IsPoolOf}
 use Rattle.shared_objects.specs.Opening.{CanShare, IsPoolAt}
 use Rattle.shared_objects.proofs.row_lemmas.CallsApart.{all_more}
-
-abbrev head_or : ℕ → List ℕ → ℕ
-head_or d [] = d
-head_or d (x ∷ xs) = x
-
-abbrev rest_of : List ℕ → List ℕ
-rest_of [] = []
-rest_of (x ∷ xs) = xs
 
 is_other : (a b : ℕ) → a ≢ b → (a == b) ≡ false
 is_other a b apart = grind (apart, arith, nat_tests)
@@ -64,11 +57,11 @@ module _ {E : Type 0} (key : E → ℕ) (number : ℕ → ℕ) (is_used : ℕ �
           record { index = s.index; least = omega (arith, lo); below = omega (arith, hi); used = s.used; keyed = s.keyed; found = s.found }
       by_case true is [] f later = λ k d lt. absurd (omega (arith, lt))
       by_case true is (x ∷ xs) f later =
-          let here : key x ≡ number first = ap (head_or 0) f in
+          let here : key x ≡ number first = ap (first_or 0) f in
           let same : (key x == number first) ≡ true = is_itself (key x) (number first) here in
           all_more (IsIndexed first (suc count) (x ∷ xs)) x xs
           (record { index = first; least = omega arith; below = omega arith; used = is; keyed = here; found = rw (same) refl })
-          (λ k d lt. by_entry x xs is here (get_or xs k d) (later xs (ap rest_of f) k d lt))
+          (λ k d lt. by_entry x xs is here (get_or xs k d) (later xs (ap behind_first f) k d lt))
 
   module _ (IsMade : ℕ → E → Type 0) (bound : ℕ) (entries : List E) (table : List ℕ) where
     -- and it is as its index wants it

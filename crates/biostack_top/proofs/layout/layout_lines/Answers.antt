@@ -5,13 +5,10 @@ use Rattle.std.proofs.lemmas.List.Elements.{Contains-get_or}
 use Rattle.stack_base.specs.Tree.{tree}
 use Rattle.layout_model.specs.declared.write.Write.{Write}
 use Rattle.layout_model.specs.Fragments.{AreFragments}
+use Rattle.layout_model.proofs.WriteSizes.{no_write}
 use Rattle.biostack_top.specs.LayoutText.{AreLaid}
 use Rattle.biostack_top.proofs.LayoutLemmas.{laid_more, laid_known}
 use Rattle.biostack_top.proofs.layout.layout_lines.Goals as goal
-
--- what stands for a write where there is none
-abbrev no_write : Write
-no_write = record { task = 0; dev = record { 0 = 0 }; start = 0; count = 0; tag = 0 }
 
 pub add_fragments-requires-clause-write : goal.add_fragments-requires-clause-write
 add_fragments-requires-clause-write c = c.requires.served _ (Contains-get_or c.args.writes.now c.laying.number no_write c.laying-test.true)

@@ -4,12 +4,8 @@ use Rattle.std.proofs.lemmas.List.Sums.{sum_by_more}
 use Rattle.layout_model.specs.declared.write.Write.{Write}
 use Rattle.layout_model.specs.NeedCounts.{elements, parts}
 use Rattle.layout_model.specs.Writes.{IsWrite}
-use Rattle.layout_model.proofs.WriteSizes.{elements_small, parts_le_elements}
+use Rattle.layout_model.proofs.WriteSizes.{elements_small, parts_le_elements, no_write}
 use Rattle.layout_model.proofs.totals.bound.Goals as goal
-
--- what stands for a write where there is none
-abbrev no_write : Write
-no_write = record { task = 0; dev = record { 0 = 0 }; start = 0; count = 0; tag = 0 }
 
 -- each write needs little
 pub overflow_add-e : goal.overflow_add-e
