@@ -1,5 +1,5 @@
 -- What a list shows of the elements in it, and the list of these.
-use Rattle.std.specs.Prelude.{◌≡◌, ◌≤◌, ℕ, List, [], ◌∷◌, length, remove, slice_get, Option, None, Some}
+use Rattle.std.specs.Prelude.{◌≡◌, ◌+◌, ◌≤◌, ℕ, List, [], ◌∷◌, ◌++◌, length, remove, reverse, slice_get, Option, None, Some, MatchOption}
 use Rattle.std.specs.Global.{Box}
 use Rattle.elem_ledger.specs.Ledger.{LedgerId}
 use Rattle.elem_ledger.specs.declared.element.Element.{Element}
@@ -29,6 +29,14 @@ abbrev pub items : {F : Type 0} → Option (Box (BioBody F) × LedgerId) → Lis
 items None = []
 items (Some first) = chain_from first.0.value first.1
 
+-- the elements of a list that is kept as these two chains, in their order: its front, and its back with the last one first
+abbrev pub in_order : {F : Type 0} → Option (Box (BioBody F) × LedgerId) → Option (Box (BioBody F) × LedgerId) → List (Item F)
+in_order front back = items front ++ reverse (items back)
+
+-- how many elements two chains have together
+abbrev pub joint_length : {F : Type 0} → Option (Box (BioBody F) × LedgerId) → Option (Box (BioBody F) × LedgerId) → ℕ
+joint_length one other = length (items one) + length (items other)
+
 abbrev pub item_of : {F : Type 0} → Element (BioBody F) → Item F
 item_of {F = F} element = record {
   pad = (out-BioBody F element.body.value).pad;
@@ -41,6 +49,10 @@ item_of {F = F} element = record {
 abbrev pub IsAlone : {F : Type 0} → Element (BioBody F) → Type 0
 IsAlone {F = F} element = (out-BioBody F element.body.value).next ≡ None
 
+-- the first element was taken off, and is in no list now; or there was none
+abbrev pub PopsFirst : {F : Type 0} → List (Item F) → Option (Element (BioBody F)) → List (Item F) → Type 0
+PopsFirst old popped new = MatchOption popped ((old ≡ []) × (new ≡ [])) (λ element. (old ≡ item_of element ∷ new) × IsAlone element)
+
 -- no element stands at this place, and all stay
 abbrev pub StaysShort : {F : Type 0} → List (Item F) → ℕ → List (Item F) → Type 0
 StaysShort old index new = (length old ≤ index) × (new ≡ old)
@@ -48,6 +60,10 @@ StaysShort old index new = (length old ≤ index) × (new ≡ old)
 -- the element that stood at this place is in no list now, and the others are where they were
 abbrev pub IsDetached : {F : Type 0} → List (Item F) → ℕ → Element (BioBody F) → List (Item F) → Type 0
 IsDetached old index element new = (slice_get old index ≡ Some (item_of element)) × (new ≡ remove old index) × IsAlone element
+
+-- one of the two, as an element was taken or not
+abbrev pub Detaches : {F : Type 0} → List (Item F) → ℕ → Option (Element (BioBody F)) → List (Item F) → Type 0
+Detaches old index taken new = MatchOption taken (StaysShort old index new) (λ element. IsDetached old index element new)
 
 -- an element of a list as a walk shows it: the padding, the bio and its own segments
 pub record Plain : Type 0 where

@@ -1,5 +1,5 @@
 -- For which device a bio is, as one driver of a task sees it, and of which set it is.
-use Rattle.std.specs.Prelude.{◌==◌, not, Bool, true, false}
+use Rattle.std.specs.Prelude.{◌==◌, not, Bool, true, false, List, ◌++◌, filter}
 use Rattle.stack_base.specs.declared.ids.DevId.{DevId}
 use Rattle.stack_base.specs.declared.ids.SetId.{SetId}
 use Rattle.stack_base.specs.declared.ids.SetId.TheVariants.{Fs, Of}
@@ -13,6 +13,10 @@ is_same dev item = item.bio.dev.0 == dev.0
 -- it is for another one, which stands below it
 abbrev pub is_lower : DevId → Item Pad → Bool
 is_lower dev item = not (is_same dev item)
+
+-- bios put before others, as a driver of this device has submitted them: those for other devices, and then those for it, each in their order
+abbrev pub sorted : DevId → List (Item Pad) → List (Item Pad) → List (Item Pad)
+sorted dev bios others = filter (is_lower dev) bios ++ (filter (is_same dev) bios ++ others)
 
 abbrev pub same_set : SetId → SetId → Bool
 same_set Fs Fs = true

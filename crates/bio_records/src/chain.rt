@@ -1,7 +1,7 @@
 //! Chains of elements, each in the box of the one before it.
-ghost use Rattle.std.specs.Prelude.{◌≡◌, ◌++◌, filter, ◌+◌, ◌<◌, [], ◌∷◌, length, reverse, remove, slice_get, min, ◌^◌, ◌-◌, MatchOption, None, Some};
-ghost use Rattle.bio_records.specs.Items.{items, item_of, IsAlone, IsDetached, StaysShort};
-ghost use Rattle.bio_records.specs.Sorting.{is_lower, is_of, is_of_other, is_same, same_set};
+ghost use Rattle.std.specs.Prelude.{◌≡◌, ◌++◌, filter, ◌+◌, ◌<◌, [], ◌∷◌, length, reverse, remove, slice_get, min, ◌^◌, ◌-◌, None, Some};
+ghost use Rattle.bio_records.specs.Items.{items, in_order, item_of, joint_length, Detaches, IsAlone, PopsFirst};
+ghost use Rattle.bio_records.specs.Sorting.{is_lower, is_of, is_of_other, is_same, same_set, sorted};
 
 use crate::bio::Pad;
 use crate::body::BioBody;
@@ -34,8 +34,7 @@ pub fn attach<F: Drop>(link: &mut Link<F>, element: Element<BioBody<F>>)
 
 /// Takes the first element off a chain.
 pub fn detach<F: Drop>(link: &mut Link<F>) -> Option<Element<BioBody<F>>>
-    ensures { MatchOption result ((items link.old ≡ []) × (items link.new ≡ []))
-        (λ element. (items link.old ≡ item_of element ∷ items link.new) × IsAlone element) }
+    ensures { PopsFirst (items link.old) result (items link.new) }
 {
     let (mut body, share) = link.take()?;
     if let Some((next, of)) = body.next.take() {
@@ -90,8 +89,7 @@ pub fn part(
 
 /// Puts the bios of a list with this front and back before a chain: first those for other devices than this one, then those for it.
 pub fn sorted(front: Link<Pad>, back: Link<Pad>, dev: DevId, own: Link<Pad>) -> Link<Pad>
-    ensures { items result ≡ filter (is_lower dev) (items front ++ reverse (items back))
-        ++ (filter (is_same dev) (items front ++ reverse (items back)) ++ items own) }
+    ensures { items result ≡ sorted dev (in_order front back) (items own) }
 {
     let (lower, same) = part(back, dev, None, own);
     let (lower, same) = part(reverse_onto(front, None), dev, lower, same);
@@ -123,8 +121,8 @@ pub fn part_by_set(
 /// The bios of a list with this front and back: first those of this set, and then the others.
 #[tactic(auto, using(crate::proofs::Sorted::one_parted))]
 pub fn set_apart(front: Link<Pad>, back: Link<Pad>, set: SetId) -> (Link<Pad>, Link<Pad>)
-    ensures chosen { items result.0 ≡ filter (is_of set) (items front ++ reverse (items back)) }
-    ensures others { items result.1 ≡ filter (is_of_other set) (items front ++ reverse (items back)) }
+    ensures chosen { items result.0 ≡ filter (is_of set) (in_order front back) }
+    ensures others { items result.1 ≡ filter (is_of_other set) (in_order front back) }
 {
     let (chosen, others) = part_by_set(back, set, None, None);
     part_by_set(reverse_onto(front, None), set, chosen, others)
@@ -163,8 +161,8 @@ pub fn pass<F: Drop>(from: &mut Link<F>, count: u64, passed: &mut Link<F>) -> u6
 /// How many elements two chains have together, or `u64::MAX` where there are more, from that number with one element more. The chains are
 /// looked at only where it does not tell.
 pub fn count_less_one<F: Drop>(count: u64, front: &Link<F>, back: &Link<F>) -> u64
-    requires { count ≡ min (length (items front.now) + length (items back.now) + 1) (2 ^ 64 - 1) }
-    ensures { result ≡ min (length (items front.now) + length (items back.now)) (2 ^ 64 - 1) }
+    requires { count ≡ min (joint_length front.now back.now + 1) (2 ^ 64 - 1) }
+    ensures { result ≡ min (joint_length front.now back.now) (2 ^ 64 - 1) }
 {
     if count < u64::MAX {
         count - 1
@@ -176,7 +174,7 @@ pub fn count_less_one<F: Drop>(count: u64, front: &Link<F>, back: &Link<F>) -> u
 /// How many elements each of two chains has, or `u64::MAX` where there are more, from how many they have together. The second one is looked at only
 /// where that does not tell.
 pub fn counts_apart<F: Drop>(count: u64, chosen: &Link<F>, others: &Link<F>) -> (u64, u64)
-    requires { count ≡ min (length (items chosen.now) + length (items others.now)) (2 ^ 64 - 1) }
+    requires { count ≡ min (joint_length chosen.now others.now) (2 ^ 64 - 1) }
     ensures chosen { result.0 ≡ min (length (items chosen.now)) (2 ^ 64 - 1) }
     ensures others { result.1 ≡ min (length (items others.now)) (2 ^ 64 - 1) }
 {
@@ -190,7 +188,7 @@ pub fn counts_apart<F: Drop>(count: u64, chosen: &Link<F>, others: &Link<F>) -> 
 
 /// Where the front of a list is empty, its back becomes its front: turned round, and empty from then on.
 pub fn bring_round<F: Drop>(front: &mut Link<F>, back: &mut Link<F>)
-    ensures same { items front.new ++ reverse (items back.new) ≡ items front.old ++ reverse (items back.old) }
+    ensures same { in_order front.new back.new ≡ in_order front.old back.old }
     ensures brought { items front.old ≡ [] → items back.new ≡ [] }
     ensures emptied { items front.new ≡ [] → items back.new ≡ [] }
 {
@@ -207,8 +205,7 @@ const NEAR: u64 = 64;
 #[cycle(places)]
 fn detach_to<F: Drop>(link: &mut Link<F>, index: u64, taken: &mut Option<Element<BioBody<F>>>)
     requires { taken.old ≡ None }
-    ensures { MatchOption taken.new (StaysShort (items link.old) index (items link.new))
-        (λ element. IsDetached (items link.old) index element (items link.new)) }
+    ensures { Detaches (items link.old) index taken.new (items link.new) }
 {
     if index == 0 {
         put(taken, detach(link));
@@ -221,8 +218,7 @@ fn detach_to<F: Drop>(link: &mut Link<F>, index: u64, taken: &mut Option<Element
 
 /// Takes the element at a place out of a chain, if it is that long. The others stay where they are.
 pub fn detach_at<F: Drop>(link: &mut Link<F>, index: u64) -> Option<Element<BioBody<F>>>
-    ensures { MatchOption result (StaysShort (items link.old) index (items link.new))
-        (λ element. IsDetached (items link.old) index element (items link.new)) }
+    ensures { Detaches (items link.old) index result (items link.new) }
 {
     let mut taken = None;
     detach_to(link, index, &mut taken);
@@ -231,10 +227,10 @@ pub fn detach_at<F: Drop>(link: &mut Link<F>, index: u64) -> Option<Element<BioB
 
 // Takes the element at a place out of a list with this front and back, by moving those before it. The others keep their order.
 fn take_far<F: Drop>(front: &mut Link<F>, back: &mut Link<F>, index: u64) -> Element<BioBody<F>>
-    requires { index < length (items front.old) + length (items back.old) }
-    ensures taken { slice_get (items front.old ++ reverse (items back.old)) index ≡ Some (item_of result) }
-    ensures rest { items front.new ++ reverse (items back.new) ≡ remove (items front.old ++ reverse (items back.old)) index }
-    ensures counted { length (items front.new) + length (items back.new) + 1 ≡ length (items front.old) + length (items back.old) }
+    requires { index < joint_length front.old back.old }
+    ensures taken { slice_get (in_order front.old back.old) index ≡ Some (item_of result) }
+    ensures rest { in_order front.new back.new ≡ remove (in_order front.old back.old) index }
+    ensures counted { joint_length front.new back.new + 1 ≡ joint_length front.old back.old }
     ensures alone { IsAlone result }
 {
     let mut passed = None;
@@ -249,10 +245,10 @@ fn take_far<F: Drop>(front: &mut Link<F>, back: &mut Link<F>, index: u64) -> Ele
 
 /// Takes the element at a place out of a list with this front and back. The others keep their order.
 pub fn take_out<F: Drop>(front: &mut Link<F>, back: &mut Link<F>, index: u64) -> Element<BioBody<F>>
-    requires { index < length (items front.old) + length (items back.old) }
-    ensures taken { slice_get (items front.old ++ reverse (items back.old)) index ≡ Some (item_of result) }
-    ensures rest { items front.new ++ reverse (items back.new) ≡ remove (items front.old ++ reverse (items back.old)) index }
-    ensures counted { length (items front.new) + length (items back.new) + 1 ≡ length (items front.old) + length (items back.old) }
+    requires { index < joint_length front.old back.old }
+    ensures taken { slice_get (in_order front.old back.old) index ≡ Some (item_of result) }
+    ensures rest { in_order front.new back.new ≡ remove (in_order front.old back.old) index }
+    ensures counted { joint_length front.new back.new + 1 ≡ joint_length front.old back.old }
     ensures alone { IsAlone result }
 {
     if index < NEAR {

@@ -1,7 +1,7 @@
 //! Lists of bios.
-ghost use Rattle.std.specs.Prelude.{◌≡◌, ◌++◌, filter, ◌+◌, ◌<◌, [], ◌∷◌, List, length, map, reverse, remove, IsTrue, ◌↔◌, slice_get, min, ◌^◌, ◌-◌, MatchOption, Some};
-ghost use Rattle.bio_records.specs.Items.{Item, items, item_of, plain_of, IsAlone};
-ghost use Rattle.bio_records.specs.Sorting.{is_lower, is_of, is_of_other, is_same};
+ghost use Rattle.std.specs.Prelude.{◌≡◌, ◌++◌, filter, ◌+◌, ◌<◌, [], ◌∷◌, List, length, map, reverse, remove, IsTrue, ◌↔◌, slice_get, min, ◌^◌, ◌-◌, Some};
+ghost use Rattle.bio_records.specs.Items.{Item, item_of, plain_of, IsAlone, PopsFirst};
+ghost use Rattle.bio_records.specs.Sorting.{is_of, is_of_other, sorted};
 
 use crate::bio::Pad;
 use crate::body::BioElement;
@@ -39,15 +39,15 @@ impl Drop for BioList {
 }
 
 impl Model for BioList {
-    ghost use Rattle.std.specs.Prelude.{◌≡◌, ◌++◌, ◌-◌, ◌^◌, List, length, reverse, min};
+    ghost use Rattle.std.specs.Prelude.{◌≡◌, ◌-◌, ◌^◌, List, length, min};
     ghost use Rattle.bio_records.specs.declared.bio.Pad.{Pad};
-    ghost use Rattle.bio_records.specs.Items.{Item, items};
+    ghost use Rattle.bio_records.specs.Items.{Item, in_order};
 
     ghost Value = { List (Item Pad) };
 
-    ghost view = { λ l. items l.front ++ reverse (items l.back) };
+    ghost view = { λ l. in_order l.front l.back };
 
-    ghost invariant = { λ l. l.count ≡ min (length (items l.front ++ reverse (items l.back))) (2 ^ 64 - 1) };
+    ghost invariant = { λ l. l.count ≡ min (length (in_order l.front l.back)) (2 ^ 64 - 1) };
 }
 
 impl BioList {
@@ -88,8 +88,7 @@ impl BioList {
     /// Takes the first bio off, if there is one (`bio_list_pop`).
     #[inline(always)]
     pub fn pop(&mut self) -> Option<BioElement>
-        ensures { MatchOption result ((self.old ≡ []) × (self.new ≡ []))
-            (λ element. (self.old ≡ item_of element ∷ self.new) × IsAlone element) }
+        ensures { PopsFirst self.old result self.new }
     {
         chain::bring_round(&mut self.front, &mut self.back);
         let element = chain::detach(&mut self.front)?;
@@ -139,7 +138,7 @@ impl BioList {
     #[inline(never)]
     fn sort_in(&mut self, other: &mut BioList, dev: DevId)
         ensures moved { other.new ≡ [] }
-        ensures order { self.new ≡ filter (is_lower dev) other.old ++ (filter (is_same dev) other.old ++ self.old) }
+        ensures order { self.new ≡ sorted dev other.old self.old }
     {
         let own = self.front.take();
         let sorted = chain::sorted(other.front.take(), other.back.take(), dev, own);
@@ -153,7 +152,7 @@ impl BioList {
     #[inline(always)]
     pub fn sort_before(&mut self, other: &mut BioList, dev: DevId)
         ensures moved { other.new ≡ [] }
-        ensures order { self.new ≡ filter (is_lower dev) other.old ++ (filter (is_same dev) other.old ++ self.old) }
+        ensures order { self.new ≡ sorted dev other.old self.old }
     {
         if other.count > 0 {
             self.sort_in(other, dev);

@@ -1,8 +1,8 @@
 //! The lists of a task, and the list of a set's rescuer.
-ghost use Rattle.std.specs.Prelude.{◌≡◌, ◌++◌, ◌-◌, ◌^◌, ◌↔◌, [], ◌∷◌, length, map, min, reverse, IsTrue, MatchOption};
+ghost use Rattle.std.specs.Prelude.{◌≡◌, ◌++◌, ◌-◌, ◌^◌, ◌↔◌, [], length, map, min, reverse, IsTrue};
 ghost use Rattle.stack_base.specs.declared.ids.DevId.{DevId};
 ghost use Rattle.bio_records.specs.declared.tasks.TaskLists.{TaskLists as Lists};
-ghost use Rattle.bio_records.specs.Items.{item_of, plain_of, IsAlone};
+ghost use Rattle.bio_records.specs.Items.{plain_of, PopsFirst};
 ghost use Rattle.bio_records.specs.Waiting.{IsBusy};
 
 use crate::body::BioElement;
@@ -82,8 +82,7 @@ impl RescueList {
     /// Takes the first bio off, if there is one (`bio_alloc_rescue`, `block/bio.c`).
     pub fn pop(&mut self) -> Option<BioElement>
         ensures dev { self.new.dev ≡ self.old.dev }
-        ensures bios { MatchOption result ((self.old.bios ≡ []) × (self.new.bios ≡ []))
-            (λ element. (self.old.bios ≡ item_of element ∷ self.new.bios) × IsAlone element) }
+        ensures bios { PopsFirst self.old.bios result self.new.bios }
     {
         self.bios.pop()
     }
