@@ -1,10 +1,10 @@
 -- What a task's two lists become, call by call: `submit_bio_noacct`, block/blk-core.c.
-use Rattle.std.specs.Prelude.{◌≡◌, ◌+◌, Bool, List, [], ◌∷◌, ◌++◌, filter, count_by, Option, None, Some}
+use Rattle.std.specs.Prelude.{◌≡◌, ◌+◌, Bool, List, [], ◌∷◌, ◌++◌, count_by, Option, None, Some}
 use Rattle.stack_base.specs.declared.ids.DevId.{DevId}
 use Rattle.bio_records.specs.declared.bio.Pad.{Pad}
 use Rattle.bio_records.specs.declared.tasks.TaskLists.{TaskLists}
 use Rattle.bio_records.specs.Items.{Item}
-use Rattle.bio_records.specs.Sorting.{is_lower, is_same}
+use Rattle.bio_records.specs.Sorting.{sorted}
 
 abbrev pub no_lists : TaskLists
 no_lists = record { list0 = []; list1 = [] }
@@ -16,7 +16,7 @@ submitted item lists = record lists { list0 = lists.list0 ++ item ∷ [] }
 -- what is to be served once the driver of this device has returned: what it submitted for other devices, then what it submitted for its own,
 -- then what waited before
 abbrev pub order : DevId → TaskLists → List (Item Pad)
-order served lists = filter (is_lower served) lists.list0 ++ (filter (is_same served) lists.list0 ++ lists.list1)
+order served lists = sorted served lists.list0 lists.list1
 
 -- the first of these is served next, and the others wait in list 1; or there is none
 abbrev pub GoesOn : DevId → TaskLists → Option (Item Pad) → TaskLists → Type 0
