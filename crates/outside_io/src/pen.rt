@@ -17,7 +17,7 @@ const ROOM: usize = 8192;
 fn put_all<K: Sink>(sink: &mut K, text: &[u8]) -> Result<(), Failed>
     ensures ok { OnOk result (Appends (K.held sink.old) (K.held sink.new) text.now) }
     ensures err { OnErr result (AppendsFront (K.held sink.old) (K.held sink.new) text.now) }
-    ensures stops { StopsAtFault K.held K.faults sink.old sink.new }
+    ensures stops { StopsAtFault K.Sink sink.old sink.new }
     ensures cause { HasCause (K.faults sink.old) (K.faults sink.new) result }
 {
     let mut at = 0;
@@ -63,7 +63,7 @@ impl Pen {
 
     // Puts what is pending, unless a put has failed before.
     fn hand_on<K: Sink>(&mut self, sink: &mut K)
-        ensures says { Says K.held K.faults sink.old self.old sink.new self.new [] }
+        ensures says { Says K.Sink sink.old self.old sink.new self.new [] }
         ensures handed { self.new.pending ≡ [] }
     {
         if !self.failed {
@@ -74,7 +74,7 @@ impl Pen {
 
     // Hands on what is pending if it fills the buffer.
     fn make_room<K: Sink>(&mut self, sink: &mut K)
-        ensures says { Says K.held K.faults sink.old self.old sink.new self.new [] }
+        ensures says { Says K.Sink sink.old self.old sink.new self.new [] }
         ensures room { length self.new.pending < 8192 }
     {
         if self.buffer.is_full() {
@@ -95,7 +95,7 @@ impl Pen {
 
     // Takes a text into the buffer, which is handed on as often as it is full.
     fn say<K: Sink>(&mut self, sink: &mut K, text: &[u8])
-        ensures { Says K.held K.faults sink.old self.old sink.new self.new text.now }
+        ensures { Says K.Sink sink.old self.old sink.new self.new text.now }
     {
         let mut at = 0;
         'saying: while at < text.len() {
@@ -107,7 +107,7 @@ impl Pen {
 
     /// Tells the pen the parts of a text, one after the other. Where the buffer is full it goes on to the sink, unless the pen has failed before.
     pub fn put<K: Sink>(&mut self, sink: &mut K, parts: &[&[u8]])
-        ensures { Says K.held K.faults sink.old self.old sink.new self.new (flat_map (λ part. part.now) parts.now) }
+        ensures { Says K.Sink sink.old self.old sink.new self.new (flat_map (λ part. part.now) parts.now) }
     {
         'parts: for part in parts {
             self.say(sink, part);
@@ -120,7 +120,7 @@ impl Pen {
     ///
     /// Exactly where a put of this pen has failed, now or before.
     pub fn finish<K: Sink>(&mut self, sink: &mut K) -> Result<(), Failed>
-        ensures says { Says K.held K.faults sink.old self.old sink.new self.new [] }
+        ensures says { Says K.Sink sink.old self.old sink.new self.new [] }
         ensures handed { self.new.pending ≡ [] }
         ensures failed { MatchResult result (λ _. self.new.failed ≡ false) (λ _. self.new.failed ≡ true) }
     {

@@ -3,4 +3,4 @@ use Rattle.outside_io.proofs.SaysLemmas.{says_silence}
 use Rattle.outside_io.proofs.pen.Pen.make_room.Goals as goal
 
 pub returns-else-is_full-clause-says : goal.returns-else-is_full-clause-says
-returns-else-is_full-clause-says g c = says_silence g.K.Sink.held g.K.Sink.faults c.args.sink.now c.args.self.now
+returns-else-is_full-clause-says g c = says_silence g.K.Sink c.args.sink.now c.args.self.now

@@ -5,5 +5,5 @@ use Rattle.outside_io.proofs.pen.Pen.put.Given as goal
 
 abbrev pub invariant-parts : goal.invariant-parts
 invariant-parts g l =
-    Says g.K.Sink.held g.K.Sink.faults l.fn.sink l.fn.self l.sink l.self
+    Says g.K.Sink l.fn.sink l.fn.self l.sink l.self
     (flat_map (λ part. part.now) (take l.part-index l.parts))

@@ -5,7 +5,7 @@ use Rattle.outside_io.proofs.pen.Pen.say.Given as goal
 abbrev pub invariant-saying : goal.invariant-saying
 invariant-saying g l = record {
   within : l.at ≤ length l.text;
-  said : Says g.K.Sink.held g.K.Sink.faults l.fn.sink l.fn.self l.sink l.self (take l.at l.text);
+  said : Says g.K.Sink l.fn.sink l.fn.self l.sink l.self (take l.at l.text);
 }
 
 abbrev pub decreases-saying : goal.decreases-saying
