@@ -14,8 +14,7 @@ use stack_base::{DevId, Range, Stack};
 
 // `scrub NAME leg K unlike C`
 fn leg_line<K: Sink>(pen: &mut Pen, out: &mut K, name: &[u8], leg: u32, count: u64)
-    ensures { Says K.held K.faults out.old pen.old out.new pen.new
-        (leg_line name.now leg count) }
+    ensures { Says K.Sink out.old pen.old out.new pen.new (leg_line name.now leg count) }
 {
     let mut leg_digits = Buffer::new();
     let leg = leg_digits.format(leg).as_bytes();
@@ -29,8 +28,7 @@ fn leg_line<K: Sink>(pen: &mut Pen, out: &mut K, name: &[u8], leg: u32, count: u
 
 // `differ NAME K START LEN`
 fn differ_line<K: Sink>(pen: &mut Pen, out: &mut K, name: &[u8], leg: u32, run: Range)
-    ensures { Says K.held K.faults out.old pen.old out.new pen.new
-        (differ_line name.now leg run) }
+    ensures { Says K.Sink out.old pen.old out.new pen.new (differ_line name.now leg run) }
 {
     let mut leg_digits = Buffer::new();
     let leg = leg_digits.format(leg).as_bytes();
@@ -65,8 +63,7 @@ fn differ_lines<K: Sink>(
     requires disks { AreDisksOf stack.now disks.now }
     requires mirror { mirror.0 < length stack.now.devices.items }
     requires leg { leg < legs (tree stack.now mirror.0) }
-    ensures { Says K.held K.faults out.old pen.old out.new pen.new
-        (stretch_lines stack.now (held disks.now) mirror.0 leg) }
+    ensures { Says K.Sink out.old pen.old out.new pen.new (stretch_lines stack.now (held disks.now) mirror.0 leg) }
 {
     let name = name_of(stack, mirror);
     let mut from = 0;
@@ -89,8 +86,7 @@ fn leg_lines<K: Sink>(
     requires disks { AreDisksOf stack.now disks.now }
     requires mirror { mirror.0 < length stack.now.devices.items }
     requires leg { leg < legs (tree stack.now mirror.0) }
-    ensures { Says K.held K.faults out.old pen.old out.new pen.new
-        (leg_lines stack.now (held disks.now) mirror.0 leg) }
+    ensures { Says K.Sink out.old pen.old out.new pen.new (leg_lines stack.now (held disks.now) mirror.0 leg) }
 {
     let count = unlike(stack, disks, mirror, leg);
     leg_line(pen, out, name_of(stack, mirror), leg, count);
@@ -104,8 +100,7 @@ fn mirror_lines<K: Sink>(pen: &mut Pen, out: &mut K, stack: &Stack, disks: &[Dis
     requires stack { IsStack stack.now }
     requires disks { AreDisksOf stack.now disks.now }
     requires mirror { mirror.0 < length stack.now.devices.items }
-    ensures { Says K.held K.faults out.old pen.old out.new pen.new
-        (mirror_lines stack.now (held disks.now) mirror.0) }
+    ensures { Says K.Sink out.old pen.old out.new pen.new (mirror_lines stack.now (held disks.now) mirror.0) }
 {
     'legs: for leg in 1..legs(stack, mirror) {
         leg_lines(pen, out, stack, disks, mirror, leg);
@@ -121,8 +116,7 @@ fn mirror_lines<K: Sink>(pen: &mut Pen, out: &mut K, stack: &Stack, disks: &[Dis
 pub fn scrub<K: Sink>(stack: &Stack, disks: &[Disk], out: &mut K) -> Result<(), Failed>
     requires stack { IsStack stack.now }
     requires disks { AreDisksOf stack.now disks.now }
-    ensures { Writes K.held K.faults out.old out.new result
-        (scrub_text stack.now (held disks.now)) }
+    ensures { Writes K.Sink out.old out.new result (scrub_text stack.now (held disks.now)) }
 {
     let mut pen = Pen::new();
     'devices: for number in 0..stack.devices.len() {

@@ -36,8 +36,8 @@ pub returns : goal.returns
 returns g c =
     let stretches = stretches_from (held c.args.disks.now) (tree c.args.stack.now c.args.mirror.0) c.args.leg in
     subst
-    (λ (name : List ℕ). Says g.K.Sink.held g.K.Sink.faults c.args.out.now c.args.pen.now c.stretches.out c.stretches.pen (differ_lines name c.args.leg (stretches 0)))
+    (λ (name : List ℕ). Says g.K.Sink c.args.out.now c.args.pen.now c.stretches.out c.stretches.pen (differ_lines name c.args.leg (stretches 0)))
     c.name_of-name.ensures
     (c.stretches.invariant.so_far _ _
-    (stretches_end g.K.Sink.held g.K.Sink.faults c.stretches.out c.stretches.pen c.name_of-name.result.now c.args.leg
+    (stretches_end g.K.Sink c.stretches.out c.stretches.pen c.name_of-name.result.now c.args.leg
     (stretches c.stretches.from) c.in_default.ensures.stretches))

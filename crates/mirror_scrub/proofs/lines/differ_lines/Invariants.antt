@@ -12,9 +12,9 @@ invariant-stretches g l = record {
   apart : IsApart (unlikes (held l.disks) (tree l.stack l.mirror.0) l.leg) l.from;
   -- what says the lines from here on completes all of them
   so_far : (end : g.row.K.Denot) (pen : PenState)
-      → Says g.K.Sink.held g.K.Sink.faults l.out l.pen end pen
+      → Says g.K.Sink l.out l.pen end pen
       (differ_lines l.name l.leg (stretches_from (held l.disks) (tree l.stack l.mirror.0) l.leg l.from))
-      → Says g.K.Sink.held g.K.Sink.faults l.fn.out l.fn.pen end pen
+      → Says g.K.Sink l.fn.out l.fn.pen end pen
       (differ_lines l.name l.leg (stretches_from (held l.disks) (tree l.stack l.mirror.0) l.leg 0));
 }
 

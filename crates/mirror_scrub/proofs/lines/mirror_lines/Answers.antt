@@ -25,5 +25,5 @@ returns g c =
     let t = tree c.args.stack.now c.args.mirror.0 in
     let past : legs t ≤ c.legs.leg = omega (arith, c.legs-test.false, c.legs-leg-end.ensures) in
     c.legs.invariant.so_far _ _
-    (numbers_end g.K.Sink.held g.K.Sink.faults c.legs.out c.legs.pen (leg_lines c.args.stack.now (held c.args.disks.now) c.args.mirror.0)
+    (numbers_end g.K.Sink c.legs.out c.legs.pen (leg_lines c.args.stack.now (held c.args.disks.now) c.args.mirror.0)
     c.legs.leg (legs t) past)

@@ -11,7 +11,7 @@ invariant-legs g l = record {
   some : 1 ≤ l.leg;
   -- what says the lines from here on completes all of them
   so_far : (end : g.row.K.Denot) (pen : PenState)
-      → Says g.K.Sink.held g.K.Sink.faults l.out l.pen end pen
+      → Says g.K.Sink l.out l.pen end pen
       (flat_map (leg_lines l.stack (held l.disks) l.mirror.0) (range_with_len l.leg (legs (tree l.stack l.mirror.0) - l.leg)))
-      → Says g.K.Sink.held g.K.Sink.faults l.fn.out l.fn.pen end pen (mirror_lines l.stack (held l.disks) l.mirror.0);
+      → Says g.K.Sink l.fn.out l.fn.pen end pen (mirror_lines l.stack (held l.disks) l.mirror.0);
 }

@@ -14,7 +14,7 @@ devices-init g c = λ end pen said.
     let n = length c.args.stack.now.devices.items in
     let whole : n - 0 ≡ n = omega arith in
     subst
-    (λ (k : ℕ). Says g.K.Sink.held g.K.Sink.faults c.args.out.now c.new-pen.result end pen
+    (λ (k : ℕ). Says g.K.Sink c.args.out.now c.new-pen.result end pen
     (flat_map (mirror_lines c.args.stack.now (held c.args.disks.now)) (range_with_len 0 k)))
     whole said
 
@@ -31,6 +31,6 @@ returns g c =
     let n = length c.args.stack.now.devices.items in
     let past : n ≤ c.devices.number = omega (arith, c.devices-test.false, c.len-number-end.ensures) in
     let said = c.devices.invariant _ _
-    (numbers_end g.K.Sink.held g.K.Sink.faults c.devices.out c.devices.pen (mirror_lines c.args.stack.now (held c.args.disks.now))
+    (numbers_end g.K.Sink c.devices.out c.devices.pen (mirror_lines c.args.stack.now (held c.args.disks.now))
     c.devices.number n past) in
     finished c.finish.result c.new-pen.ensures said c.finish.ensures.says c.finish.ensures.handed c.finish.ensures.failed

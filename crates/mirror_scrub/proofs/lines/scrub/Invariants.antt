@@ -8,6 +8,6 @@ use Rattle.mirror_scrub.proofs.lines.scrub.Given as goal
 -- what says the lines from here on completes all of them
 abbrev pub invariant-devices : goal.invariant-devices
 invariant-devices g l = (end : g.row.K.Denot) (pen : PenState)
-    → Says g.K.Sink.held g.K.Sink.faults l.out l.pen end pen
+    → Says g.K.Sink l.out l.pen end pen
     (flat_map (mirror_lines l.stack (held l.disks)) (range_with_len l.number (length l.stack.devices.items - l.number)))
-    → Says g.K.Sink.held g.K.Sink.faults l.initial.out l.initial.pen end pen (scrub_text l.stack (held l.disks))
+    → Says g.K.Sink l.initial.out l.initial.pen end pen (scrub_text l.stack (held l.disks))
