@@ -1,5 +1,5 @@
 -- What a call of a source or a sink does that fails at calls of given numbers, the first call having number 1.
-use Rattle.std.specs.Prelude.{◌≡◌, ◌⊎◌, ℕ, ◌-◌, ◌<◌, ◌≤◌, min, List, ◌++◌, length, take, drop, Contains, Result, Ok, Err}
+use Rattle.std.specs.Prelude.{◌≡◌, ◌⊎◌, ℕ, ◌-◌, ◌<◌, ◌≤◌, min, List, [], ◌++◌, length, take, drop, Contains, Result, Ok, Err}
 use Rattle.outside_io.specs.Causes.{risen}
 
 -- a failing source: the bytes left, the numbers of the calls that fail, the most bytes that one call moves,
@@ -19,6 +19,13 @@ pub record FailSinkState : Type 0 where
   pub most : ℕ
   pub calls : ℕ
   pub faults : ℕ
+
+-- one that has all these bytes left and was not called, and a sink that holds nothing and was not called
+abbrev pub new_source : (bytes fails : List ℕ) (most : ℕ) → FailSourceState
+new_source bytes fails most = record { left = bytes; fails = fails; most = most; calls = 0; faults = 0 }
+
+abbrev pub new_sink : (room : ℕ) (fails : List ℕ) (most : ℕ) → FailSinkState
+new_sink room fails most = record { held = []; room = room; fails = fails; most = most; calls = 0; faults = 0 }
 
 -- after so many calls, the next one has a number that is to fail
 abbrev pub IsToFail : List ℕ → ℕ → Type 0

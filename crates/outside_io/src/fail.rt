@@ -1,8 +1,8 @@
 //! A source and a sink that fail at given calls, to try what stands above them.
-ghost use Rattle.std.specs.Prelude.{◌≡◌, ℕ, ◌<◌, ◌≤◌, List, [], Some, length, take, IfOk, OnErr};
+ghost use Rattle.std.specs.Prelude.{◌≡◌, ℕ, ◌<◌, ◌≤◌, List, Some, length, take, IfOk, OnErr};
 ghost use Rattle.std.specs.Io.KnownBytes.{Appends, Consumes, IsAtEnd, Keeps};
 ghost use Rattle.outside_io.specs.Causes.{HasCause};
-ghost use Rattle.outside_io.specs.Failing.{PutsOrFails, TakesOrFails};
+ghost use Rattle.outside_io.specs.Failing.{PutsOrFails, TakesOrFails, new_sink, new_source};
 
 use crate::{Failed, MemSink, MemSource, Sink, Source};
 use std::alloc::{AllocError, Global};
@@ -40,13 +40,7 @@ impl FailSource {
     /// in `fails` fail, and the first call has number 1.
     pub fn new(bytes: Vec<u8>, fails: Vec<u64>, most: usize) -> FailSource
         requires { 1 ≤ most }
-        ensures { result ≡ record {
-          left = bytes.items;
-          fails = fails.items;
-          most = most;
-          calls = 0;
-          faults = 0;
-        } }
+        ensures { result ≡ new_source bytes.items fails.items most }
     {
         FailSource {
             source: MemSource::new(bytes),
@@ -124,14 +118,7 @@ impl FailSink {
         most: usize,
     ) -> Result<FailSink, AllocError>
         requires { 1 ≤ most }
-        ensures { IfOk result (λ sink. sink ≡ record {
-          held = [];
-          room = room;
-          fails = fails.items;
-          most = most;
-          calls = 0;
-          faults = 0;
-        }) }
+        ensures { IfOk result (λ sink. sink ≡ new_sink room fails.items most) }
     {
         Ok(FailSink {
             sink: MemSink::new(alloc, room)?,
