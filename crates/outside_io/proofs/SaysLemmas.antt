@@ -5,10 +5,10 @@ use Rattle.std.proofs.lemmas.List.Concat.{flat_map-append}
 use Rattle.std.proofs.Math.Seq.{take-add}
 use Rattle.std.specs.List.{flat_map}
 use Rattle.std.proofs.lemmas.Bool.{false≢true}
-use Rattle.std.specs.Prelude.{Result, Ok, Err, MatchResult, OnOk, OnErr, is_err}
+use Rattle.std.specs.Prelude.{Result, Ok, Err, MatchResult, is_err}
 use Rattle.std.specs.Io.KnownBytes.{Appends, Keeps}
 use Rattle.std.proofs.KnownBytes.{Appends-nil, Appends-trans, Keeps-refl}
-use Rattle.outside_io.specs.Causes.{Rose, HasCause}
+use Rattle.outside_io.specs.Causes.{Rose}
 use Rattle.outside_io.specs.declared.sink.Sink.{Ghosts as SinkGhosts}
 use Rattle.outside_io.specs.Saying.{PenState, emptied, AppendsFront, Says, StopsAtFault, Writes}
 use Rattle.outside_io.proofs.PutLemmas.{appends_front, front_longer}
@@ -70,26 +70,24 @@ says_kept sink a was is x same pending = record {
 
 -- all that was pending was put, or a front of it where the sink failed
 pub says_put : {K T E : Type 0} {sink : SinkGhosts K} {a b : K} {was is : PenState} (result : Result T E) → was.failed ≡ false
-    → is.failed ≡ is_err result → is.pending ≡ [] → OnOk result (Appends (sink.held a) (sink.held b) was.pending)
-    → OnErr result (AppendsFront (sink.held a) (sink.held b) was.pending) → StopsAtFault sink a b → HasCause (sink.faults a) (sink.faults b) result
-    → Says sink a was b is []
-says_put {sink = sink} {a} {b} {was} {is} (Ok done) fine going none whole front stops cause = record {
+    → is.failed ≡ is_err result → is.pending ≡ [] → Writes sink a b result was.pending → Says sink a was b is []
+says_put {sink = sink} {a} {b} {was} {is} (Ok done) fine going none wrote = record {
   stays = λ w. absurd (false≢true (sym fine ∙ w));
-  whole = λ _. (fine, (was.pending, whole, append-nil was.pending ∙ sym (append-nil was.pending) ∙ ap (λ xs. was.pending ++ xs) (sym none)));
-  front = λ _. (length was.pending, omega (arith, length-append was.pending []), subst (Appends (sink.held a) (sink.held b)) (sym (take_front was.pending)) whole);
-  stops = stops;
-  quiet = λ _. cause.quiet;
+  whole = λ _. (fine, (was.pending, wrote.whole, append-nil was.pending ∙ sym (append-nil was.pending) ∙ ap (λ xs. was.pending ++ xs) (sym none)));
+  front = λ _. (length was.pending, omega (arith, length-append was.pending []), subst (Appends (sink.held a) (sink.held b)) (sym (take_front was.pending)) wrote.whole);
+  stops = wrote.stops;
+  quiet = λ _. wrote.cause.quiet;
   cause = λ failed. absurd (false≢true (sym going ∙ failed));
-  later = cause.later;
+  later = wrote.cause.later;
 }
-says_put {sink = sink} {a} {b} {was} {is} (Err fault) fine failed none whole front stops cause = record {
+says_put {sink = sink} {a} {b} {was} {is} (Err fault) fine failed none wrote = record {
   stays = λ w. absurd (false≢true (sym fine ∙ w));
   whole = λ going. absurd (false≢true (sym going ∙ failed));
-  front = λ _. subst (AppendsFront (sink.held a) (sink.held b)) (sym (append-nil was.pending)) front;
-  stops = stops;
+  front = λ _. subst (AppendsFront (sink.held a) (sink.held b)) (sym (append-nil was.pending)) wrote.front;
+  stops = wrote.stops;
   quiet = λ going. absurd (false≢true (sym going ∙ failed));
-  cause = λ _. inr cause.failed;
-  later = cause.later;
+  cause = λ _. inr wrote.cause.failed;
+  later = wrote.cause.later;
 }
 
 -- a pen that has failed drops what is pending

@@ -1,9 +1,7 @@
 //! A pen that collects what it is told, hands it on in whole buffers, and falls silent at the first fault.
-ghost use Rattle.std.specs.Prelude.{◌≡◌, ◌-◌, ◌<◌, ◌++◌, [], false, true, min, length, take, OnOk, OnErr, MatchResult};
+ghost use Rattle.std.specs.Prelude.{◌≡◌, ◌-◌, ◌<◌, ◌++◌, [], false, true, min, length, take, MatchResult};
 ghost use Rattle.std.specs.List.{flat_map};
-ghost use Rattle.std.specs.Io.KnownBytes.{Appends};
-ghost use Rattle.outside_io.specs.Causes.{HasCause};
-ghost use Rattle.outside_io.specs.Saying.{AppendsFront, Says, StopsAtFault, emptied};
+ghost use Rattle.outside_io.specs.Saying.{Says, Writes, emptied};
 
 use crate::{Failed, Sink};
 use arrayvec::ArrayVec;
@@ -15,10 +13,7 @@ const ROOM: usize = 8192;
 // Puts the whole text, by as many puts as that takes, and nothing behind a fault.
 #[tactic(auto, using(crate::proofs::PutLemmas::appends_next))]
 fn put_all<K: Sink>(sink: &mut K, text: &[u8]) -> Result<(), Failed>
-    ensures ok { OnOk result (Appends (K.held sink.old) (K.held sink.new) text.now) }
-    ensures err { OnErr result (AppendsFront (K.held sink.old) (K.held sink.new) text.now) }
-    ensures stops { StopsAtFault K.Sink sink.old sink.new }
-    ensures cause { HasCause (K.faults sink.old) (K.faults sink.new) result }
+    ensures { Writes K.Sink sink.old sink.new result text.now }
 {
     let mut at = 0;
     'putting: while at < text.len() {

@@ -12,7 +12,7 @@ returns-clause-says g c =
           let text : w.as_slice.result.now ≡ c.args.self.now.pending = w.as_slice.ensures.value ∙ ap (λ pen. pen.pending) c.self.view_is in
           rw w.sink-is
           (says_put w.put_all.result (was ∙ w.if-not-self.true) (ap (λ inside. inside.failed) w.self-inside-is ∙ w.is_err-self-inside.ensures.value)
-          c.clear.ensures (rw text at w.put_all.ensures.ok) (rw text at w.put_all.ensures.err) w.put_all.ensures.stops w.put_all.ensures.cause)
+          c.clear.ensures (rw text at w.put_all.ensures))
       | else-not-self w ↦ rw w.sink-is
           (says_dropped (was ∙ w.if-not-self.false) (ap (λ inside. inside.failed) w.self-inside-is ∙ w.if-not-self.false))
     ]
