@@ -77,6 +77,7 @@ had_changes old new number Spare has = pool_changes old new number _ has.1
 had_changes old new number got.Missed has = absurd has
 
 pub one_object_changes : OneObjectChanges
+-- takes and gives change their pool
 one_object_changes ledger old new (TakeBio set waits) (HadBio from bio) serves = had_changes old new _ from serves.0
 one_object_changes ledger old new (TakeBio set waits) (Missed used) serves = pool_changes old new _ _ serves.1
 one_object_changes ledger old new TakeVec (HadVec from vector) serves = had_changes old new _ from serves.0
@@ -86,19 +87,24 @@ one_object_changes ledger old new (TakeSlip dev) (Missed used) serves = pool_cha
 one_object_changes ledger old new (GiveBio bio) Did serves = pool_changes old new _ _ serves.1
 one_object_changes ledger old new (GiveVec vector) Did serves = pool_changes old new _ _ serves.1
 one_object_changes ledger old new (GiveSlip slip) Did serves = pool_changes old new _ _ serves.1
+-- punts and pops change the list of one rescuer
 one_object_changes ledger old new (Punt dev moved) Did serves = rescue_changes old new _ _ serves
 one_object_changes ledger old new (Pop dev) (Popped bio) serves = serves.1
 one_object_changes ledger old new (Pop dev) Nothing serves = rescue_changes old new _ (old.rescue dev.0) (serves.1 ∙ ap (λ f. record old { rescue = f }) (sym (upd_own old.rescue dev.0)))
+-- pushes and completions change one disk
 one_object_changes ledger old new (Push bio) Did serves = disk_changes old new _ _ serves
 one_object_changes ledger old new (Complete disk) (Completed index bio status) serves = serves.1
 one_object_changes ledger old new (Complete disk) Nothing serves = disk_changes old new _ (old.disk disk.0) (serves.1 ∙ ap (λ f. record old { disk = f }) (sym (upd_own old.disk disk.0)))
+-- nodes that are opened or told of an end change one book
 one_object_changes ledger old new (Link writer opening) (LinkedTo answer) serves = serves.1
 one_object_changes ledger old new (Drop writer node status part) (DroppedTo ended) serves = serves.1
+-- ends, rounds and looks change the tally alone, and a resize one pool
 one_object_changes ledger old new (Done write status) Did serves = tally_changes old new _ serves
 one_object_changes ledger old new (Resize pool min) (OutIs out) serves = resized_at old new _ _ (out == 0) serves.1
 one_object_changes ledger old new (NextRound round) Did serves = tally_changes old new _ serves.1
 one_object_changes ledger old new LookRound (Present round) serves = tally_changes old new old.tally serves.1
 one_object_changes ledger old new LookLeft (LeftOver count) serves = tally_changes old new old.tally serves.1
+-- no other reply is one to the request
 one_object_changes ledger old new request reply serves = absurd serves
 
 pub others_stay : OthersStay

@@ -185,6 +185,7 @@ module _ (stage : Stage) where
 
   pub objects_stay : (old new : Objects) (request : Request) (reply : Reply) → RequestFits stage request → AreObjectsOf stage old
       → Serves stage.ledger old request reply new → AreObjectsOf stage new
+  -- takes and gives change pools alone
   objects_stay old new (TakeBio set waits) (HadBio from bio) fits all serves = had_is old new _ from all serves.0
   objects_stay old new (TakeBio set waits) (Missed used) fits all serves = moved_is old new _ all serves.1
   objects_stay old new TakeVec (HadVec from vector) fits all serves = had_is old new _ from all serves.0
@@ -194,6 +195,7 @@ module _ (stage : Stage) where
   objects_stay old new (GiveBio bio) Did fits all serves = moved_is old new _ all serves.1
   objects_stay old new (GiveVec vector) Did fits all serves = moved_is old new _ all serves.1
   objects_stay old new (GiveSlip slip) Did fits all serves = moved_is old new _ all serves.1
+  -- punts add bios of the set to its rescuer, and a pop takes one from it
   objects_stay old new (Punt dev moved) Did fits all serves =
       subst (AreObjectsOf stage) (sym serves)
       (list_changes old dev.0 _ (All-append (IsServed stage) (old.rescue dev.0) moved (all.rescue dev.0) fits.1) all)
@@ -201,12 +203,14 @@ module _ (stage : Stage) where
       subst (AreObjectsOf stage) (sym serves.1)
       (list_changes old dev.0 _ (All-rest (IsServed stage) bio (new.rescue dev.0) (old.rescue dev.0) serves.0 (all.rescue dev.0)) all)
   objects_stay old new (Pop dev) Nothing fits all serves = subst (AreObjectsOf stage) (sym serves.1) all
+  -- a push adds a bio of the disk, and a completion takes one from it
   objects_stay old new (Push bio) Did fits all serves =
       subst (AreObjectsOf stage) (sym serves) (disk_changes old _ _ (pushed_is _ bio (old.disk bio.bio.dev.0) (fits.0, refl) (all.disk bio.bio.dev.0)) all)
   objects_stay old new (Complete disk) (Completed index bio status) fits all serves =
       subst (AreObjectsOf stage) (sym serves.1)
       (disk_changes old disk.0 (new.disk disk.0) (completed_is disk.0 index bio status (old.disk disk.0) (new.disk disk.0) (all.disk disk.0) serves.0) all)
   objects_stay old new (Complete disk) Nothing fits all serves = subst (AreObjectsOf stage) (sym serves.1) all
+  -- a node that is opened or told of an end changes one book
   objects_stay old new (Link writer opening) (LinkedTo answer) fits all serves =
       subst (AreObjectsOf stage) (sym serves.1)
       (book_changes old writer (new.book writer)
@@ -216,6 +220,7 @@ module _ (stage : Stage) where
       (book_changes old writer (new.book writer)
       (drops_is stage writer node status part ended (old.book writer) (new.book writer) (all.book writer) fits.1 _
       (node_is stage writer node (old.book writer) (all.book writer)) serves.0).0 all)
+  -- ends and rounds change the tally, looks nothing, and a resize a pool
   objects_stay old new (Done write status) Did fits all serves =
       subst (AreObjectsOf stage) (sym serves) (tally_changes old _ (done_is write status old.tally all.tally) all)
   objects_stay old new (NextRound round) Did fits all serves =
@@ -224,25 +229,30 @@ module _ (stage : Stage) where
   objects_stay old new LookRound (Present round) fits all serves = subst (AreObjectsOf stage) (sym serves.1) all
   objects_stay old new LookLeft (LeftOver count) fits all serves = subst (AreObjectsOf stage) (sym serves.1) all
   objects_stay old new (Resize pool min) (OutIs out) fits all serves = resized_is old new _ (out == 0) all serves.1
+  -- no other reply is one to the request
   objects_stay old new request reply fits all serves = absurd serves
 
   pub objects_owe : (old new : Objects) (request : Request) (reply : Reply) → AreNumbered stage → RequestFits stage request → AreObjectsOf stage old
       → Serves stage.ledger old request reply new → Owes stage request reply
+  -- takes: the element is of the pool that was asked
   objects_owe old new (TakeBio set waits) (HadBio from bio) numbered fits all serves =
       is_taken is_bios _ bio.share numbered (set_is_bios stage set fits) (ap (λ (b : Item Pad). b.share) serves.1)
   objects_owe old new TakeVec (HadVec from vector) numbered fits all serves =
       is_taken is_vecs 64 vector.share numbered refl (ap (λ (v : VectorItem). v.share) serves.1)
   objects_owe old new (TakeSlip dev) (HadSlip from slip) numbered fits all serves =
       is_taken is_slips _ slip.share numbered (mirror_is_slips stage dev fits) (ap (λ (s : SlipItem). s.share) serves.1)
+  -- a bio that is popped or completed waited there
   objects_owe old new (Pop dev) (Popped bio) numbered fits all serves =
       All-head (IsServed stage) bio (new.rescue dev.0) (subst (AreServed stage) serves.0 (all.rescue dev.0))
   objects_owe old new (Complete disk) (Completed index bio status) numbered fits all serves =
       waits_there disk.0 index bio (old.disk disk.0) (all.disk disk.0) serves.0.taken
+  -- what a node hands back or held is served
   objects_owe old new (Link writer opening) (LinkedTo answer) numbered fits all serves =
       (links_is stage writer opening answer (old.book writer) (new.book writer) (all.book writer) fits.1 serves.0).1
   objects_owe old new (Drop writer node status part) (DroppedTo ended) numbered fits all serves =
       (drops_is stage writer node status part ended (old.book writer) (new.book writer) (all.book writer) fits.1 _
       (node_is stage writer node (old.book writer) (all.book writer)) serves.0).1
+  -- nothing comes back
   objects_owe old new (TakeBio set waits) (Missed used) numbered fits all serves = tt
   objects_owe old new TakeVec (Missed used) numbered fits all serves = tt
   objects_owe old new (TakeSlip dev) (Missed used) numbered fits all serves = tt
@@ -258,4 +268,5 @@ module _ (stage : Stage) where
   objects_owe old new (NextRound round) Did numbered fits all serves = tt
   objects_owe old new LookRound (Present round) numbered fits all serves = tt
   objects_owe old new LookLeft (LeftOver count) numbered fits all serves = tt
+  -- no other reply is one to the request
   objects_owe old new request reply numbered fits all serves = absurd serves

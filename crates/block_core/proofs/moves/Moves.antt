@@ -129,17 +129,21 @@ Hands old number new =
     ⊎ ((slip : SlipItem) × (old.slip ≡ Some slip) × (number ≡ slip.share.no) × (new ≡ record old { slip = None }))
 
 pub data Move : Type 0 where
+  -- a writer takes what a write begins with
   TakesFirst : (place writer : ℕ) (todo : Todo) (later : List Todo) (move : PoolMove) → Move
   TakesVector : (place writer : ℕ) (todo : Todo) (later : List Todo) (item : Item Pad) (move : PoolMove) → Move
+  -- a submission takes a bio or a record
   TakesSub : (place : ℕ) (x : TaskState) (doing : Doing) (lists : TaskLists) (dev : DevId) (waits : Bool) (move : PoolMove) → Move
   TakesSlip : (place : ℕ) (x : TaskState) (bio : Item Pad) (lists : TaskLists) (move : PoolMove) → Move
   -- a miss that leaves the task as it is, and one behind which it punts
   MissesOne : (place : ℕ) (x : TaskState) (number : ℕ) (used : Bool) → Move
   MissesTry : (place : ℕ) (x : TaskState) (doing : Doing) (lists : TaskLists) (dev : DevId) (used : Bool) → Move
+  -- bios go to a rescuer and come from it, and go to a disk and come from it
   Punts : (place : ℕ) (x : TaskState) (doing : Doing) (lists : TaskLists) (dev : DevId) → Move
   Pops : (place : ℕ) (dev : DevId) (bio : Item Pad) (bios : List (Item Pad)) → Move
   Pushes : (place : ℕ) (x : TaskState) (bio : Item Pad) (lists : TaskLists) → Move
   Completed : (place : ℕ) (disk : DevId) (index : ℕ) (bio : Item Pad) (status : Status) (new : DiskState) → Move
+  -- nodes are opened: of a write, a front, a master and a leg
   Begins : (place writer : ℕ) (todo : Todo) (later : List Todo) (item : Item Pad) (vector : Option VectorItem) (key : ℕ) → Move
   Chained : (place : ℕ) (x : TaskState) (bio : Item Pad) (lists : TaskLists) (hand : Item Pad)
       (number : ℕ) (kind : Kind) (sizes : List ℕ) (members : ℕ → Tree) (key : ℕ) (node : Node) → Move
@@ -148,29 +152,35 @@ pub data Move : Type 0 where
   -- an end is told to a node: it waits for others, or closes
   Told : (place : ℕ) (disk : DevId) (carried : Carried) (writer key : ℕ) (status : Status) (part : Option (Item Pad)) (node : Node) → Move
   Closes : (place : ℕ) (disk : DevId) (carried : Carried) (writer key : ℕ) (status : Status) (part : Option (Item Pad)) (node : Node) → Move
+  -- what a closed node held goes back, and its write is done
   Gives : (place : ℕ) (disk : DevId) (writer number : ℕ) (closed : Closed) (held : Holding) → Move
   Ends : (place : ℕ) (disk : DevId) (writer : ℕ) (closed : Closed) → Move
+  -- a reserve changes between rounds, and a round starts
   Resized : (place : ℕ) (pool : PoolId) (min later : ℕ) (duties : List Duty) → Move
   Started : (place round later : ℕ) (duties : List Duty) → Move
 
 abbrev pub Can : Scene → State → Move → Type 0
+-- a writer takes what a write begins with
 Can scene s (TakesFirst place writer todo later move) =
     (place < scene.tasks) × (s.task place ≡ Writer writer (todo ∷ later) NoBio rests) × IsTake move × (todo.round ≤ s.objects.tally.round)
     × CanMove (s.objects.pool 65) move
 Can scene s (TakesVector place writer todo later item move) =
     (place < scene.tasks) × (s.task place ≡ Writer writer (todo ∷ later) (HasBio item) rests) × IsTake move × CanMove (s.objects.pool 64) move
     × (needs_vector todo.write ≡ true)
+-- a submission takes a bio or a record
 Can scene s (TakesSub place x doing lists dev waits move) =
     (place < scene.tasks) × (s.task place ≡ x) × HasSubmission x doing lists × Wants doing dev (Takes waits) × IsTake move
     × CanMove (s.objects.pool (2 * dev.0)) move
 Can scene s (TakesSlip place x bio lists move) =
     (place < scene.tasks) × (s.task place ≡ x) × HasSubmission x (Drives bio ToRecord) lists × IsTake move
     × CanMove (s.objects.pool (2 * bio.bio.dev.0 + 1)) move
+-- a take that has nothing
 Can scene s (MissesOne place x number used) =
     (place < scene.tasks) × (s.task place ≡ x) × CanMove (s.objects.pool number) (misses used) × IsTaking (request scene.setup x)
     × (used ≡ true) × IsNumber scene number
 Can scene s (MissesTry place x doing lists dev used) =
     (place < scene.tasks) × (s.task place ≡ x) × HasSubmission x doing lists × Wants doing dev (Takes false) × CanMove (s.objects.pool (2 * dev.0)) (misses used)
+-- bios go to a rescuer and come from it, and go to a disk and come from it
 Can scene s (Punts place x doing lists dev) =
     (place < scene.tasks) × (s.task place ≡ x) × HasSubmission x doing lists × Wants doing dev WantsPunt × (dev.0 < scene.setup.count)
 Can scene s (Pops place dev bio bios) =
@@ -180,6 +190,7 @@ Can scene s (Pushes place x bio lists) =
 Can scene s (Completed place disk index bio status new) =
     (place < scene.tasks) × (s.task place ≡ Completer disk Empty) × (disk.0 < scene.setup.count)
     × Completes (s.objects.disk disk.0) index bio status new
+-- nodes are opened: of a write, a front, a master and a leg
 Can scene s (Begins place writer todo later item vector key) =
     (place < scene.tasks) × (s.task place ≡ Writer writer (todo ∷ later) (gathered_of item vector) rests) × (writer < scene.books)
     × IsVacant (s.objects.book writer) key × IsBare todo vector
@@ -193,17 +204,20 @@ Can scene s (Mastered place x bio lists slip key node) =
 Can scene s (Legged place x bio lists master leg hand key node) =
     (place < scene.tasks) × (s.task place ≡ x) × HasSubmission x (Copies bio master leg (Links hand)) lists × (bio.writer < scene.books)
     × (node_at (s.objects.book bio.writer) master ≡ Some node) × IsVacant (s.objects.book bio.writer) key
+-- a node is told of an end: it waits for others, or closes
 Can scene s (Told place disk carried writer key status part node) =
     (place < scene.tasks) × (s.task place ≡ Completer disk carried) × Tells carried writer key status part × (writer < scene.books)
     × (node_at (s.objects.book writer) key ≡ Some node) × (1 < node.count)
 Can scene s (Closes place disk carried writer key status part node) =
     (place < scene.tasks) × (s.task place ≡ Completer disk carried) × Tells carried writer key status part × (writer < scene.books)
     × (node_at (s.objects.book writer) key ≡ Some node) × (node.count ≡ 1)
+-- what a closed node held goes back, and its write is done
 Can scene s (Gives place disk writer number closed held) =
     (place < scene.tasks) × (s.task place ≡ Completer disk (Carries writer closed)) × Hands closed.held number held
     × (0 < (s.objects.pool number).facts.out)
 Can scene s (Ends place disk writer closed) =
     (place < scene.tasks) × (s.task place ≡ Completer disk (Carries writer closed)) × (closed.held ≡ nothing_held) × (closed.parent ≡ None)
+-- a reserve changes between rounds, and a round starts
 Can scene s (Resized place pool min later duties) =
     (place < scene.tasks) × (s.task place ≡ Keeper (Keeps (Resizes pool min later ∷ duties)))
     × ((s.objects.pool (pool_number pool)).facts.out ≡ 0) × (sum s.objects.tally.left ≡ later)
@@ -218,6 +232,7 @@ abbrev pub with_book : Objects → ℕ → BookState → Objects
 with_book objects writer book = record objects { book = upd objects.book writer book }
 
 abbrev pub after : Scene → State → Move → State
+-- a writer takes what a write begins with
 after scene s (TakesFirst place writer todo later move) = record {
   objects = with_pool s.objects 65 move;
   task = upd s.task place (Writer writer (todo ∷ later) (HasBio (clear_bio (scene.ledger 65))) rests);
@@ -226,6 +241,7 @@ after scene s (TakesVector place writer todo later item move) = record {
   objects = with_pool s.objects 64 move;
   task = upd s.task place (Writer writer (todo ∷ later) (HasBoth item (clear_vector (scene.ledger 64))) rests);
 }
+-- a submission takes a bio or a record
 after scene s (TakesSub place x doing lists dev waits move) = record {
   objects = with_pool s.objects (2 * dev.0) move;
   task = upd s.task place (with_submission x (record { doing = with_want doing (Links (clear_bio (scene.ledger (2 * dev.0)))); lists = lists }));
@@ -234,11 +250,13 @@ after scene s (TakesSlip place x bio lists move) = record {
   objects = with_pool s.objects (2 * bio.bio.dev.0 + 1) move;
   task = upd s.task place (with_submission x (record { doing = Drives bio (ToMaster (clear_slip (scene.ledger (2 * bio.bio.dev.0 + 1)))); lists = lists }));
 }
+-- a take that has nothing
 after scene s (MissesOne place x number used) = record { objects = with_pool s.objects number (misses used); task = upd s.task place x }
 after scene s (MissesTry place x doing lists dev used) = record {
   objects = with_pool s.objects (2 * dev.0) (misses used);
   task = upd s.task place (with_submission x (record { doing = with_want doing WantsPunt; lists = lists }));
 }
+-- bios go to a rescuer and come from it, and go to a disk and come from it
 after scene s (Punts place x doing lists dev) = record {
   objects = record s.objects { rescue = upd s.objects.rescue dev.0 (s.objects.rescue dev.0 ++ punted (Of dev) lists) };
   task = upd s.task place (with_submission x (record { doing = with_want doing (Takes true); lists = unpunted (Of dev) lists }));
@@ -255,6 +273,7 @@ after scene s (Completed place disk index bio status new) = record {
   objects = record s.objects { disk = upd s.objects.disk disk.0 new };
   task = upd s.task place (Completer disk (Brings bio status));
 }
+-- nodes are opened: of a write, a front, a master and a leg
 after scene s (Begins place writer todo later item vector key) = record {
   objects = with_book s.objects writer (with_node (s.objects.book writer) key (Some (top_node todo.number (vector_of todo vector))));
   task = upd s.task place (Writer writer later NoBio (settled scene.setup (filled_of writer todo item vector key ∷ [])));
@@ -278,6 +297,7 @@ after scene s (Legged place x bio lists master leg hand key node) = record {
   objects = with_book s.objects bio.writer (with_node (s.objects.book bio.writer) key (Some (leg_node node.write master)));
   task = upd s.task place (with_submission x (copies scene.setup (submitted (leg_at bio hand leg key (tree_at scene.setup bio.dev)) lists) bio master (leg + 1)));
 }
+-- a node is told of an end: it waits for others, or closes
 after scene s (Told place disk carried writer key status part node) = record {
   objects = with_book s.objects writer (with_node (s.objects.book writer) key (Some (lowered (told node status part))));
   task = upd s.task place (Completer disk Empty);
@@ -286,6 +306,7 @@ after scene s (Closes place disk carried writer key status part node) = record {
   objects = with_book s.objects writer (with_node (s.objects.book writer) key None);
   task = upd s.task place (Completer disk (Carries writer (closed_of (told node status part))));
 }
+-- what a closed node held goes back, and its write is done
 after scene s (Gives place disk writer number closed held) = record {
   objects = with_pool s.objects number gives;
   task = upd s.task place (Completer disk (Carries writer (record closed { held = held })));
@@ -294,6 +315,7 @@ after scene s (Ends place disk writer closed) = record {
   objects = record s.objects { tally = done_one closed.write closed.status s.objects.tally };
   task = upd s.task place (Completer disk Empty);
 }
+-- a reserve changes between rounds, and a round starts
 after scene s (Resized place pool min later duties) = record {
   objects = with_pool s.objects (pool_number pool) (resizes min);
   task = upd s.task place (Keeper (Keeps duties));
@@ -305,12 +327,15 @@ after scene s (Started place round later duties) = record {
 
 -- what an event takes away from a sum over all places, and what it adds
 abbrev pub lost : Scene → Weight → State → Move → ℕ
+-- a writer takes what a write begins with
 lost scene w s (TakesFirst place writer todo later move) = w.todo writer (todo ∷ later) NoBio
 lost scene w s (TakesVector place writer todo later item move) = w.todo writer (todo ∷ later) (HasBio item)
+-- bios go to a rescuer and come from it, and go to a disk and come from it
 lost scene w s (Punts place x doing lists dev) = sum_by (w.bio (Lined (limit_of x))) (punted (Of dev) lists)
 lost scene w s (Pops place dev bio bios) = w.bio Rescued bio
 lost scene w s (Pushes place x bio lists) = submission_weight w (limit_of x) (record { doing = Drives bio ToPush; lists = lists })
 lost scene w s (Completed place disk index bio status new) = w.bio Pending bio
+-- nodes are opened: of a write, a front, a master and a leg
 lost scene w s (Begins place writer todo later item vector key) = task_weight w place (Writer writer (todo ∷ later) (gathered_of item vector) rests)
 lost scene w s (Chained place x bio lists hand number kind sizes members key node) =
     submission_weight w (limit_of x) (record { doing = Drives bio (ToCut (Links hand)); lists = lists }) + w.node bio.bio.writer bio.bio.node node
@@ -318,23 +343,30 @@ lost scene w s (Mastered place x bio lists slip key node) =
     submission_weight w (limit_of x) (record { doing = Drives bio (ToMaster slip); lists = lists }) + w.node bio.bio.writer bio.bio.node node
 lost scene w s (Legged place x bio lists master leg hand key node) =
     submission_weight w (limit_of x) (record { doing = Copies bio master leg (Links hand); lists = lists })
+-- a node is told of an end: it waits for others, or closes
 lost scene w s (Told place disk carried writer key status part node) = carried_weight w place carried + w.node writer key node
 lost scene w s (Closes place disk carried writer key status part node) = carried_weight w place carried + w.node writer key node
+-- what a closed node held goes back, and its write is done
 lost scene w s (Gives place disk writer number closed held) = w.closed place writer closed
 lost scene w s (Ends place disk writer closed) = w.closed place writer closed
+-- nothing else touches what is counted
 lost scene w s m = 0
 
 abbrev pub gained : Scene → Weight → State → Move → ℕ
+-- a writer takes what a write begins with
 gained scene w s (TakesFirst place writer todo later move) =
     w.todo writer (todo ∷ later) (HasBio (clear_bio (scene.ledger 65))) + w.hand (clear_bio (scene.ledger 65))
 gained scene w s (TakesVector place writer todo later item move) =
     w.todo writer (todo ∷ later) (HasBoth item (clear_vector (scene.ledger 64))) + w.vector (clear_vector (scene.ledger 64))
+-- a submission takes a bio or a record
 gained scene w s (TakesSub place x doing lists dev waits move) = w.hand (clear_bio (scene.ledger (2 * dev.0)))
 gained scene w s (TakesSlip place x bio lists move) = w.slip (clear_slip (scene.ledger (2 * bio.bio.dev.0 + 1)))
+-- bios go to a rescuer and come from it, and go to a disk and come from it
 gained scene w s (Punts place x doing lists dev) = sum_by (w.bio Rescued) (punted (Of dev) lists)
 gained scene w s (Pops place dev bio bios) = submission_weight w dev.0 (settled scene.setup (bio ∷ []))
 gained scene w s (Pushes place x bio lists) = submission_weight w (limit_of x) (goes_on scene.setup bio.bio.dev lists) + w.bio Pending bio
 gained scene w s (Completed place disk index bio status new) = w.bio Brought bio
+-- nodes are opened: of a write, a front, a master and a leg
 gained scene w s (Begins place writer todo later item vector key) =
     submission_weight w 32 (settled scene.setup (filled_of writer todo item vector key ∷ [])) + w.todo writer later NoBio
     + w.node writer key (top_node todo.number (vector_of todo vector))
@@ -348,39 +380,53 @@ gained scene w s (Mastered place x bio lists slip key node) =
 gained scene w s (Legged place x bio lists master leg hand key node) =
     submission_weight w (limit_of x) (copies scene.setup (submitted (leg_at bio hand leg key (tree_at scene.setup bio.dev)) lists) bio master (leg + 1))
     + w.node bio.writer key (leg_node node.write master)
+-- a node is told of an end: it waits for others, or closes
 gained scene w s (Told place disk carried writer key status part node) = w.node writer key (lowered (told node status part))
 gained scene w s (Closes place disk carried writer key status part node) = w.closed place writer (closed_of (told node status part))
+-- what a closed node held goes back, and its write is done
 gained scene w s (Gives place disk writer number closed held) = w.closed place writer (record closed { held = held })
+-- nothing else touches what is counted
 gained scene w s m = 0
 
 -- the place of the task whose event it is
 abbrev pub place_of : Move → ℕ
+-- a writer takes what a write begins with
 place_of (TakesFirst place writer todo later move) = place
 place_of (TakesVector place writer todo later item move) = place
+-- a submission takes a bio or a record
 place_of (TakesSub place x doing lists dev waits move) = place
 place_of (TakesSlip place x bio lists move) = place
+-- a take that has nothing
 place_of (MissesOne place x number used) = place
 place_of (MissesTry place x doing lists dev used) = place
+-- bios go to a rescuer and come from it, and go to a disk and come from it
 place_of (Punts place x doing lists dev) = place
 place_of (Pops place dev bio bios) = place
 place_of (Pushes place x bio lists) = place
 place_of (Completed place disk index bio status new) = place
+-- nodes are opened: of a write, a front, a master and a leg
 place_of (Begins place writer todo later item vector key) = place
 place_of (Chained place x bio lists hand number kind sizes members key node) = place
 place_of (Mastered place x bio lists slip key node) = place
 place_of (Legged place x bio lists master leg hand key node) = place
+-- a node is told of an end: it waits for others, or closes
 place_of (Told place disk carried writer key status part node) = place
 place_of (Closes place disk carried writer key status part node) = place
+-- what a closed node held goes back, and its write is done
 place_of (Gives place disk writer number closed held) = place
 place_of (Ends place disk writer closed) = place
+-- a reserve changes between rounds, and a round starts
 place_of (Resized place pool min later duties) = place
 place_of (Started place round later duties) = place
 
 -- what it does to a node
 abbrev pub touch_by : Move → Touch
+-- a node is opened
 touch_by (Begins place writer todo later item vector key) = Opens writer key
 touch_by (Chained place x bio lists hand number kind sizes members key node) = Opens bio.bio.writer key
 touch_by (Mastered place x bio lists slip key node) = Opens bio.bio.writer key
 touch_by (Legged place x bio lists master leg hand key node) = Opens bio.writer key
+-- a node closes
 touch_by (Closes place disk carried writer key status part node) = Shuts writer key
+-- no node
 touch_by move = Passes

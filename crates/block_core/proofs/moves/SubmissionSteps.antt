@@ -40,6 +40,7 @@ use Rattle.block_core.proofs.moves.StepsTold.{IsMove, touch_in, take_passes, pai
 wants_in : (setup : Setup) (doing : Doing) (dev : DevId) (want : Want) → Wants doing dev want → DoingIsIn setup doing → dev.0 < setup.count
 wants_in setup (Drives bio (ToCut has)) dev want h isin = subst (λ (d : DevId). d.0 < setup.count) (sym h.0) isin
 wants_in setup (Copies bio master leg has) dev want h isin = subst (λ (d : DevId). d.0 < setup.count) (sym h.0) isin
+-- nothing else wants anything of a set
 wants_in setup (Drives bio ToPush) dev want h isin = absurd h
 wants_in setup (Drives bio ToRecord) dev want h isin = absurd h
 wants_in setup (Drives bio (ToMaster slip)) dev want h isin = absurd h
@@ -68,6 +69,7 @@ same_submission (Keeper keeping) doing lists h = absurd h
 asks_sub_in : (setup : Setup) (doing : Doing) (lists : TaskLists) (dev : DevId) (waits : Bool) → Wants doing dev (Takes waits) → IsTaking (submission_request setup doing lists)
 asks_sub_in setup (Drives bio (ToCut has)) lists dev waits h = subst (λ w. IsTaking (submission_request setup (Drives bio (ToCut w)) lists)) (sym h.1) tt
 asks_sub_in setup (Copies bio master leg has) lists dev waits h = subst (λ w. IsTaking (submission_request setup (Copies bio master leg w) lists)) (sym h.1) tt
+-- nothing else wants anything of a set
 asks_sub_in setup (Drives bio ToPush) lists dev waits h = absurd h
 asks_sub_in setup (Drives bio ToRecord) lists dev waits h = absurd h
 asks_sub_in setup (Drives bio (ToMaster slip)) lists dev waits h = absurd h
@@ -124,6 +126,7 @@ module _ (scene : Scene) (s : State) (f : Fair scene) (i : Kept scene s) (place 
       → Serves scene.ledger s.objects (requests.TakeBio (Of dev) waits) reply new.objects
       → ((from : Got) (hand : Item Pad) → reply ≡ requests.HadBio from hand → Goes (with_submission x (record { doing = with_want doing (Links hand); lists = lists })))
       → ((used : Bool) → reply ≡ requests.Missed used → Goes (with_submission x (record { doing = with_want doing (after_miss waits); lists = lists }))) → IsMove scene s place what new
+  -- it has a bio, an ordinary one or a spare
   takes_sub x doing lists dev waits is h wants own (requests.HadBio got.Ordinary hand) told serves had missed =
       let goes2 = had got.Ordinary hand refl ∙ ap (λ item. upd s.task place (with_submission x (record { doing = with_want doing (Links item); lists = lists }))) serves.1 in
       record { move = moves.TakesSub place x doing lists dev waits takes_ordinary; can = (here, is, h, wants, tt, serves.0.0); is = state_is new _ _ serves.0.1 goes2; at = refl; touches = sym (ap touch_in told) ∙ take_passes waits (Bios dev) got.Ordinary; pays = λ was_master. sym (ap (paid_in (its_end was_master)) told) ∙ take_ordinary (its_end was_master) waits (Bios dev) }
@@ -131,6 +134,7 @@ module _ (scene : Scene) (s : State) (f : Fair scene) (i : Kept scene s) (place 
       let goes2 = had got.Spare hand refl ∙ ap (λ item. upd s.task place (with_submission x (record { doing = with_want doing (Links item); lists = lists }))) serves.1 in
       record { move = moves.TakesSub place x doing lists dev waits takes_spare; can = (here, is, h, wants, tt, serves.0.0); is = state_is new _ _ serves.0.1 goes2; at = refl; touches = sym (ap touch_in told) ∙ take_passes waits (Bios dev) got.Spare; pays = λ was_master. sym (ap (paid_in (its_end was_master)) told) ∙ take_spare (its_end was_master) waits (Bios dev) }
   takes_sub x doing lists dev waits is h wants own (requests.HadBio got.Missed hand) told serves had missed = absurd serves.0
+  -- it misses: a take that waits stays, and behind a try the task punts
   takes_sub x doing lists dev true is h wants own (requests.Missed used) told serves had missed =
       let stays = ap (λ d. with_submission x (record { doing = d; lists = lists })) own ∙ same_submission x doing lists h in
       record {
@@ -152,6 +156,7 @@ module _ (scene : Scene) (s : State) (f : Fair scene) (i : Kept scene s) (place 
       record { move = moves.MissesTry place x doing lists dev used; can = (here, is, h, wants, serves.0); is = state_is new _ _ serves.1 (missed used refl); at = refl; touches = sym (ap touch_in told) ∙ miss_passes false used (Bios dev); pays = λ was_master. sym (ap (paid_in (its_end was_master)) told) }
   takes_sub x doing lists dev waits is h wants own _ told serves had missed = absurd serves
 
+  -- the bios of a set go from the lists to its rescuer
   punts : (x : TaskState) (doing : Doing) (lists : TaskLists) (dev : DevId) → s.task place ≡ x → HasSubmission x doing lists → Wants doing dev WantsPunt → dev.0 < scene.setup.count → (reply : Reply)
       → what_of (requests.Punt dev (punted (Of dev) lists)) reply ≡ Some what → Serves scene.ledger s.objects (requests.Punt dev (punted (Of dev) lists)) reply new.objects
       → (reply ≡ requests.Did → Goes (with_submission x (record { doing = with_want doing (Takes true); lists = unpunted (Of dev) lists }))) → IsMove scene s place what new
@@ -159,6 +164,7 @@ module _ (scene : Scene) (s : State) (f : Fair scene) (i : Kept scene s) (place 
       record { move = moves.Punts place x doing lists dev; can = (here, is, h, wants, there); is = state_is new _ _ serves (goes refl); at = refl; touches = sym (ap touch_in told); pays = λ was_master. sym (ap (paid_in (its_end was_master)) told) }
   punts x doing lists dev is h wants there _ told serves goes = absurd serves
 
+  -- a bio goes to its disk
   pushes : (x : TaskState) (bio : Item Pad) (lists : TaskLists) → s.task place ≡ x → HasSubmission x (Drives bio ToPush) lists → (reply : Reply)
       → what_of (requests.Push bio) reply ≡ Some what → Serves scene.ledger s.objects (requests.Push bio) reply new.objects
       → Goes (with_submission x (submission_answered scene.setup (Drives bio ToPush) lists reply)) → IsMove scene s place what new
@@ -166,9 +172,11 @@ module _ (scene : Scene) (s : State) (f : Fair scene) (i : Kept scene s) (place 
       record { move = moves.Pushes place x bio lists; can = (here, is, h, there x (Drives bio ToPush) lists is h); is = state_is new _ _ serves goes; at = refl; touches = sym (ap touch_in told); pays = λ was_master. sym (ap (paid_in (its_end was_master)) told) }
   pushes x bio lists is h _ told serves goes = absurd serves
 
+  -- a mirror takes a record
   takes_slip : (x : TaskState) (bio : Item Pad) (lists : TaskLists) → s.task place ≡ x → HasSubmission x (Drives bio ToRecord) lists → (reply : Reply)
       → Serves scene.ledger s.objects (requests.TakeSlip bio.bio.dev) reply new.objects
       → Goes (with_submission x (submission_answered scene.setup (Drives bio ToRecord) lists reply)) → what_of (requests.TakeSlip bio.bio.dev) reply ≡ Some what → IsMove scene s place what new
+  -- it has a record, an ordinary one or a spare
   takes_slip x bio lists is h (requests.HadSlip got.Ordinary slip) serves goes told =
       let goes2 = goes ∙ ap (λ r. upd s.task place (with_submission x (record { doing = Drives bio (ToMaster r); lists = lists }))) serves.1 in
       record { move = moves.TakesSlip place x bio lists takes_ordinary; can = (here, is, h, tt, serves.0.0); is = state_is new _ _ serves.0.1 goes2; at = refl; touches = sym (ap touch_in told); pays = λ was_master. sym (ap (paid_in (its_end was_master)) told) }
@@ -176,6 +184,7 @@ module _ (scene : Scene) (s : State) (f : Fair scene) (i : Kept scene s) (place 
       let goes2 = goes ∙ ap (λ r. upd s.task place (with_submission x (record { doing = Drives bio (ToMaster r); lists = lists }))) serves.1 in
       record { move = moves.TakesSlip place x bio lists takes_spare; can = (here, is, h, tt, serves.0.0); is = state_is new _ _ serves.0.1 goes2; at = refl; touches = sym (ap touch_in told); pays = λ was_master. sym (ap (paid_in (its_end was_master)) told) }
   takes_slip x bio lists is h (requests.HadSlip got.Missed slip) serves goes told = absurd serves.0
+  -- it misses, and stays
   takes_slip x bio lists is h (requests.Missed used) serves goes told =
       record {
         move = moves.MissesOne place x (2 * bio.bio.dev.0 + 1) used;
@@ -194,6 +203,7 @@ module _ (scene : Scene) (s : State) (f : Fair scene) (i : Kept scene s) (place 
       }
   takes_slip x bio lists is h _ serves goes told = absurd serves
 
+  -- the front of a bio that is cut gets a node
   chains : (x : TaskState) (bio : Item Pad) (lists : TaskLists) (hand : Item Pad) → s.task place ≡ x → HasSubmission x (Drives bio (ToCut (Links hand))) lists → TaskFits scene x → (reply : Reply)
       → what_of (requests.Link bio.bio.writer (requests.Chain bio.bio.node)) reply ≡ Some what
       → Serves scene.ledger s.objects (requests.Link bio.bio.writer (requests.Chain bio.bio.node)) reply new.objects
@@ -218,10 +228,12 @@ module _ (scene : Scene) (s : State) (f : Fair scene) (i : Kept scene s) (place 
             touches = sym (ap touch_in told);
             pays = λ was_master. sym (ap (paid_in (its_end was_master)) told);
           }
+  -- a refused node is no event
   chains x bio lists hand is h fits (requests.LinkedTo (NoRoom back)) told serves goes = absurd (nothing_told what told)
   chains x bio lists hand is h fits (requests.LinkedTo (Stray back)) told serves goes = absurd (nothing_told what told)
   chains x bio lists hand is h fits _ told serves goes = absurd serves
 
+  -- a bio that a mirror copies gets its master
   masters : (x : TaskState) (bio : Item Pad) (lists : TaskLists) (slip : SlipItem) → s.task place ≡ x → HasSubmission x (Drives bio (ToMaster slip)) lists → (reply : Reply)
       → what_of (submission_request scene.setup (Drives bio (ToMaster slip)) lists) reply ≡ Some what
       → Serves scene.ledger s.objects (submission_request scene.setup (Drives bio (ToMaster slip)) lists) reply new.objects
@@ -241,10 +253,12 @@ module _ (scene : Scene) (s : State) (f : Fair scene) (i : Kept scene s) (place 
             touches = sym (ap touch_in told);
             pays = λ was_master. sym (ap (paid_in (its_end was_master)) told);
           }
+  -- a refused node is no event
   masters x bio lists slip is h (requests.LinkedTo (NoRoom back)) told serves goes = absurd (nothing_told what told)
   masters x bio lists slip is h (requests.LinkedTo (Stray back)) told serves goes = absurd (nothing_told what told)
   masters x bio lists slip is h _ told serves goes = absurd serves
 
+  -- a leg gets its node
   legs : (x : TaskState) (bio : Bio) (master leg : ℕ) (lists : TaskLists) (hand : Item Pad) → s.task place ≡ x → HasSubmission x (Copies bio master leg (Links hand)) lists → (reply : Reply)
       → what_of (requests.Link bio.writer (requests.Leg master)) reply ≡ Some what
       → Serves scene.ledger s.objects (requests.Link bio.writer (requests.Leg master)) reply new.objects
@@ -264,6 +278,7 @@ module _ (scene : Scene) (s : State) (f : Fair scene) (i : Kept scene s) (place 
             touches = sym (ap touch_in told);
             pays = λ was_master. sym (ap (paid_in (its_end was_master)) told);
           }
+  -- a refused node is no event
   legs x bio master leg lists hand is h (requests.LinkedTo (NoRoom back)) told serves goes = absurd (nothing_told what told)
   legs x bio master leg lists hand is h (requests.LinkedTo (Stray back)) told serves goes = absurd (nothing_told what told)
   legs x bio master leg lists hand is h _ told serves goes = absurd serves
@@ -275,9 +290,12 @@ module _ (scene : Scene) (s : State) (f : Fair scene) (i : Kept scene s) (place 
       → Goes (with_submission x (submission_answered scene.setup doing lists reply)) → IsMove scene s place what new
 
   pub submits : (x : TaskState) (doing : Doing) (lists : TaskLists) → s.task place ≡ x → HasSubmission x doing lists → TaskFits scene x → (reply : Reply) → Submits x doing lists reply
+  -- it is over, or broke off: nothing is asked
   submits x Rests lists is h fits reply told serves goes = absurd serves
   submits x (Breaks breach kept) lists is h fits reply told serves goes = absurd serves
+  -- a bio is at its disk
   submits x (Drives bio ToPush) lists is h fits reply told serves goes = pushes x bio lists is h reply told serves goes
+  -- a bio is cut: an element for its front, a punt, and a node for the front
   submits x (Drives bio (ToCut (Takes waits))) lists is h fits reply told serves goes =
       takes_sub x (Drives bio (ToCut (Takes waits))) lists bio.bio.dev waits is h (refl, refl) refl reply told serves (had_submission reply goes) (missed_submission reply goes)
     where
@@ -292,8 +310,10 @@ module _ (scene : Scene) (s : State) (f : Fair scene) (i : Kept scene s) (place 
       punts x (Drives bio (ToCut WantsPunt)) lists bio.bio.dev is h (refl, refl) (there x (Drives bio (ToCut WantsPunt)) lists is h) reply told serves
       (λ same. goes ∙ ap (λ r. upd s.task place (with_submission x (submission_answered scene.setup (Drives bio (ToCut WantsPunt)) lists r))) same)
   submits x (Drives bio (ToCut (Links hand))) lists is h fits reply told serves goes = chains x bio lists hand is h fits reply told serves goes
+  -- a mirror begins with a bio: its record, and its master
   submits x (Drives bio ToRecord) lists is h fits reply told serves goes = takes_slip x bio lists is h reply serves goes told
   submits x (Drives bio (ToMaster slip)) lists is h fits reply told serves goes = masters x bio lists slip is h reply told serves goes
+  -- a mirror makes its legs: an element, a punt, and a node
   submits x (Copies bio master leg (Takes waits)) lists is h fits reply told serves goes =
       takes_sub x (Copies bio master leg (Takes waits)) lists bio.dev waits is h (refl, refl) refl reply told serves (had_submission reply goes) (missed_submission reply goes)
     where

@@ -125,21 +125,26 @@ module _ (scene : Scene) (old new : State) (place : ℕ) (event : Event) (steps 
 
       by_what : (told : What) → event.what ≡ told
           → (length new.objects.tally.statuses ≡ length old.objects.tally.statuses) × (get_or new.objects.tally.statuses write d ≡ get_or old.objects.tally.statuses write d)
+      -- a write is done: its own status is set, and no other
       by_what (what.Done number status) is =
           let set = done_is number status is in
           let apart : write ≢ number = λ e. let here : done_in write event.what ≡ one number write = ap (done_in write) is in
           let one_here : one number write ≡ 1 = subst (λ k. one number k ≡ 1) (sym e) (one-same number) in absurd (omega (arith, here, one_here, none)) in
           (ap (λ (xs : List Status). length xs) set ∙ length-set old.objects.tally.statuses number status, ap (λ xs. get_or xs write d) set ∙ get_or-set_other old.objects.tally.statuses number write status d apart)
+      -- a round starts: no status changes
       by_what (what.Round round) is = same (ap (λ (t : TallyState). t.statuses) (round_is round is))
+      -- takes, gives and bios that wait for a rescuer leave the tally
       by_what (what.Take pool got) is = other (what.Take pool got) is tt
       by_what (what.Try pool got) is = other (what.Try pool got) is tt
       by_what (what.Give pool) is = other (what.Give pool) is tt
       by_what (what.Punt dev moved) is = other (what.Punt dev moved) is tt
       by_what (what.Pop dev) is = other (what.Pop dev) is tt
+      -- so do disks and nodes
       by_what (what.Push disk at len leg) is = other (what.Push disk at len leg) is tt
       by_what (what.Complete disk index status) is = other (what.Complete disk index status) is tt
       by_what (what.Link writer how node) is = other (what.Link writer how node) is tt
       by_what (what.Drop writer node status end) is = other (what.Drop writer node status end) is tt
+      -- and a reserve that changes
       by_what (what.Resize pool min) is = other (what.Resize pool min) is tt
 
 -- a run that does not tell a write done keeps its status,
@@ -156,7 +161,9 @@ statuses_long scene old new place event steps = by_what event.what refl
     keeps write none = (keeps_status scene old new place event steps write Ok none).0
 
     by_what : (told : What) → event.what ≡ told → length new.objects.tally.statuses ≡ length old.objects.tally.statuses
+    -- a write is done: there are as many statuses as before
     by_what (what.Done number status) is = ap (λ (xs : List Status). length xs) (done_is scene old new place event steps number status is) ∙ length-set old.objects.tally.statuses number status
+    -- no event is the end of two writes, so any other keeps the status of one
     by_what told is = elim (same_or_not (done_in 0 event.what) 0) [
       | inl none ↦ keeps 0 none
       | inr some ↦ elim (same_or_not (done_in 1 event.what) 0) [
@@ -248,13 +255,16 @@ module _ (s : Scenario) (ledger : ℕ → LedgerId) (events : List Event) (state
       (start_tallied s good ledger) run
 
   ends_present : (m : Move) → Can sc state m → (w : ℕ) → done_by w m ≡ 1 → round_of s.rounds w ≡ state.objects.tally.round
+  -- the end of a write is one of the present round
   ends_present (moves.Ends place disk writer closed) c w done =
       let same : closed.write ≡ w = one-eq closed.write w (omega (arith, done)) in
       ap (round_of s.rounds) (sym same) ∙ (of_present s.rounds (keeper_place s good ledger) sc state tallied place disk writer closed c).0
+  -- no other event ends a write
   ends_present _ c w done = absurd (omega (arith, done))
 
   starts_next : (m : Move) → Can sc state m → (round : ℕ) (reply : Reply) → (after sc state m).objects.tally.round ≡ state.objects.tally.round + 1
       → what_of (request (setup_in s) (state.task (place_of m))) reply ≡ Some (what.Round round) → round ≡ state.objects.tally.round + 1
+  -- a round that starts is the next one
   starts_next (moves.Started place number later duties) c round reply more told =
       let here : what_of (requests.NextRound number) reply ≡ Some (what.Round round) = subst (λ x. what_of (request (setup_in s) x) reply ≡ Some (what.Round round)) c.1 told in
       let fits : KeepingFits s.rounds (keeper_place s good ledger) state.objects.tally.round place (Keeps (Starts number later ∷ duties)) =
@@ -264,6 +274,7 @@ module _ (s : Scenario) (ledger : ℕ → LedgerId) (events : List Event) (state
       by_reply : (reply : Reply) → what_of (requests.NextRound number) reply ≡ Some (what.Round round) → round ≡ number
       by_reply requests.Did told = cc
       by_reply _ told = absurd cc
+  -- no other event changes the round
   starts_next _ c round reply more told = absurd (omega (arith, more))
 
   dones_present : (event : Event) (new : State) → Happens sc state event new → (write : ℕ) (status : Status) → event.what ≡ what.Done write status → round_of s.rounds write ≡ state.objects.tally.round

@@ -107,6 +107,7 @@ home_met out facts pool min told false test is same = nothing_told is
 -- what is answered so has its need met
 met : (old : CoreObjects) (request : Request) (told : What) (reply : Reply) (new : Objects) → what_of request reply ≡ Some told
     → Serves ledger_of (objects_of_core old) request reply new → IsTrue (is_free told) → NeedIsMet old (need_of request)
+-- takes: only a spare is free, and a miss of a take that does not wait
 met old (TakeBio set waits) told (HadBio got.Ordinary bio) new is serves free = absurd (ordinary_told waits (bios_of set) told is free)
 met old (TakeBio set waits) told (HadBio got.Spare bio) new is serves free = inl serves.0.0
 met old (TakeBio set waits) told (HadBio got.Missed bio) new is serves free = absurd serves.0
@@ -122,32 +123,38 @@ met old (TakeSlip dev) told (HadSlip got.Spare slip) new is serves free = inl se
 met old (TakeSlip dev) told (HadSlip got.Missed slip) new is serves free = absurd serves.0
 met old (TakeSlip dev) told (Missed used) new is serves free = never_true (missed_free true used (Records dev) told is free)
 met old (TakeSlip dev) told _ new is serves free = absurd serves
+-- gives: the element is out
 met old (GiveBio bio) told Did new is serves free = serves.0
 met old (GiveBio bio) told _ new is serves free = absurd serves
 met old (GiveVec vector) told Did new is serves free = serves.0
 met old (GiveVec vector) told _ new is serves free = absurd serves
 met old (GiveSlip slip) told Did new is serves free = serves.0
 met old (GiveSlip slip) told _ new is serves free = absurd serves
+-- bios for a rescuer, and one of those that wait
 met old (Punt dev moved) told reply new is serves free = tt
 met old (Pop dev) told (Popped bio) new is serves free = let long = ap length serves.0 in omega (arith, long)
 met old (Pop dev) told Nothing new is serves free = nothing_told is
 met old (Pop dev) told _ new is serves free = absurd serves
+-- a bio for a disk, and a completion of one of those that wait
 met old (Push bio) told reply new is serves free = tt
 met old (Complete disk) told (Completed index bio ending) new is serves free =
     let lt = slice_get_within (core_disk_at old disk.0).pending index bio serves.0.taken in
     omega (arith, lt)
 met old (Complete disk) told Nothing new is serves free = nothing_told is
 met old (Complete disk) told _ new is serves free = absurd serves
+-- nodes: a vacant place, or an open node
 met old (Link writer opening) told (LinkedTo answer) new is serves free = link_met old writer opening answer (new.book writer) told is serves.0
 met old (Link writer opening) told _ new is serves free = absurd serves
 met old (Drop writer node ending part) told (DroppedTo ended) new is serves free =
     end_met old writer node ending part (node_at (core_book_at old writer) node) ended (new.book writer) told refl is serves.0
 met old (Drop writer node ending part) told _ new is serves free = absurd serves
+-- the tally, a reserve with nothing out, and the next round
 met old (Done write ending) told reply new is serves free = tt
 met old (Resize pool min) told (OutIs out) new is serves free = home_met out _ pool min told (out == 0) refl is serves.0
 met old (Resize pool min) told _ new is serves free = absurd serves
 met old (NextRound round) told Did new is serves free = serves.0
 met old (NextRound round) told _ new is serves free = absurd serves
+-- looks and rests tell nothing
 met old LookRound told reply new is serves free = nothing_told is
 met old LookLeft told reply new is serves free = nothing_told is
 met old Rest told reply new is serves free = nothing_told is
@@ -207,8 +214,10 @@ linked old writer place opening after is =
     }
 
 link_free : (old : CoreObjects) (writer : ℕ) (opening : Opening) → NeedIsMet old (link_need writer opening) → CanFree old (Link writer opening)
+-- a write needs a vacant place
 link_free old writer (Write write vector) m =
     linked old writer m.0 (Write write vector) (with_node (core_book_at old writer) m.0 (Some (top_node write vector))) (m.1, refl)
+-- a front, a master and a leg need an open node besides
 link_free old writer (Chain parent) m =
     let after = with_node (with_node (core_book_at old writer) m.0 (Some (child_node m.1.write parent))) parent (Some (raised m.1)) in
     linked old writer m.0 (Chain parent) after (subst (λ node. ChainsAt (core_book_at old writer) parent node (Made m.0) after) (sym m.3) (m.4, m.2, refl))
@@ -263,6 +272,7 @@ drop_free old writer place ending part n is lt =
         (subst (λ node. DropsAt (core_book_at old writer) place node ending part (drop.Up closed) after) (sym is) (last, subst IsSome (sym some) refl, refl, refl))
 
 free : (old : CoreObjects) (request : Request) → NeedIsMet old (need_of request) → CanFree old request
+-- takes have a spare, or miss where they do not wait
 free old (TakeBio set waits) (inl can) = record {
   what = take_of waits (bios_of set) got.Spare;
   reply = HadBio got.Spare (clear_bio (ledger_of (pool_number (bios_of set))));
@@ -298,6 +308,7 @@ free old (TakeSlip dev) (inl can) = record {
   free = refl;
 }
 free old (TakeSlip dev) (inr miss) = never_true miss.0
+-- an element that is out is given back
 free old (GiveBio bio) lt = record {
   what = what.Give (pool_of bio.share.no);
   reply = Did;
@@ -322,15 +333,20 @@ free old (GiveSlip slip) lt = record {
   serves = (lt, refl);
   free = refl;
 }
+-- bios go to a rescuer, and the first that waits comes from it
 free old (Punt dev moved) m = record { what = what.Punt dev (min (length moved) (2 ^ 64 - 1)); reply = Did; new = _; told = refl; serves = refl; free = refl }
 free old (Pop dev) lt = popped old dev (core_rescue_at old dev.0) refl lt
+-- a bio goes to a disk, and the first that waits is completed
 free old (Push bio) m = record { what = what.Push bio.bio.dev bio.bio.range.start bio.bio.range.len bio.pad.leg; reply = Did; new = _; told = refl; serves = refl; free = refl }
 free old (Complete disk) lt = completed old disk (core_disk_at old disk.0).pending refl lt
+-- a node is opened, or told of an end
 free old (Link writer opening) m = link_free old writer opening m
 free old (Drop writer node ending part) m = drop_free old writer node ending part m.0 m.1 m.2
+-- a write is done, a reserve changes, a round starts
 free old (Done write ending) m = record { what = what.Done write ending; reply = Did; new = _; told = refl; serves = refl; free = refl }
 free old (Resize pool reserve) is = record { what = what.Resize pool reserve; reply = OutIs 0; new = _; told = refl; serves = (sym is, refl); free = refl }
 free old (NextRound round) lt = record { what = what.Round round; reply = Did; new = _; told = refl; serves = (lt, refl); free = refl }
+-- looks and rests have no event
 free old LookRound never = absurd never
 free old LookLeft never = absurd never
 free old Rest never = absurd never

@@ -202,6 +202,7 @@ led_call : (setup : Setup) (done : List Call) (call : Call) (calls : List Call) 
     → (b : Bool) → is_event call.asked call.told.reply ≡ b → is_glance call.asked call.told.reply ≡ false → call.asked ≡ struck (request setup task)
     → Looked done task call (look_of task) → LogLeads setup (done ++ call ∷ []) (answered setup task call.told.reply) calls now
     → LedBehind setup done task (call ∷ calls) now
+-- an event: it leads the task on
 led_call setup done call calls task now some again true is glance asks l more =
     let r = again (answered setup task call.told.reply) more in
     let event = event_first call calls is in
@@ -212,6 +213,7 @@ led_call setup done call calls task now some again true is glance asks l more =
           (looks_first setup done calls call task l (moved setup done calls call (answered setup task call.told.reply) (events_in calls) r.looks));
       stops = one_more setup done calls call r.through now (event_goes call.asked call.told.reply is) r.stops;
     }
+-- a stop: the task breaks off, and what follows are glances
 led_call setup done call calls task now some again false is glance asks l more =
     let stop = stop_kind (is_event call.asked call.told.reply) (is_stop call.asked call.told.reply) glance is in
     let stop_task : is_stop (request setup task) call.told.reply ≡ true =

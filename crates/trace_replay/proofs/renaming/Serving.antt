@@ -83,7 +83,9 @@ completed_to to old new index bio status is = record {
 
 -- a new node stands at a place that was vacant, and a node that is told an end is open
 pub vacant_of : (book : BookState) (opening : Opening) (key : ℕ) (new : BookState) → Opened book opening (Made key) new → IsVacant book key
+-- a write
 vacant_of book (Write write vector) key new is = is.0
+-- a front, a master and a leg, under an open node
 vacant_of book (Chain parent) key new is = by (node_at book parent) is
   where
     by : (at : Option Node) → ChainsAt book parent at (Made key) new → IsVacant book key
@@ -178,6 +180,7 @@ module _ (ledger : ℕ → LedgerId) (naming : (number : ℕ) → (ledger number
         stays.1,
       )
 
+  -- a bio leaves the list of its rescuer
   pops : (dev : DevId) (bio : Item Pad) (event : What) → Serves ledger one (Pop dev) (Popped bio) now → Passes event → dev.0 < count → Served (Pop dev) (Popped bio) event
   pops dev bio event serves stays within =
       let rest = map (item_to to) (now.rescue dev.0) in
@@ -194,6 +197,7 @@ module _ (ledger : ℕ → LedgerId) (naming : (number : ℕ) → (ledger number
         stays.1,
       )
 
+  -- bios join the list of their rescuer
   punts : (dev : DevId) (moved : List (Item Pad)) (event : What) → Serves ledger one (Punt dev moved) Did now → Passes event → Served (Punt dev moved) Did event
   punts dev moved event serves stays =
       let bios = other.rescue dev.0 ++ map (item_to to) moved in
@@ -208,6 +212,7 @@ module _ (ledger : ℕ → LedgerId) (naming : (number : ℕ) → (ledger number
         stays.1,
       )
 
+  -- a bio joins the list of its disk
   pushes : (bio : Item Pad) (event : What) → Serves ledger one (Push bio) Did now → Passes event → Served (Push bio) Did event
   pushes bio event serves stays =
       let dev = bio.bio.dev.0 in
@@ -223,6 +228,7 @@ module _ (ledger : ℕ → LedgerId) (naming : (number : ℕ) → (ledger number
         stays.1,
       )
 
+  -- a completion: the bio leaves the list of its disk
   completes : (disk : DevId) (index : ℕ) (bio : Item Pad) (status : Status) (event : What) → Serves ledger one (Complete disk) (Completed index bio status) now → Passes event
       → disk.0 < count → Served (Complete disk) (Completed index bio status) event
   completes disk index bio status event serves stays within =
@@ -241,6 +247,7 @@ module _ (ledger : ℕ → LedgerId) (naming : (number : ℕ) → (ledger number
         stays.1,
       )
 
+  -- a node is opened, at the next place
   links : (writer : ℕ) (opening : Opening) (key : ℕ) → Serves ledger one (Link writer opening) (LinkedTo (Made key)) now → IsNext to names one (what.Link writer (how_of opening) key)
       → Served (Link writer opening) (LinkedTo (Made key)) (what.Link writer (how_of opening) key)
   links writer opening key serves next =
@@ -294,12 +301,14 @@ module _ (ledger : ℕ → LedgerId) (naming : (number : ℕ) → (ledger number
 
   drops : (writer key : ℕ) (status : Status) (part : Option (Item Pad)) (ended : Ended) (event : What) → Serves ledger one (Drop writer key status part) (DroppedTo ended) now
       → what_of (Drop writer key status part) (DroppedTo ended) ≡ Some event → Served (Drop writer key status part) (DroppedTo ended) event
+  -- the node waits for others, and keeps its name
   drops writer key status part end.Left event serves told =
       dropped writer key status part end.Left event (names.place writer) serves.1
       (left_to to writer (names.place writer) (names.opened writer) (one.book writer) (other.book writer) (alike.books writer) key (node_at (one.book writer) key) refl status part (now.book writer) serves.0)
       (ap (λ o. names_after names (unwrap_or o event)) (sym told) ∙ ap (λ f. record names { place = f }) (sym (upd_own names.place writer)))
       (let open_node = left_open (one.book writer) key (node_at (one.book writer) key) refl status part (now.book writer) serves.0 in
       named_open writer key status told_end.Left event open_node.0 open_node.1 told)
+  -- the node closes, and its name goes
   drops writer key status part (end.Up closed) event serves told =
       dropped writer key status part (end.Up closed) event (upd (names.place writer) key None) serves.1
       (up_to to writer (names.place writer) (names.opened writer) (one.book writer) (other.book writer) (alike.books writer) key (node_at (one.book writer) key) refl status part closed (now.book writer) serves.0)
@@ -312,6 +321,7 @@ module _ (ledger : ℕ → LedgerId) (naming : (number : ℕ) → (ledger number
       (ap (λ o. names_after names (unwrap_or o event)) (sym told))
       (let open_node = top_open (one.book writer) key (node_at (one.book writer) key) refl status part closed (now.book writer) serves.0 in
       named_open writer key status told_end.Top event open_node.0 open_node.1 told)
+  -- no event
   drops writer key status part (end.Stray back) event serves told = absurd cc
 
   plain : (asked : Request) (reply : Reply) (event : What) → ((like : Objects) × Serves ledger other asked reply like × ObjectsAlike count to (names_after names event) now like × IsPlaced to names event)
@@ -320,6 +330,7 @@ module _ (ledger : ℕ → LedgerId) (naming : (number : ℕ) → (ledger number
 
   pub serves_to : (asked : Request) (reply : Reply) (event : What) → Serves ledger one asked reply now → what_of asked reply ≡ Some event → IsWithin count asked → IsNext to names one event
       → Served asked reply event
+  -- takes and gives: a pool does the same in both
   serves_to (TakeBio set waits) (HadBio got bio) event serves told within next =
       plain (TakeBio set waits) (HadBio got bio) event (by_pool (TakeBio set waits) (HadBio got bio) _ event refl serves (passes _ event (takes waits _ got) told)) (λ o s. (s.0, clear_bio_to _ bio s.1))
   serves_to (TakeBio set waits) (Missed used) event serves told within next =
@@ -335,22 +346,28 @@ module _ (ledger : ℕ → LedgerId) (naming : (number : ℕ) → (ledger number
   serves_to (GiveBio bio) Did event serves told within next = plain (GiveBio bio) Did event (by_pool (GiveBio bio) Did _ event refl serves (passes _ event (refl, refl) told)) (λ o s. s)
   serves_to (GiveVec vector) Did event serves told within next = plain (GiveVec vector) Did event (by_pool (GiveVec vector) Did _ event refl serves (passes _ event (refl, refl) told)) (λ o s. s)
   serves_to (GiveSlip slip) Did event serves told within next = plain (GiveSlip slip) Did event (by_pool (GiveSlip slip) Did _ event refl serves (passes _ event (refl, refl) told)) (λ o s. s)
+  -- lists of rescuers, where a pop of nothing is no event
   serves_to (Punt dev moved) Did event serves told within next = punts dev moved event serves (passes _ event (refl, refl) told)
   serves_to (Pop dev) (Popped bio) event serves told within next = pops dev bio event serves (passes _ event (refl, refl) told) within
   serves_to (Pop dev) Nothing event serves told within next = absurd cc
+  -- disks, where a completion of nothing is no event
   serves_to (Push bio) Did event serves told within next = pushes bio event serves (passes _ event (refl, refl) told)
   serves_to (Complete disk) (Completed index bio status) event serves told within next = completes disk index bio status event serves (passes _ event (refl, refl) told) within
   serves_to (Complete disk) Nothing event serves told within next = absurd cc
+  -- nodes: one that is refused is no event
   serves_to (Link writer opening) (LinkedTo (Made key)) event serves told within next =
       let is : what.Link writer (how_of opening) key ≡ event = ap (λ o. unwrap_or o event) told in
       subst (λ e. Served (Link writer opening) (LinkedTo (Made key)) e) is (links writer opening key serves (subst (IsNext to names one) (sym is) next))
   serves_to (Link writer opening) (LinkedTo (NoRoom back)) event serves told within next = absurd cc
   serves_to (Link writer opening) (LinkedTo (Stray back)) event serves told within next = absurd cc
   serves_to (Drop writer node status part) (DroppedTo ended) event serves told within next = drops writer node status part ended event serves told
+  -- the tally and reserves
   serves_to (Done write status) Did event serves told within next = plain (Done write status) Did event (by_tally (Done write status) Did event refl serves (passes _ event (refl, refl) told)) (λ o s. s)
   serves_to (Resize pool min) (OutIs out) event serves told within next =
       plain (Resize pool min) (OutIs out) event (by_pool (Resize pool min) (OutIs out) _ event refl serves (resized (out == 0) pool min event told)) (λ o s. s)
   serves_to (NextRound round) Did event serves told within next = plain (NextRound round) Did event (by_tally (NextRound round) Did event refl serves (passes _ event (refl, refl) told)) (λ o s. s)
+  -- looks are no event
   serves_to LookRound (Present round) event serves told within next = absurd cc
   serves_to LookLeft (LeftOver count) event serves told within next = absurd cc
+  -- no other reply is one to the request
   serves_to asked reply event serves told within next = absurd serves
