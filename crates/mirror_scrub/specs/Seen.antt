@@ -1,5 +1,5 @@
 -- What devices show, and where the members of a mirror show other words than its first member.
-use Rattle.std.specs.Prelude.{◌≡◌, ◌==◌, ◌-◌, ◌<◌, not, true, ℕ, Bool, List, [], map, length, find, slice_index_or, IsSomeAnd, Option}
+use Rattle.std.specs.Prelude.{◌≡◌, ◌==◌, ◌+◌, ◌-◌, ◌<◌, not, true, ℕ, Bool, List, [], map, length, find, slice_index_or, IsSomeAnd, MatchOption, Option}
 use Rattle.std.specs.List.{range_with_len, count_by}
 use Rattle.std.specs.Option.{option_map_or}
 use Rattle.stack_base.specs.Mapping.{slot}
@@ -10,7 +10,7 @@ use Rattle.stack_base.specs.declared.stack.Stack.{Stack}
 use Rattle.image_lanes.specs.Lanes.{is_same}
 use Rattle.layout_model.specs.Shown.{keeps_data}
 use Rattle.model_disks.specs.Disks.{DiskState}
-use Rattle.model_disks.specs.Runs.{runs_from, IsNextRun}
+use Rattle.model_disks.specs.Runs.{IsApart, IsNextRun, runs_from}
 
 -- the words of each sector of disks, by the number of the disk
 abbrev pub Images : Type 0
@@ -71,6 +71,10 @@ stretches_from images mirror k from = runs_from (unlikes images mirror k) from
 -- none, where no stretch starts at `from` or behind it, or else the first, with the others behind it
 abbrev pub IsNextStretch : Images → Tree → ℕ → ℕ → Option Range → Type 0
 IsNextStretch images mirror k from next = IsNextRun (unlikes images mirror k) from next
+
+-- no such stretch is under way where the next one, if there is one, has ended
+abbrev pub EndsApart : Images → Tree → ℕ → Option Range → Type 0
+EndsApart images mirror k next = MatchOption next (Unit {0}) (λ run. IsApart (unlikes images mirror k) (run.start + run.len))
 
 -- for each disk of a stack there is one of these with its number, as large as it is there
 abbrev pub AreDisksOf : Stack → List DiskState → Type 0

@@ -1,9 +1,9 @@
 //! Where the members of mirrors differ from the first.
-ghost use Rattle.std.specs.Prelude.{◌≡◌, ◌==◌, ◌+◌, ◌<◌, ◌≤◌, length, MatchOption};
+ghost use Rattle.std.specs.Prelude.{◌≡◌, ◌==◌, ◌<◌, ◌≤◌, length, MatchOption};
 ghost use Rattle.stack_base.specs.Stack.{IsStack};
 ghost use Rattle.stack_base.specs.Tree.{size as size_of, tree};
 ghost use Rattle.model_disks.specs.Runs.{EndsWithin, IsApart};
-ghost use Rattle.mirror_scrub.specs.Seen.{AreDisksOf, IsNextStretch, held, mirror_member, legs, unlike_count, unlikes};
+ghost use Rattle.mirror_scrub.specs.Seen.{AreDisksOf, EndsApart, IsNextStretch, held, mirror_member, legs, unlike_count, unlikes};
 ghost use Rattle.mirror_scrub.specs.Stretches.{IsPair, flags_in};
 ghost use Rattle.mirror_scrub.specs.Text.{all_alike, mirror_alike};
 
@@ -83,8 +83,7 @@ pub fn next_unlike(
     requires apart { IsApart (unlikes (held disks.now) (tree stack.now mirror.0) leg) from }
     ensures stretches { IsNextStretch (held disks.now) (tree stack.now mirror.0) leg from result }
     ensures place { MatchOption result (Unit {0}) (EndsWithin from (size_of (tree stack.now mirror.0))) }
-    ensures apart { MatchOption result (Unit {0})
-        (λ run. IsApart (unlikes (held disks.now) (tree stack.now mirror.0) leg) (run.start + run.len)) }
+    ensures apart { EndsApart (held disks.now) (tree stack.now mirror.0) leg result }
 {
     let pair = pair(stack, disks, mirror, leg);
     if from >= pair.size {
