@@ -1,5 +1,5 @@
 -- The pools of a stack by falling number, told device by device.
-use Rattle.std.proofs.Common.{◌+◌, ◌-◌, ◌≡◌, ◌<◌, ◌≤◌, ◌==◌, ◌||◌, ℕ, suc, Bool, true, false, List, [], ◌∷◌, ◌++◌, length, map, take, drop, get_or, Option, refl, sym, ap, ◌∙◌, subst, arith}
+use Rattle.std.proofs.Common.{◌+◌, ◌-◌, ◌≡◌, ◌<◌, ◌≤◌, ◌==◌, ◌||◌, ℕ, suc, Bool, true, false, List, [], ◌∷◌, ◌++◌, length, map, take, drop, get_or, refl, sym, ap, ◌∙◌, subst, arith}
 use Rattle.std.proofs.lemmas.List.{append_assoc, append-nil, take-append-drop, take-map, drop-map, map-append, length-map, length-append, get_or-map, drop_all}
 use Rattle.std.proofs.Math.Seq.{take-append_seam, drop-append_seam, drop-cons}
 use Rattle.std.proofs.lemmas.List.Concat.{flat_map-append}
@@ -15,6 +15,7 @@ use Rattle.stack_base.specs.declared.stack.Kind.{Kind}
 use Rattle.stack_base.specs.declared.stack.Kind.TheVariants.{Disk, Linear, Stripe, Zoned, Limit, Mirror}
 use Rattle.stack_base.specs.declared.stack.Device.{Device}
 use Rattle.stack_base.specs.declared.stack.Stack.{Stack}
+use Rattle.outside_io.specs.declared.sink.Sink.{Ghosts as SinkGhosts}
 use Rattle.outside_io.specs.Saying.{PenState, Says, joined_text}
 use Rattle.outside_io.proofs.SaysLemmas.{says_then, says_silence}
 use Rattle.mempool_core.specs.declared.Facts.{Facts}
@@ -238,29 +239,29 @@ pub each_of : {X Y : Type 0} (P : Y → Type 0) (f : X → Y) (xs : List X) (i :
 each_of P f xs i d all lt = subst P (get_or-map f xs i d (f d) lt) (all i (f d) (omega (arith, lt, length-map xs f)))
 
 -- the lines of a device's pools, and then those of the devices behind it
-pub pools_on : {K : Type 0} {held : K → Option (List ℕ)} {faults : K → ℕ} {a b c : K} {was mid is : PenState} (stack : Stack) (devices shown : List Device) (number : ℕ) (device : Device) (rest own front : Entries)
+pub pools_on : {K : Type 0} {sink : SinkGhosts K} {a b c : K} {was mid is : PenState} (stack : Stack) (devices shown : List Device) (number : ℕ) (device : Device) (rest own front : Entries)
     → shown ≡ devices → number < length shown → device ≡ get_or shown number device
     → ids rest ≡ falling_from number (drop number devices)
     → own ≡ drop (length rest - length (pools_at 0 device.kind)) rest → front ≡ take (length rest - length (pools_at 0 device.kind)) rest
-    → Says held faults a was b mid (flat_map (facts_line stack) own)
-    → Says held faults b mid c is (flat_map (facts_line stack) (own_of_each (drop (number + 1) devices) front))
-    → Says held faults a was c is (flat_map (facts_line stack) (own_of_each (drop number devices) rest))
+    → Says sink a was b mid (flat_map (facts_line stack) own)
+    → Says sink b mid c is (flat_map (facts_line stack) (own_of_each (drop (number + 1) devices) front))
+    → Says sink a was c is (flat_map (facts_line stack) (own_of_each (drop number devices) rest))
 unfolding own_of_each
-pools_on {held = held} {faults} {a} {b} {c} {was} {mid} {is} stack devices shown number device rest own front same inside found are own_is front_is here others =
+pools_on {sink = sink} {a} {b} {c} {was} {mid} {is} stack devices shown number device rest own front same inside found are own_is front_is here others =
     let cut = first_behind devices shown number device same inside found in
     let n = length rest - length (pools_at 0 device.kind) in
     let more = drop (number + 1) devices in
-    let first = subst (λ xs. Says held faults a was b mid (flat_map (facts_line stack) xs)) own_is here in
-    let second = subst (λ xs. Says held faults b mid c is (flat_map (facts_line stack) (own_of_each more xs))) front_is others in
-    subst (λ ds. Says held faults a was c is (flat_map (facts_line stack) (own_of_each ds rest))) (sym cut)
-    (subst (Says held faults a was c is) (sym (flat_map-append (facts_line stack) (drop n rest) (own_of_each more (take n rest)))) (says_then first second))
+    let first = subst (λ xs. Says sink a was b mid (flat_map (facts_line stack) xs)) own_is here in
+    let second = subst (λ xs. Says sink b mid c is (flat_map (facts_line stack) (own_of_each more xs))) front_is others in
+    subst (λ ds. Says sink a was c is (flat_map (facts_line stack) (own_of_each ds rest))) (sym cut)
+    (subst (Says sink a was c is) (sym (flat_map-append (facts_line stack) (drop n rest) (own_of_each more (take n rest)))) (says_then first second))
 
 -- behind the last device there is no pool
-pub pools_end : {K : Type 0} (held : K → Option (List ℕ)) (faults : K → ℕ) (a : K) (was : PenState) (stack : Stack) (devices : List Device) (number : ℕ) (rest : Entries)
-    → length devices ≤ number → Says held faults a was a was (flat_map (facts_line stack) (own_of_each (drop number devices) rest))
+pub pools_end : {K : Type 0} (sink : SinkGhosts K) (a : K) (was : PenState) (stack : Stack) (devices : List Device) (number : ℕ) (rest : Entries)
+    → length devices ≤ number → Says sink a was a was (flat_map (facts_line stack) (own_of_each (drop number devices) rest))
 unfolding own_of_each
-pools_end held faults a was stack devices number rest past =
-    subst (λ ds. Says held faults a was a was (flat_map (facts_line stack) (own_of_each ds rest))) (sym (drop_all number devices past)) (says_silence held faults a was)
+pools_end sink a was stack devices number rest past =
+    subst (λ ds. Says sink a was a was (flat_map (facts_line stack) (own_of_each ds rest))) (sym (drop_all number devices past)) (says_silence sink a was)
 
 -- where the writers' pools stand first and then those of the devices by falling number, the lines of all
 module _ (stack : Stack) (pools : Entries) (are : ids pools ≡ falling_pools stack) where

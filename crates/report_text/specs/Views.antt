@@ -1,5 +1,6 @@
 -- What a report tells of a run that has ended, and of the objects that the machine of runs has then.
 use Rattle.std.specs.Prelude.{◌≡◌, ◌-◌, ◌<◌, ◌++◌, List, [], ◌∷◌, ℕ, length, map, take, drop, All}
+use Rattle.std.specs.List.{flat_map}
 use Rattle.stack_base.specs.declared.ids.DevId.{DevId}
 use Rattle.stack_base.specs.declared.ids.PoolId.{PoolId}
 use Rattle.stack_base.specs.declared.stack.Device.{Device}
@@ -9,8 +10,10 @@ use Rattle.mempool_core.specs.declared.Facts.{Facts}
 use Rattle.model_disks.specs.Disks.{DiskState}
 use Rattle.task_core.specs.declared.ended.Ended.{Ended}
 use Rattle.run_machine.specs.Objects.{Objects}
+use Rattle.layout_model.specs.declared.totals.Bounds.{Bounds}
+use Rattle.report_text.specs.CheckText.{steps_bound}
 use Rattle.report_text.specs.Pools.{HasDeviceOfPool, disks_of, falling_pools, pool_name, pools_at}
-use Rattle.report_text.specs.Report.{Reported, pool_line}
+use Rattle.report_text.specs.Report.{Reported, image_lines, pool_line, sum_line}
 
 -- a disk with what it holds
 abbrev pub image_of : DiskState → DevId × List (List ℕ)
@@ -25,6 +28,17 @@ told_of ended bound = record {
   steps = ended.steps;
   bound = bound;
 }
+
+-- the same, with the bound on the steps of what its writes need
+abbrev pub told_beside : Ended → Bounds → Reported
+told_beside ended bound = told_of ended (steps_bound bound)
+
+-- the lines of what these disks hold, and those of their sums
+abbrev pub lines_of_images : Stack → List DiskState → List ℕ
+lines_of_images stack disks = flat_map (λ (disk : DiskState). image_lines stack (image_of disk)) disks
+
+abbrev pub lines_of_sums : Stack → List DiskState → List ℕ
+lines_of_sums stack disks = flat_map (λ (disk : DiskState). sum_line stack (image_of disk)) disks
 
 -- the disks are those of the stack in the order of its devices, and the pools are the stack's by falling number
 pub record IsEndedOfStack (stack : Stack) (ended : Ended) : Type 0 where
@@ -59,3 +73,7 @@ own_of_each [] pools = []
 own_of_each (device ∷ more) pools =
     let front = length pools - length (pools_at 0 device.kind) in
     drop front pools ++ own_of_each more (take front pools)
+
+-- the lines of those pools
+abbrev pub lines_of_devices : Stack → List (PoolId × Facts) → List ℕ
+lines_of_devices stack pools = flat_map (facts_line stack) (own_of_each stack.devices.items pools)

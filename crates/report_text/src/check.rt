@@ -24,8 +24,7 @@ fn kind_name(kind: &Kind) -> &[u8]
 
 // `device NAME KIND SIZE`
 fn device_line<K: Sink>(pen: &mut Pen, out: &mut K, device: &Device, sectors: u64)
-    ensures { Says K.held K.faults out.old pen.old out.new pen.new
-        (device_line device.now sectors) }
+    ensures { Says K.Sink out.old pen.old out.new pen.new (device_line device.now sectors) }
 {
     let name = device.name.as_str().as_bytes();
     let mut digits = Buffer::new();
@@ -47,8 +46,7 @@ fn device_line<K: Sink>(pen: &mut Pen, out: &mut K, device: &Device, sectors: u6
 // A line for each device, by its number.
 fn device_lines<K: Sink>(pen: &mut Pen, out: &mut K, stack: &Stack)
     requires { IsStack stack.now }
-    ensures { Says K.held K.faults out.old pen.old out.new pen.new
-        (device_lines stack.now 0 stack.now.devices.items) }
+    ensures { Says K.Sink out.old pen.old out.new pen.new (device_lines stack.now 0 stack.now.devices.items) }
 {
     'devices: for (number, device) in stack.devices.iter().enumerate() {
         let sectors = stack.size(DevId(number as u32));
@@ -59,8 +57,7 @@ fn device_lines<K: Sink>(pen: &mut Pen, out: &mut K, stack: &Stack)
 // `need e E g G z Z bound B`
 fn need_line<K: Sink>(pen: &mut Pen, out: &mut K, bound: &Bounds)
     requires { steps_bound bound.now < 2 ^ 64 }
-    ensures { Says K.held K.faults out.old pen.old out.new pen.new
-        (need_line bound.now) }
+    ensures { Says K.Sink out.old pen.old out.new pen.new (need_line bound.now) }
 {
     let mut e_digits = Buffer::new();
     let e = e_digits.format(bound.e).as_bytes();
@@ -86,8 +83,7 @@ fn need_line<K: Sink>(pen: &mut Pen, out: &mut K, bound: &Bounds)
 pub fn write_check<K: Sink>(stack: &Stack, bound: &Bounds, out: &mut K) -> Result<(), Failed>
     requires stack { IsStack stack.now }
     requires bound { steps_bound bound.now < 2 ^ 64 }
-    ensures { Writes K.held K.faults out.old out.new result
-        (check_text stack.now bound.now) }
+    ensures { Writes K.Sink out.old out.new result (check_text stack.now bound.now) }
 {
     let mut pen = Pen::new();
     device_lines(&mut pen, out, stack);

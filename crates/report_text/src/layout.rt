@@ -12,8 +12,7 @@ use stack_base::Stack;
 // `fragment W OFFSET LEN DISK AT`
 fn fragment_line<K: Sink>(pen: &mut Pen, out: &mut K, stack: &Stack, fragment: &Fragment)
     requires { fragment.now.disk.0 < length stack.now.devices.items }
-    ensures { Says K.held K.faults out.old pen.old out.new pen.new
-        (fragment_line stack.now fragment.now) }
+    ensures { Says K.Sink out.old pen.old out.new pen.new (fragment_line stack.now fragment.now) }
 {
     let mut write_digits = Buffer::new();
     let write = write_digits.format(fragment.write).as_bytes();
@@ -45,8 +44,7 @@ fn fragment_line<K: Sink>(pen: &mut Pen, out: &mut K, stack: &Stack, fragment: &
 // A line for each fragment, in their order.
 fn fragment_lines<K: Sink>(pen: &mut Pen, out: &mut K, fragments: &[Fragment], stack: &Stack)
     requires { AreOnDevices stack.now fragments.now }
-    ensures { Says K.held K.faults out.old pen.old out.new pen.new
-        (layout_text stack.now fragments.now) }
+    ensures { Says K.Sink out.old pen.old out.new pen.new (layout_text stack.now fragments.now) }
 {
     'fragments: for fragment in fragments {
         fragment_line(pen, out, stack, fragment);
@@ -64,8 +62,7 @@ pub fn write_layout<K: Sink>(
     out: &mut K,
 ) -> Result<(), Failed>
     requires { AreOnDevices stack.now fragments.now }
-    ensures { Writes K.held K.faults out.old out.new result
-        (layout_text stack.now fragments.now) }
+    ensures { Writes K.Sink out.old out.new result (layout_text stack.now fragments.now) }
 {
     let mut pen = Pen::new();
     fragment_lines(&mut pen, out, fragments, stack);

@@ -4,7 +4,7 @@ ghost use Rattle.std.specs.List.{flat_map};
 ghost use Rattle.outside_io.specs.Saying.{Says};
 ghost use Rattle.report_text.specs.Pools.{HasDeviceOfPool, falling_from, falling_pools, pool_name, pools_at};
 ghost use Rattle.report_text.specs.Report.{pool_line, pool_lines};
-ghost use Rattle.report_text.specs.Views.{AreOfStack, facts_line, own_of_each};
+ghost use Rattle.report_text.specs.Views.{AreOfStack, facts_line, lines_of_devices};
 
 use crate::names::pool_parts;
 use itoa::Buffer;
@@ -26,8 +26,7 @@ fn pool_count(kind: &Kind) -> usize
 // `pool POOL reserve MIN ordinary A spare B`, the name of the pool in two parts: whose it is, and what it holds.
 #[tactic(auto, using(crate::proofs::PoolLemmas::named))]
 fn named_line<K: Sink>(pen: &mut Pen, out: &mut K, owner: &[u8], element: &[u8], facts: &Facts)
-    ensures { Says K.held K.faults out.old pen.old out.new pen.new
-        (pool_line (owner.now ++ element.now) facts.now) }
+    ensures { Says K.Sink out.old pen.old out.new pen.new (pool_line (owner.now ++ element.now) facts.now) }
 {
     let mut min_digits = Buffer::new();
     let min = min_digits.format(facts.min).as_bytes();
@@ -55,8 +54,7 @@ fn named_line<K: Sink>(pen: &mut Pen, out: &mut K, owner: &[u8], element: &[u8],
 // The line of a pool.
 fn pool_line<K: Sink>(pen: &mut Pen, out: &mut K, stack: &Stack, pool: PoolId, facts: &Facts)
     requires { HasDeviceOfPool stack.now pool }
-    ensures { Says K.held K.faults out.old pen.old out.new pen.new
-        (pool_line (pool_name stack.now pool) facts.now) }
+    ensures { Says K.Sink out.old pen.old out.new pen.new (pool_line (pool_name stack.now pool) facts.now) }
 {
     let (owner, element) = pool_parts(stack, pool);
     named_line(pen, out, owner, element, facts);
@@ -65,8 +63,7 @@ fn pool_line<K: Sink>(pen: &mut Pen, out: &mut K, stack: &Stack, pool: PoolId, f
 // A line for each of these pools, in their order.
 fn lines_of<K: Sink>(pen: &mut Pen, out: &mut K, stack: &Stack, pools: &[(PoolId, Facts)])
     requires { AreOfStack stack.now pools.now }
-    ensures { Says K.held K.faults out.old pen.old out.new pen.new
-        (flat_map (facts_line stack.now) pools.now) }
+    ensures { Says K.Sink out.old pen.old out.new pen.new (flat_map (facts_line stack.now) pools.now) }
 {
     'pools: for (pool, facts) in pools {
         pool_line(pen, out, stack, *pool, facts);
@@ -76,8 +73,7 @@ fn lines_of<K: Sink>(pen: &mut Pen, out: &mut K, stack: &Stack, pools: &[(PoolId
 // The lines of the devices' pools: those of the first device stand last.
 fn device_pools<K: Sink>(pen: &mut Pen, out: &mut K, stack: &Stack, pools: &[(PoolId, Facts)])
     requires { map (λ p. p.0) pools.now ≡ falling_from 0 stack.now.devices.items }
-    ensures { Says K.held K.faults out.old pen.old out.new pen.new
-        (flat_map (facts_line stack.now) (own_of_each stack.now.devices.items pools.now)) }
+    ensures { Says K.Sink out.old pen.old out.new pen.new (lines_of_devices stack.now pools.now) }
 {
     let mut rest = pools;
     'devices: for device in stack.devices.iter() {
@@ -95,8 +91,7 @@ pub(crate) fn pool_lines<K: Sink>(
     pools: &[(PoolId, Facts)],
 )
     requires { map (λ p. p.0) pools.now ≡ falling_pools stack.now }
-    ensures { Says K.held K.faults out.old pen.old out.new pen.new
-        (pool_lines stack.now pools.now) }
+    ensures { Says K.Sink out.old pen.old out.new pen.new (pool_lines stack.now pools.now) }
 {
     let (writers, of_devices) = pools.split_at(2);
     lines_of(pen, out, stack, writers);

@@ -3,7 +3,7 @@ ghost use Rattle.std.specs.Prelude.{◌^◌, ◌<◌};
 ghost use Rattle.outside_io.specs.Saying.{Says, Writes};
 ghost use Rattle.report_text.specs.CheckText.{steps_bound};
 ghost use Rattle.report_text.specs.Report.{report, steps_line, write_line, write_lines};
-ghost use Rattle.report_text.specs.Views.{IsEndedOfStack, told_of};
+ghost use Rattle.report_text.specs.Views.{IsEndedOfStack, told_beside};
 
 use crate::images::image_lines;
 use crate::pools::pool_lines;
@@ -16,8 +16,7 @@ use task_core::Ended;
 
 // `write W STATUS`
 fn write_line<K: Sink>(pen: &mut Pen, out: &mut K, number: u64, status: Status)
-    ensures { Says K.held K.faults out.old pen.old out.new pen.new
-        (write_line number status) }
+    ensures { Says K.Sink out.old pen.old out.new pen.new (write_line number status) }
 {
     let mut digits = Buffer::new();
     let number = digits.format(number).as_bytes();
@@ -26,8 +25,7 @@ fn write_line<K: Sink>(pen: &mut Pen, out: &mut K, number: u64, status: Status)
 
 // A line for each write, in the order of the text.
 fn write_lines<K: Sink>(pen: &mut Pen, out: &mut K, statuses: &[Status])
-    ensures { Says K.held K.faults out.old pen.old out.new pen.new
-        (write_lines 0 statuses.now) }
+    ensures { Says K.Sink out.old pen.old out.new pen.new (write_lines 0 statuses.now) }
 {
     'writes: for (number, status) in statuses.iter().enumerate() {
         write_line(pen, out, number as u64, *status);
@@ -36,8 +34,7 @@ fn write_lines<K: Sink>(pen: &mut Pen, out: &mut K, statuses: &[Status])
 
 /// `steps S of B`
 pub(crate) fn steps_line<K: Sink>(pen: &mut Pen, out: &mut K, steps: u64, bound: u64)
-    ensures { Says K.held K.faults out.old pen.old out.new pen.new
-        (steps_line steps bound) }
+    ensures { Says K.Sink out.old pen.old out.new pen.new (steps_line steps bound) }
 {
     let mut steps_digits = Buffer::new();
     let steps = steps_digits.format(steps).as_bytes();
@@ -53,8 +50,7 @@ pub(crate) fn steps_line<K: Sink>(pen: &mut Pen, out: &mut K, steps: u64, bound:
 /// `Failed` only where the sink's count of faults rose. The sink took a front of the line then.
 pub fn write_steps<K: Sink>(steps: u64, bound: &Bounds, out: &mut K) -> Result<(), Failed>
     requires bound { steps_bound bound.now < 2 ^ 64 }
-    ensures { Writes K.held K.faults out.old out.new result
-        (steps_line steps (steps_bound bound.now)) }
+    ensures { Writes K.Sink out.old out.new result (steps_line steps (steps_bound bound.now)) }
 {
     let mut pen = Pen::new();
     steps_line(&mut pen, out, steps, bound.total());
@@ -75,8 +71,7 @@ pub fn write_report<K: Sink>(
 ) -> Result<(), Failed>
     requires ended { IsEndedOfStack stack.now ended.now }
     requires bound { steps_bound bound.now < 2 ^ 64 }
-    ensures { Writes K.held K.faults out.old out.new result
-        (report stack.now (told_of ended.now (steps_bound bound.now))) }
+    ensures { Writes K.Sink out.old out.new result (report stack.now (told_beside ended.now bound.now)) }
 {
     let mut pen = Pen::new();
     write_lines(&mut pen, out, &ended.statuses);

@@ -3,7 +3,7 @@ ghost use Rattle.std.specs.Prelude.{◌^◌, ◌<◌};
 ghost use Rattle.outside_io.specs.Saying.{Says, Writes};
 ghost use Rattle.report_text.specs.CheckText.{steps_bound};
 ghost use Rattle.report_text.specs.Report.{gen_line, gen_text};
-ghost use Rattle.report_text.specs.Views.{IsEndedOfStack, told_of};
+ghost use Rattle.report_text.specs.Views.{IsEndedOfStack, told_beside};
 
 use crate::images::sum_lines;
 use crate::report::steps_line;
@@ -15,8 +15,7 @@ use task_core::Ended;
 
 // `gen N writes W sectors S`
 fn gen_line<K: Sink>(pen: &mut Pen, out: &mut K, number: u64, writes: u64, sectors: u64)
-    ensures { Says K.held K.faults out.old pen.old out.new pen.new
-        (gen_line number writes sectors) }
+    ensures { Says K.Sink out.old pen.old out.new pen.new (gen_line number writes sectors) }
 {
     let mut number_digits = Buffer::new();
     let number = number_digits.format(number).as_bytes();
@@ -55,8 +54,7 @@ pub fn write_gen<K: Sink>(
 ) -> Result<(), Failed>
     requires ended { IsEndedOfStack stack.now ended.now }
     requires bound { steps_bound bound.now < 2 ^ 64 }
-    ensures { Writes K.held K.faults out.old out.new result
-        (gen_text number writes sectors stack.now (told_of ended.now (steps_bound bound.now))) }
+    ensures { Writes K.Sink out.old out.new result (gen_text number writes sectors stack.now (told_beside ended.now bound.now)) }
 {
     let mut pen = Pen::new();
     gen_line(&mut pen, out, number, writes, sectors);

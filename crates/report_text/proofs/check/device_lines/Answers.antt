@@ -12,4 +12,4 @@ devices-preserved g c = λ end pen said.
 pub returns : goal.returns
 returns g c =
     c.devices.invariant _ _
-    (devices_end g.K.Sink.held g.K.Sink.faults c.devices.out c.devices.pen c.args.stack.now c.args.stack.now.devices.items c.devices.number (omega arith))
+    (devices_end g.K.Sink c.devices.out c.devices.pen c.args.stack.now c.args.stack.now.devices.items c.devices.number (omega arith))

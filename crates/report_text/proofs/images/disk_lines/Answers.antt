@@ -11,8 +11,8 @@ use Rattle.report_text.proofs.images.disk_lines.Goals as goal
 pub returns : goal.returns
 returns g c =
     let named = c.device_name-name.ensures ∙ ap (λ (dev : DevId). name_of_device c.args.stack.now dev.0) c.dev.ensures in
-    let line = λ (name : List ℕ) (words : ℕ). Says g.K.Sink.held g.K.Sink.faults c.args.out.now c.args.pen.now c.disk_line.new.out c.disk_line.new.pen (disk_line name words) in
+    let line = λ (name : List ℕ) (words : ℕ). Says g.K.Sink c.args.out.now c.args.pen.now c.disk_line.new.out c.disk_line.new.pen (disk_line name words) in
     says_then (subst (line (name_of_device c.args.stack.now c.args.disk.now.dev.0)) c.sum.ensures (subst (λ name. line name c.sum.result) named c.disk_line.ensures))
     (subst
-    (λ (name : List ℕ). Says g.K.Sink.held g.K.Sink.faults c.disk_line.new.out c.disk_line.new.pen c.run_lines.new.out c.run_lines.new.pen (run_lines name (written_runs c.args.disk.now.image)))
+    (λ (name : List ℕ). Says g.K.Sink c.disk_line.new.out c.disk_line.new.pen c.run_lines.new.out c.run_lines.new.pen (run_lines name (written_runs c.args.disk.now.image)))
     named c.run_lines.ensures)

@@ -7,5 +7,5 @@ use Rattle.report_text.proofs.images.image_lines.Given as goal
 
 abbrev pub invariant-disks : goal.invariant-disks
 invariant-disks g l =
-    Says g.K.Sink.held g.K.Sink.faults l.fn.out l.fn.pen l.out l.pen
+    Says g.K.Sink l.fn.out l.fn.pen l.out l.pen
     (flat_map (λ disk. image_lines l.stack (image_of disk)) (take l.disk-index l.disks))

@@ -22,4 +22,4 @@ runs-preserved g c =
 pub returns : goal.returns
 returns g c =
     c.runs.invariant.so_far _ _
-    (runs_end g.K.Sink.held g.K.Sink.faults c.runs.out c.runs.pen c.args.name.now (runs_from (map is_written c.args.disk.now.image) c.runs.from) c.in_default.ensures.runs)
+    (runs_end g.K.Sink c.runs.out c.runs.pen c.args.name.now (runs_from (map is_written c.args.disk.now.image) c.runs.from) c.in_default.ensures.runs)

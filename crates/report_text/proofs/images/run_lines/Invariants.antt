@@ -11,8 +11,8 @@ invariant-runs g l = record {
   apart : IsApart (map is_written l.disk.image) l.from;
   -- what says the lines from here on completes all of them
   so_far : (end : g.row.K.Denot) (pen : PenState)
-      → Says g.K.Sink.held g.K.Sink.faults l.out l.pen end pen (run_lines l.name (runs_from (map is_written l.disk.image) l.from))
-      → Says g.K.Sink.held g.K.Sink.faults l.fn.out l.fn.pen end pen (run_lines l.name (runs_from (map is_written l.disk.image) 0));
+      → Says g.K.Sink l.out l.pen end pen (run_lines l.name (runs_from (map is_written l.disk.image) l.from))
+      → Says g.K.Sink l.fn.out l.fn.pen end pen (run_lines l.name (runs_from (map is_written l.disk.image) 0));
 }
 
 abbrev pub decreases-runs : goal.decreases-runs

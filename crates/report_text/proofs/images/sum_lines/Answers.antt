@@ -17,13 +17,13 @@ sum_line-requires g c =
     (each_of (λ (dev : DevId). dev.0 < total) (λ (disk : DiskState). disk.dev) c.args.disks.now c.disks.disk-index c.disk-item.result c.requires c.disks-test.true)
 
 pub disks-init : goal.disks-init
-disks-init g c = says_silence g.K.Sink.held g.K.Sink.faults c.args.out.now c.args.pen.now
+disks-init g c = says_silence g.K.Sink c.args.out.now c.args.pen.now
 
 pub disks-preserved : goal.disks-preserved
 disks-preserved g c =
     says_more (λ (disk : DiskState). sum_line c.args.stack.now (image_of disk)) c.args.disks.now c.disks.disk-index c.disk-item.result c.disks-test.true c.disks.invariant
     (subst
-    (λ (disk : DiskState). Says g.K.Sink.held g.K.Sink.faults c.disks.out c.disks.pen c.sum_line.new.out c.sum_line.new.pen (sum_line c.args.stack.now (image_of disk)))
+    (λ (disk : DiskState). Says g.K.Sink c.disks.out c.disks.pen c.sum_line.new.out c.sum_line.new.pen (sum_line c.args.stack.now (image_of disk)))
     c.disk-item.is c.sum_line.ensures)
 
 pub returns : goal.returns

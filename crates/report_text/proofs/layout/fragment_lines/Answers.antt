@@ -15,7 +15,7 @@ pub fragment_line-requires : goal.fragment_line-requires
 fragment_line-requires g c = c.requires _ (Contains-get_or c.args.fragments.now c.fragments.fragment-index no_fragment c.fragments-test.true)
 
 pub fragments-init : goal.fragments-init
-fragments-init g c = says_silence g.K.Sink.held g.K.Sink.faults c.args.out.now c.args.pen.now
+fragments-init g c = says_silence g.K.Sink c.args.out.now c.args.pen.now
 
 pub fragments-preserved : goal.fragments-preserved
 fragments-preserved g c =

@@ -6,5 +6,5 @@ use Rattle.report_text.proofs.layout.fragment_lines.Given as goal
 
 abbrev pub invariant-fragments : goal.invariant-fragments
 invariant-fragments g l =
-    Says g.K.Sink.held g.K.Sink.faults l.fn.out l.fn.pen l.out l.pen
+    Says g.K.Sink l.fn.out l.fn.pen l.out l.pen
     (flat_map (fragment_line l.stack) (take l.fragment-index l.fragments))

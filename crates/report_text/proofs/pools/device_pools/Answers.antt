@@ -50,5 +50,5 @@ devices-preserved g c =
 pub returns : goal.returns
 returns g c =
     c.devices.invariant.so_far _ _
-    (pools_end g.K.Sink.held g.K.Sink.faults c.devices.out c.devices.pen c.args.stack.now c.args.stack.now.devices.items c.devices.device-index
+    (pools_end g.K.Sink c.devices.out c.devices.pen c.args.stack.now c.args.stack.now.devices.items c.devices.device-index
     c.devices.rest.now (omega (arith, c.devices-test.false, ap length c.deref-device-items.ensures.value)))

@@ -11,8 +11,8 @@ invariant-devices g l = record {
   are : map (λ p. p.0) l.rest ≡ falling_from l.device-index (drop l.device-index l.stack.devices.items);
   -- what says their lines completes all of them
   so_far : (end : g.row.K.Denot) (pen : PenState)
-      → Says g.K.Sink.held g.K.Sink.faults l.out l.pen end pen
+      → Says g.K.Sink l.out l.pen end pen
       (flat_map (facts_line l.stack) (own_of_each (drop l.device-index l.stack.devices.items) l.rest))
-      → Says g.K.Sink.held g.K.Sink.faults l.fn.out l.fn.pen end pen
+      → Says g.K.Sink l.fn.out l.fn.pen end pen
       (flat_map (facts_line l.stack) (own_of_each l.stack.devices.items l.pools));
 }

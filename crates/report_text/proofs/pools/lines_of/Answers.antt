@@ -12,7 +12,7 @@ pool_line-requires g c =
     each_of (HasDeviceOfPool c.args.stack.now) (λ (p : PoolId × Facts). p.0) c.args.pools.now c.pools.pool-index _ c.requires c.pools-test.true
 
 pub pools-init : goal.pools-init
-pools-init g c = says_silence g.K.Sink.held g.K.Sink.faults c.args.out.now c.args.pen.now
+pools-init g c = says_silence g.K.Sink c.args.out.now c.args.pen.now
 
 pub pools-preserved : goal.pools-preserved
 pools-preserved g c = says_more (facts_line c.args.stack.now) c.args.pools.now c.pools.pool-index _ c.pools-test.true c.pools.invariant c.pool_line.ensures

@@ -6,5 +6,5 @@ use Rattle.report_text.proofs.pools.lines_of.Given as goal
 
 abbrev pub invariant-pools : goal.invariant-pools
 invariant-pools g l =
-    Says g.K.Sink.held g.K.Sink.faults l.fn.out l.fn.pen l.out l.pen
+    Says g.K.Sink l.fn.out l.fn.pen l.out l.pen
     (flat_map (facts_line l.stack) (take l.pool-index l.pools))

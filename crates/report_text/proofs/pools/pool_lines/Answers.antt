@@ -11,12 +11,12 @@ pub returns : goal.returns
 returns g c =
     let stack = c.args.stack.now in
     let first = subst
-    (λ (ps : Entries). Says g.K.Sink.held g.K.Sink.faults c.args.out.now c.args.pen.now c.lines_of.new.out c.lines_of.new.pen (flat_map (facts_line stack) ps))
+    (λ (ps : Entries). Says g.K.Sink c.args.out.now c.args.pen.now c.lines_of.new.out c.lines_of.new.pen (flat_map (facts_line stack) ps))
     c.split_at.ensures.front c.lines_of.ensures in
     let others = subst
-    (λ (ps : Entries). Says g.K.Sink.held g.K.Sink.faults c.lines_of.new.out c.lines_of.new.pen c.device_pools.new.out c.device_pools.new.pen
+    (λ (ps : Entries). Says g.K.Sink c.lines_of.new.out c.lines_of.new.pen c.device_pools.new.out c.device_pools.new.pen
     (flat_map (facts_line stack) (own_of_each stack.devices.items ps)))
     c.split_at.ensures.back c.device_pools.ensures in
     subst
-    (λ (text : List ℕ). Says g.K.Sink.held g.K.Sink.faults c.args.out.now c.args.pen.now c.device_pools.new.out c.device_pools.new.pen text)
+    (λ (text : List ℕ). Says g.K.Sink c.args.out.now c.args.pen.now c.device_pools.new.out c.device_pools.new.pen text)
     (lines_are stack c.args.pools.now c.requires) (says_then first others)

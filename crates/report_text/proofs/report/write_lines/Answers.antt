@@ -11,4 +11,4 @@ writes-preserved g c = λ end pen said.
 pub returns : goal.returns
 returns g c =
     c.writes.invariant _ _
-    (writes_end g.K.Sink.held g.K.Sink.faults c.writes.out c.writes.pen c.args.statuses.now c.writes.number (omega arith))
+    (writes_end g.K.Sink c.writes.out c.writes.pen c.args.statuses.now c.writes.number (omega arith))

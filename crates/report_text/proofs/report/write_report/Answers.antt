@@ -25,16 +25,16 @@ returns g c =
     let stack = c.args.stack.now in
     let ended = c.args.ended.now in
     let writes = subst
-    (λ (statuses : List Status). Says g.K.Sink.held g.K.Sink.faults c.args.out.now c.new-pen.result c.write_lines.new.out c.write_lines.new.pen (write_lines 0 statuses))
+    (λ (statuses : List Status). Says g.K.Sink c.args.out.now c.new-pen.result c.write_lines.new.out c.write_lines.new.pen (write_lines 0 statuses))
     c.deref.ensures.value c.write_lines.ensures in
-    let told = λ (text : List ℕ). Says g.K.Sink.held g.K.Sink.faults c.write_lines.new.out c.write_lines.new.pen c.image_lines.new.out c.image_lines.new.pen text in
+    let told = λ (text : List ℕ). Says g.K.Sink c.write_lines.new.out c.write_lines.new.pen c.image_lines.new.out c.image_lines.new.pen text in
     let disks = subst (λ (ds : List DiskState). told (flat_map (λ disk. image_lines stack (image_of disk)) ds)) c.deref-2.ensures.value c.image_lines.ensures in
     let images = subst told (sym (flat_map-map (image_lines stack) image_of ended.disks.items)) disks in
     let pools = subst
-    (λ (ps : Entries). Says g.K.Sink.held g.K.Sink.faults c.image_lines.new.out c.image_lines.new.pen c.pool_lines.new.out c.pool_lines.new.pen (pool_lines stack ps))
+    (λ (ps : Entries). Says g.K.Sink c.image_lines.new.out c.image_lines.new.pen c.pool_lines.new.out c.pool_lines.new.pen (pool_lines stack ps))
     c.deref-3.ensures.value c.pool_lines.ensures in
     let steps = subst
-    (λ (bound : ℕ). Says g.K.Sink.held g.K.Sink.faults c.pool_lines.new.out c.pool_lines.new.pen c.steps_line.new.out c.steps_line.new.pen (steps_line ended.steps bound))
+    (λ (bound : ℕ). Says g.K.Sink c.pool_lines.new.out c.pool_lines.new.pen c.steps_line.new.out c.steps_line.new.pen (steps_line ended.steps bound))
     c.total.ensures c.steps_line.ensures in
     finished c.finish.result c.new-pen.ensures (says_then writes (says_then images (says_then pools steps)))
     c.finish.ensures.says c.finish.ensures.handed c.finish.ensures.failed

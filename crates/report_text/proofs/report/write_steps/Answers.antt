@@ -8,6 +8,6 @@ use Rattle.report_text.proofs.report.write_steps.Goals as goal
 pub returns : goal.returns
 returns g c =
     let line = subst
-    (λ (bound : ℕ). Says g.K.Sink.held g.K.Sink.faults c.args.out.now c.new-pen.result c.steps_line.new.out c.steps_line.new.pen (steps_line c.args.steps bound))
+    (λ (bound : ℕ). Says g.K.Sink c.args.out.now c.new-pen.result c.steps_line.new.out c.steps_line.new.pen (steps_line c.args.steps bound))
     c.total.ensures c.steps_line.ensures in
     finished c.finish.result c.new-pen.ensures line c.finish.ensures.says c.finish.ensures.handed c.finish.ensures.failed

@@ -22,11 +22,11 @@ sum_lines-requires g c =
 pub returns : goal.returns
 returns g c =
     let stack = c.args.stack.now in
-    let told = λ (text : List ℕ). Says g.K.Sink.held g.K.Sink.faults c.gen_line.new.out c.gen_line.new.pen c.sum_lines.new.out c.sum_lines.new.pen text in
+    let told = λ (text : List ℕ). Says g.K.Sink c.gen_line.new.out c.gen_line.new.pen c.sum_lines.new.out c.sum_lines.new.pen text in
     let disks = subst (λ (ds : List DiskState). told (flat_map (λ disk. sum_line stack (image_of disk)) ds)) c.deref.ensures.value c.sum_lines.ensures in
     let lines = subst told (sym (flat_map-map (sum_line stack) image_of c.args.ended.now.disks.items)) disks in
     let steps = subst
-    (λ (bound : ℕ). Says g.K.Sink.held g.K.Sink.faults c.sum_lines.new.out c.sum_lines.new.pen c.steps_line.new.out c.steps_line.new.pen (steps_line c.args.ended.now.steps bound))
+    (λ (bound : ℕ). Says g.K.Sink c.sum_lines.new.out c.sum_lines.new.pen c.steps_line.new.out c.steps_line.new.pen (steps_line c.args.ended.now.steps bound))
     c.total.ensures c.steps_line.ensures in
     finished c.finish.result c.new-pen.ensures (says_then c.gen_line.ensures (says_then lines steps))
     c.finish.ensures.says c.finish.ensures.handed c.finish.ensures.failed
