@@ -30,11 +30,15 @@ linked names writer name = record {
   place = renamed names writer name (Some (names.opened writer));
 }
 
+-- a name is of no node any more
+abbrev pub freed : Names → ℕ → ℕ → Names
+freed names writer name = record names { place = renamed names writer name None }
+
 -- a name is free again when its node has closed
 abbrev pub dropped : Names → ℕ → ℕ → End → Names
 dropped names writer name end.Left = names
-dropped names writer name end.Up = record names { place = renamed names writer name None }
-dropped names writer name end.Top = record names { place = renamed names writer name None }
+dropped names writer name end.Up = freed names writer name
+dropped names writer name end.Top = freed names writer name
 
 -- the names after an event
 abbrev pub names_after : Names → What → Names

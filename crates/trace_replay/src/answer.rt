@@ -14,7 +14,7 @@ use stack_base::Stack;
 
 // `replay events N`
 fn put_events<K: Sink>(pen: &mut Pen, out: &mut K, events: u64)
-    ensures { Says K.held K.faults out.old pen.old out.new pen.new (events_line events) }
+    ensures { Says K.Sink out.old pen.old out.new pen.new (events_line events) }
 {
     let mut digits = Buffer::new();
     let number = digits.format(events).as_bytes();
@@ -23,7 +23,7 @@ fn put_events<K: Sink>(pen: &mut Pen, out: &mut K, events: u64)
 
 // `bad line L`, where there is one
 fn put_bad<K: Sink>(pen: &mut Pen, out: &mut K, bad: Option<u64>)
-    ensures { Says K.held K.faults out.old pen.old out.new pen.new (bad_line bad) }
+    ensures { Says K.Sink out.old pen.old out.new pen.new (bad_line bad) }
 {
     if let Some(line) = bad {
         let mut digits = Buffer::new();
@@ -34,7 +34,7 @@ fn put_bad<K: Sink>(pen: &mut Pen, out: &mut K, bad: Option<u64>)
 
 // `end ended`, `end open` or `end stuck`
 fn put_finish<K: Sink>(pen: &mut Pen, out: &mut K, finish: Finish)
-    ensures { Says K.held K.faults out.old pen.old out.new pen.new (finish_line finish) }
+    ensures { Says K.Sink out.old pen.old out.new pen.new (finish_line finish) }
 {
     match finish {
         Finish::Ended => pen.put(out, &[b"end ended\n"]),
@@ -47,7 +47,7 @@ fn put_finish<K: Sink>(pen: &mut Pen, out: &mut K, finish: Finish)
 #[tactic(auto, using(crate::proofs::AnswerLemmas::named))]
 fn put_extent<K: Sink>(pen: &mut Pen, out: &mut K, stack: &Stack, extent: &Extent)
     requires { HasDeviceOfPool stack.now extent.now.pool }
-    ensures { Says K.held K.faults out.old pen.old out.new pen.new (extent_line stack.now extent.now) }
+    ensures { Says K.Sink out.old pen.old out.new pen.new (extent_line stack.now extent.now) }
 {
     let (owner, element) = pool_parts(stack, extent.pool);
     let mut lowest_digits = Buffer::new();
@@ -72,8 +72,7 @@ fn put_extent<K: Sink>(pen: &mut Pen, out: &mut K, stack: &Stack, extent: &Exten
 // A line for each of these pools, in their order.
 fn put_extents<K: Sink>(pen: &mut Pen, out: &mut K, stack: &Stack, extents: &[Extent])
     requires { All (HasDeviceOfPool stack.now) (map (λ extent. extent.pool) extents.now) }
-    ensures { Says K.held K.faults out.old pen.old out.new pen.new
-        (flat_map (extent_line stack.now) extents.now) }
+    ensures { Says K.Sink out.old pen.old out.new pen.new (flat_map (extent_line stack.now) extents.now) }
 {
     'pools: for extent in extents {
         put_extent(pen, out, stack, extent);
@@ -91,8 +90,7 @@ pub fn write_replayed<K: Sink>(
     out: &mut K,
 ) -> Result<(), Failed>
     requires { map (λ extent. extent.pool) replayed.now.extents.items ≡ told_pools stack.now }
-    ensures { Writes K.held K.faults out.old out.new result
-        (replay_text stack.now replayed.now) }
+    ensures { Writes K.Sink out.old out.new result (replay_text stack.now replayed.now) }
 {
     let mut pen = Pen::new();
     put_events(&mut pen, out, replayed.events);

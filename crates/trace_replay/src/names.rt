@@ -1,6 +1,6 @@
 //! Which place each name of a trace stands for.
 ghost use Rattle.std.specs.Prelude.{◌≡◌, None, Some, OnOk};
-ghost use Rattle.trace_replay.specs.Names.{names_after, event_placed, linked, no_names, placed, renamed};
+ghost use Rattle.trace_replay.specs.Names.{names_after, event_placed, freed, linked, no_names, placed};
 ghost use Rattle.trace_replay.specs.KeptNames.{names_in_entries};
 
 use run_machine::{End, Event, What};
@@ -112,7 +112,7 @@ impl Names {
 
     // A node was closed.
     fn close(&mut self, writer: u32, node: u32)
-        ensures { names_in_entries self.new ≡ record (names_in_entries self.old) { place = renamed (names_in_entries self.old) writer node None } }
+        ensures { names_in_entries self.new ≡ freed (names_in_entries self.old) writer node }
     {
         self.places.remove(&Name { writer, node });
     }

@@ -7,5 +7,5 @@ use Rattle.trace_replay.proofs.answer.put_bad.Goals as goal
 
 pub returns-in_default : goal.returns-in_default
 returns-in_default g c =
-    subst (λ (bad : Option ℕ). Says g.K.Sink.held g.K.Sink.faults c.args.out.now c.args.pen.now c.args.out.now c.args.pen.now (bad_line bad))
-    (sym c.in_default.is) (says_silence g.K.Sink.held g.K.Sink.faults c.args.out.now c.args.pen.now)
+    subst (λ (bad : Option ℕ). Says g.K.Sink c.args.out.now c.args.pen.now c.args.out.now c.args.pen.now (bad_line bad))
+    (sym c.in_default.is) (says_silence g.K.Sink c.args.out.now c.args.pen.now)

@@ -11,7 +11,7 @@ put_extent-requires g c =
     each_of (HasDeviceOfPool c.args.stack.now) (λ (e : Extent). e.pool) c.args.extents.now c.pools.extent-index _ c.requires c.pools-test.true
 
 pub pools-init : goal.pools-init
-pools-init g c = says_silence g.K.Sink.held g.K.Sink.faults c.args.out.now c.args.pen.now
+pools-init g c = says_silence g.K.Sink c.args.out.now c.args.pen.now
 
 pub pools-preserved : goal.pools-preserved
 pools-preserved g c = says_more (extent_line c.args.stack.now) c.args.extents.now c.pools.extent-index _ c.pools-test.true c.pools.invariant c.put_extent.ensures

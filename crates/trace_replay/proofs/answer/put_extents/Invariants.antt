@@ -6,5 +6,5 @@ use Rattle.trace_replay.proofs.answer.put_extents.Given as goal
 
 abbrev pub invariant-pools : goal.invariant-pools
 invariant-pools g l =
-    Says g.K.Sink.held g.K.Sink.faults l.fn.out l.fn.pen l.out l.pen
+    Says g.K.Sink l.fn.out l.fn.pen l.out l.pen
     (flat_map (extent_line l.stack) (take l.extent-index l.extents))

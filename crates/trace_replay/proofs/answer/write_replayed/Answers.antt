@@ -19,7 +19,7 @@ put_extents-requires g c =
 pub returns : goal.returns
 returns g c =
     let pools = subst
-    (λ (es : List Extent). Says g.K.Sink.held g.K.Sink.faults c.put_finish.new.out c.put_finish.new.pen c.put_extents.new.out c.put_extents.new.pen
+    (λ (es : List Extent). Says g.K.Sink c.put_finish.new.out c.put_finish.new.pen c.put_extents.new.out c.put_extents.new.pen
     (flat_map (extent_line c.args.stack.now) es))
     c.deref.ensures.value c.put_extents.ensures in
     finished c.finish.result c.new-pen.ensures (says_then c.put_events.ensures (says_then c.put_bad.ensures (says_then c.put_finish.ensures pools)))
