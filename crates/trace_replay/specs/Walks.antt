@@ -1,11 +1,12 @@
 -- How far a replay has come.
-use Rattle.std.specs.Prelude.{◌≡◌, ◌++◌, ℕ, Bool, true, false, List, ◌∷◌, length, map, Option}
+use Rattle.std.specs.Prelude.{◌≡◌, ◌++◌, ℕ, Bool, true, false, List, [], ◌∷◌, length, map, Option}
+use Rattle.stack_base.specs.declared.stack.Kind.{Kind}
 use Rattle.stack_base.specs.declared.stack.Stack.{Stack}
 use Rattle.run_machine.specs.declared.event.Event.{Event}
 use Rattle.run_machine.specs.Scene.{Scene}
 use Rattle.run_machine.specs.Runs.{State, Happens, IsEnabled, IsRun}
 use Rattle.plain_core.specs.Cores.{CoreState, scene_of_core, state_of_core}
-use Rattle.report_text.specs.Pools.{told_pools}
+use Rattle.report_text.specs.Pools.{pools_at, told_pools}
 use Rattle.trace_replay.specs.Replay.{AreLinesOf, StopsAt, TellsEvent, extent_over, later}
 use Rattle.trace_replay.specs.Names.{Names, no_names}
 use Rattle.trace_replay.specs.declared.extents.Extent.{Extent}
@@ -20,6 +21,10 @@ AppliesLine stack line names old false next new =
 -- the extents of the pools of a stack over these states
 abbrev pub extents_over : Stack → List State → List Extent
 extents_over stack states = map (extent_over states) (told_pools stack)
+
+-- those of the pools of a device, over one state
+abbrev pub first_extents_at : CoreState → ℕ → Kind → List Extent
+first_extents_at core number kind = map (extent_over (state_of_core core ∷ [])) (pools_at number kind)
 
 -- these lines are still to come; those before them are the lines of a run to this state
 pub record HasCome (stack : Stack) (scene : Scene) (start : State) (told rest : List (ℕ × List ℕ)) (names : Names) (core : CoreState) (count : ℕ) (extents : List Extent) : Type 0 where
@@ -38,3 +43,7 @@ pub record FollowsLines (stack : Stack) (told : List (ℕ × List ℕ)) (old new
   pub names : Names
   pub come : HasCome stack (scene_of_core old) (state_of_core old) told rest names new count extents
   pub stops : StopsAt (scene_of_core old) stack names (state_of_core new) rest bad
+
+-- the same of what answers the number of the events and that of the bad line
+abbrev pub HasFollowed : Stack → List (ℕ × List ℕ) → CoreState → CoreState → List Extent → ℕ × Option ℕ → Type 0
+HasFollowed stack told old new extents followed = FollowsLines stack told old new extents followed.0 followed.1

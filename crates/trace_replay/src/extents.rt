@@ -1,8 +1,7 @@
 //! How far the pools of a run went.
 ghost use Rattle.std.specs.Prelude.{◌≡◌, ◌++◌, ◌≤◌, [], ◌∷◌, length, map, IfOk};
 ghost use Rattle.plain_core.specs.Cores.{state_of_core};
-ghost use Rattle.report_text.specs.Pools.{pools_at};
-ghost use Rattle.trace_replay.specs.Walks.{extents_over};
+ghost use Rattle.trace_replay.specs.Walks.{extents_over, first_extents_at};
 ghost use Rattle.trace_replay.specs.Replay.{extent_over, wider};
 
 use plain_core::Core;
@@ -39,7 +38,7 @@ fn push_pools(
     number: u32,
     kind: &Kind,
 ) -> Result<(), AllocError>
-    ensures { IfOk result (λ _. extents.new.items ≡ extents.old.items ++ map (extent_over (state_of_core core.now ∷ [])) (pools_at number kind.now)) }
+    ensures { IfOk result (λ _. extents.new.items ≡ extents.old.items ++ first_extents_at core.now number kind.now) }
 {
     let dev = DevId(number);
     match kind {

@@ -5,9 +5,9 @@ ghost use Rattle.plain_core.specs.Cores.{scene_of_core, state_of_core};
 ghost use Rattle.report_text.specs.Pools.{told_pools};
 ghost use Rattle.trace_replay.specs.Replay.{IsFinish, IsReplay};
 ghost use Rattle.trace_replay.specs.Lines.{told_in};
-ghost use Rattle.trace_replay.specs.KeptNames.{names_in_entries};
+ghost use Rattle.trace_replay.specs.KeptNames.{AppliesByNames, names_in_entries};
 ghost use Rattle.trace_replay.specs.Names.{no_names};
-ghost use Rattle.trace_replay.specs.Walks.{AppliesLine, FollowsLines, extents_over};
+ghost use Rattle.trace_replay.specs.Walks.{HasFollowed, extents_over};
 
 use crate::extents::{Extent, first_extents, note};
 use crate::names::Names;
@@ -51,7 +51,7 @@ fn apply_line(
     stack: &Stack,
 ) -> Result<bool, AllocError>
     requires { DevicesAreNamed stack.now }
-    ensures { IfOk result (λ applied. AppliesLine stack.now line.now (names_in_entries names.old) core.old applied (names_in_entries names.new) core.new) }
+    ensures { IfOk result (λ applied. AppliesByNames stack.now line.now names.old core.old applied names.new core.new) }
 {
     events_are_apart();
     let Some(told) = read_event(line, stack) else {
@@ -96,7 +96,7 @@ fn follow(
     requires countable { first + length text.now < 2 ^ 64 }
     requires names { names_in_entries names.old ≡ no_names }
     requires extents { extents.old.items ≡ extents_over stack.now (state_of_core core.old ∷ []) }
-    ensures { IfOk result (λ followed. FollowsLines stack.now (told_in first text.now) core.old core.new extents.new.items followed.0 followed.1) }
+    ensures { IfOk result (HasFollowed stack.now (told_in first text.now) core.old core.new extents.new.items) }
 {
     let mut lines = Lines::from(text, 0);
     let mut number = first;
