@@ -1,13 +1,15 @@
 -- How the calls of the program exit: what a status says of an order, or of words, and of the streams of a call.
-use Rattle.std.specs.Prelude.{◌≡◌, ◌⊎◌, Bool, List, ℕ, Option, Some, map, String}
+use Rattle.std.specs.Prelude.{◌≡◌, ◌⊎◌, Bool, true, List, ℕ, Option, Some, map, String}
 use Rattle.std.specs.declared.alloc.Global.{Global}
 use Rattle.std.specs.String.{string_bytes}
+use Rattle.outside_io.specs.declared.sink.Sink.{Ghosts as SinkGhosts}
 use Rattle.biostack_words.specs.declared.order.Order.{Order}
 use Rattle.biostack_words.specs.declared.order.Order.TheVariants.{Workers}
 use Rattle.biostack_words.specs.Grammar.{meaning}
 use Rattle.bio_workers.specs.Gates.{Showing}
 use Rattle.biostack_top.specs.Ending.{EndsBy, HadRefusedText, IsToldTo, MayFollowRun, MeetsNoFault, OrderEndsBy, WorkersEndBy, exit_of}
-use Rattle.biostack_top.specs.Streams.{CallStreams, stream}
+use Rattle.biostack_top.specs.Orders.{may_be_unwell}
+use Rattle.biostack_top.specs.Streams.{CallStreams, sink_stream}
 use Rattle.biostack_top.specs.declared.ending.Ending.{Ending}
 
 -- the order that these words give
@@ -15,20 +17,20 @@ abbrev pub given_order : List (String Global) → Option Order
 given_order words = meaning (map string_bytes words)
 
 -- A call with this order has this status: it ended by one of the causes, what the output holds is what goes with it, and
--- so is what errors hold, which go by what `stream` takes.
-abbrev pub OrderExits : {S K E : Type 0} → Order → ℕ → CallStreams S K → (E → Option (List ℕ)) → (E → ℕ) → E → E → Type 0
-OrderExits order status c held faults old new =
-    (ending : Ending) × (status ≡ exit_of ending) × OrderEndsBy ending order c × IsToldTo ending (stream held faults old new)
+-- so is what errors hold, a sink before the call and behind it.
+abbrev pub OrderExits : {S K E : Type 0} → Order → ℕ → CallStreams S K → SinkGhosts E → E → E → Type 0
+OrderExits order status c errors old new =
+    (ending : Ending) × (status ≡ exit_of ending) × OrderEndsBy ending order c × IsToldTo ending (sink_stream errors old new)
 
 -- the same of an order for threads, with a trace or with none, and of what the gate was shown
-abbrev pub WorkersExit : {S K E : Type 0} → Bool → Option Showing → ℕ → CallStreams S K → (E → Option (List ℕ)) → (E → ℕ) → E → E → Type 0
-WorkersExit trace shown status c held faults old new =
-    (ending : Ending) × (status ≡ exit_of ending) × WorkersEndBy ending trace shown c × IsToldTo ending (stream held faults old new)
+abbrev pub WorkersExit : {S K E : Type 0} → Bool → Option Showing → ℕ → CallStreams S K → SinkGhosts E → E → E → Type 0
+WorkersExit trace shown status c errors old new =
+    (ending : Ending) × (status ≡ exit_of ending) × WorkersEndBy ending trace shown c × IsToldTo ending (sink_stream errors old new)
 
 -- the same of words
-abbrev pub Exits : {S K E : Type 0} → List (String Global) → Option Showing → ℕ → CallStreams S K → (E → Option (List ℕ)) → (E → ℕ) → E → E → Type 0
-Exits words shown status c held faults old new =
-    (ending : Ending) × (status ≡ exit_of ending) × EndsBy ending (map string_bytes words) shown c × IsToldTo ending (stream held faults old new)
+abbrev pub Exits : {S K E : Type 0} → List (String Global) → Option Showing → ℕ → CallStreams S K → SinkGhosts E → E → E → Type 0
+Exits words shown status c errors old new =
+    (ending : Ending) × (status ≡ exit_of ending) × EndsBy ending (map string_bytes words) shown c × IsToldTo ending (sink_stream errors old new)
 
 -- over a text that is not refused the order is carried out where nothing fails, but for want of memory
 abbrev pub CarriesOut : {S K : Type 0} → Order → ℕ → CallStreams S K → Type 0
@@ -39,6 +41,10 @@ abbrev pub CarriesOutWords : {S K : Type 0} → List (String Global) → ℕ →
 CarriesOutWords words status c =
     (order : Order) (text : List ℕ) → given_order words ≡ Some order → MeetsNoFault order text c
     → (status ≡ 0) ⊎ (status ≡ 1) ⊎ (status ≡ 6)
+
+-- words give an order that may find that not all is well
+abbrev pub AskForUnwell : List (String Global) → Type 0
+AskForUnwell words = (order : Order) × (given_order words ≡ Some order) × (may_be_unwell order ≡ true)
 
 -- words give an order, and what its source had is refused for it
 abbrev pub AskForRefusedText : List (String Global) → Option (List ℕ) → Type 0

@@ -35,7 +35,7 @@ use Rattle.biostack_top.specs.Orders.{is_alone}
 use Rattle.biostack_top.specs.Replaying.{TellsReplay, replay_refusal}
 use Rattle.biostack_top.specs.Running.{ByNumber, ByThreads, EveryRunOfTextIsAsClaimed, IsShownOf, IsRunTold, Maker, sectors}
 use Rattle.biostack_top.specs.Scene.{TextSays}
-use Rattle.biostack_top.specs.Streams.{CallStreams, StreamFails, StreamStays, Stream, stream}
+use Rattle.biostack_top.specs.Streams.{CallStreams, SinkFails, SinkStays, SinkStream, SourceFails, SourceStays, sink_stream}
 use Rattle.biostack_top.specs.Tracing.{traced}
 use Rattle.biostack_top.specs.declared.scene.Scene.{Scene}
 use Rattle.biostack_top.specs.declared.ending.Ending.{Ending}
@@ -111,10 +111,10 @@ refusal_for order text = text_refusal text
 
 -- All that is told of a text was written, and all is well, or it is not; or the output failed, and has a front of it and
 -- nothing behind the fault.
-abbrev pub EndsWritten : {K : Type 0} → Ending → List ℕ → Bool → Stream K → Type 0
-EndsWritten WriteFault told well out = StreamFails out × StopsAtFault out.bytes out.faults out.old out.new × AppendsFront (out.bytes out.old) (out.bytes out.new) told
-EndsWritten Done told well out = (well ≡ true) × (out.faults out.new ≡ out.faults out.old) × Appends (out.bytes out.old) (out.bytes out.new) told
-EndsWritten NotAllWell told well out = (well ≡ false) × (out.faults out.new ≡ out.faults out.old) × Appends (out.bytes out.old) (out.bytes out.new) told
+abbrev pub EndsWritten : {K : Type 0} → Ending → List ℕ → Bool → SinkStream K → Type 0
+EndsWritten WriteFault told well out = SinkFails out × StopsAtFault out.of out.old out.new × AppendsFront (out.of.held out.old) (out.of.held out.new) told
+EndsWritten Done told well out = (well ≡ true) × (out.of.faults out.new ≡ out.of.faults out.old) × Appends (out.of.held out.old) (out.of.held out.new) told
+EndsWritten NotAllWell told well out = (well ≡ false) × (out.of.faults out.new ≡ out.of.faults out.old) × Appends (out.of.held out.old) (out.of.held out.new) told
 EndsWritten ending told well out = ⊥
 
 -- the report of what a run of the scene left
@@ -122,31 +122,31 @@ abbrev pub report_left : Scene → Ended → List ℕ
 report_left scene ended = report scene.accepted.stack (told_of ended (steps_bound scene.work.bound))
 
 -- A call ends so, whose lines before this step ended so: behind them is the report, whatever they are.
-abbrev pub EndsReported : {K : Type 0} → Ending → Result Unit Failed → Scene → Ended → Stream K → Type 0
+abbrev pub EndsReported : {K : Type 0} → Ending → Result Unit Failed → Scene → Ended → SinkStream K → Type 0
 EndsReported {K} ending traced scene ended out =
-    (before : K) (lines : List ℕ) → Writes out.bytes out.faults before out.old traced lines
-    → EndsWritten ending (lines ++ report_left scene ended) (all_well ended.statuses.items) (stream out.bytes out.faults before out.new)
+    (before : K) (lines : List ℕ) → Writes out.of before out.old traced lines
+    → EndsWritten ending (lines ++ report_left scene ended) (all_well ended.statuses.items) (sink_stream out.of before out.new)
 
 -- a text has no refusal, and all that is told of it was written, without a fault; all of it is well, or it is not
-abbrev pub WritesAll : {K : Type 0} → Option Refusal → (List ℕ → Bool → Type 0) → Bool → Stream K → Type 0
+abbrev pub WritesAll : {K : Type 0} → Option Refusal → (List ℕ → Bool → Type 0) → Bool → SinkStream K → Type 0
 WritesAll first tells well out =
-    (out.faults out.new ≡ out.faults out.old) × (first ≡ None) × ((told : List ℕ) × tells told well × Appends (out.bytes out.old) (out.bytes out.new) told)
+    (out.of.faults out.new ≡ out.of.faults out.old) × (first ≡ None) × ((told : List ℕ) × tells told well × Appends (out.of.held out.old) (out.of.held out.new) told)
 
 -- A text, by its first refusal and by what is told of it, ends a call so only where this holds of the output: it is refused, or there was no
 -- memory, and nothing was written; or all that is told was, or a front of it where the output failed, and nothing behind the fault.
-abbrev pub EndsWith : {K : Type 0} → Ending → Option Refusal → (List ℕ → Bool → Type 0) → Stream K → Type 0
-EndsWith (Refused refusal) first tells out = (first ≡ Some refusal) × StreamStays out
-EndsWith Memory first tells out = StreamStays out
+abbrev pub EndsWith : {K : Type 0} → Ending → Option Refusal → (List ℕ → Bool → Type 0) → SinkStream K → Type 0
+EndsWith (Refused refusal) first tells out = (first ≡ Some refusal) × SinkStays out
+EndsWith Memory first tells out = SinkStays out
 EndsWith WriteFault first tells out =
-    StreamFails out × StopsAtFault out.bytes out.faults out.old out.new × (first ≡ None)
-    × ((told : List ℕ) × (well : Bool) × tells told well × AppendsFront (out.bytes out.old) (out.bytes out.new) told)
+    SinkFails out × StopsAtFault out.of out.old out.new × (first ≡ None)
+    × ((told : List ℕ) × (well : Bool) × tells told well × AppendsFront (out.of.held out.old) (out.of.held out.new) told)
 EndsWith Done first tells out = WritesAll first tells true out
 EndsWith NotAllWell first tells out = WritesAll first tells false out
 EndsWith Usage first tells out = ⊥
 EndsWith ReadFault first tells out = ⊥
 
 -- an order ends so over its text
-abbrev pub TextEndsBy : {K : Type 0} → Ending → Order → List ℕ → Stream K → Type 0
+abbrev pub TextEndsBy : {K : Type 0} → Ending → Order → List ℕ → SinkStream K → Type 0
 TextEndsBy ending order text out = EndsWith ending (refusal_for order text) (IsOutputOf order text) out
 
 -- there was a text, and it ends the call so
@@ -156,8 +156,8 @@ OfText ending order c = (text : List ℕ) × IsInput (made_by order) c.source te
 -- a call with this order ends so only where this holds
 abbrev pub OrderEndsBy : {S K : Type 0} → Ending → Order → CallStreams S K → Type 0
 OrderEndsBy Usage order c = ⊥
-OrderEndsBy ReadFault order c = HasNoInput ReadFault (made_by order) c.source × StreamStays c.out
-OrderEndsBy Memory order c = HasNoInput Memory (made_by order) c.source × StreamStays c.out
+OrderEndsBy ReadFault order c = HasNoInput ReadFault (made_by order) c.source × SinkStays c.out
+OrderEndsBy Memory order c = HasNoInput Memory (made_by order) c.source × SinkStays c.out
 OrderEndsBy (Refused refusal) order c = OfText (Refused refusal) order c
 OrderEndsBy WriteFault order c = OfText WriteFault order c
 OrderEndsBy Done order c = OfText Done order c
@@ -178,8 +178,8 @@ MayLack trace shown text =
     × TextSays text accepted work × IsShownOf (scenario_of accepted work) left × (shown ≡ Some left)))
 
 -- A text that threads are to run ends so, and this is what the gate was shown then.
-abbrev pub SharedEndsBy : {K : Type 0} → Ending → Bool → Option Showing → List ℕ → Stream K → Type 0
-SharedEndsBy Memory trace shown text out = StreamStays out × MayLack trace shown text
+abbrev pub SharedEndsBy : {K : Type 0} → Ending → Bool → Option Showing → List ℕ → SinkStream K → Type 0
+SharedEndsBy Memory trace shown text out = SinkStays out × MayLack trace shown text
 SharedEndsBy (Refused refusal) trace shown text out = EndsWith (Refused refusal) (text_refusal text) (TellsShown trace shown text) out × (shown ≡ None)
 SharedEndsBy ending trace shown text out = EndsWith ending (text_refusal text) (TellsShown trace shown text) out
 
@@ -190,8 +190,8 @@ OfSharedText ending trace shown c = (text : List ℕ) × IsInput None c.source t
 -- a call with an order for threads ends so only where this holds
 abbrev pub WorkersEndBy : {S K : Type 0} → Ending → Bool → Option Showing → CallStreams S K → Type 0
 WorkersEndBy Usage trace shown c = ⊥
-WorkersEndBy ReadFault trace shown c = HasNoInput ReadFault None c.source × StreamStays c.out × (shown ≡ None)
-WorkersEndBy Memory trace shown c = (HasNoInput Memory None c.source × StreamStays c.out × (shown ≡ None)) ⊎ OfSharedText Memory trace shown c
+WorkersEndBy ReadFault trace shown c = HasNoInput ReadFault None c.source × SinkStays c.out × (shown ≡ None)
+WorkersEndBy Memory trace shown c = (HasNoInput Memory None c.source × SinkStays c.out × (shown ≡ None)) ⊎ OfSharedText Memory trace shown c
 WorkersEndBy (Refused refusal) trace shown c = OfSharedText (Refused refusal) trace shown c
 WorkersEndBy WriteFault trace shown c = OfSharedText WriteFault trace shown c
 WorkersEndBy Done trace shown c = OfSharedText Done trace shown c
@@ -221,12 +221,12 @@ AskedEndsBy ending order shown c =
 -- words that a call was given ended it so and nothing was done, or they are an order that ends so
 abbrev pub EndsBy : {S K : Type 0} → Ending → List (List ℕ) → Option Showing → CallStreams S K → Type 0
 EndsBy ending words shown c =
-    (WordsEndBy ending words × StreamStays c.source × StreamStays c.out × (shown ≡ None))
+    (WordsEndBy ending words × SourceStays c.source × SinkStays c.out × (shown ≡ None))
     ⊎ ((order : Order) × (meaning words ≡ Some order) × AskedEndsBy ending order shown c)
 
 -- errors got the line of an ending, or a front of it where they failed
-abbrev pub IsToldTo : {E : Type 0} → Ending → Stream E → Type 0
-IsToldTo ending errors = (told : Result Unit Failed) × Writes errors.bytes errors.faults errors.old errors.new told (error_line ending)
+abbrev pub IsToldTo : {E : Type 0} → Ending → SinkStream E → Type 0
+IsToldTo ending errors = (told : Result Unit Failed) × Writes errors.of errors.old errors.new told (error_line ending)
 
 -- what a source had, to the limit, is refused for an order
 abbrev pub HadRefusedText : Order → Option (List ℕ) → Type 0
@@ -234,7 +234,7 @@ HadRefusedText order left = (text : List ℕ) × IsRead limit left text × (is_s
 
 -- an order is given a text that is not refused, and neither the source nor the output fails
 pub record MeetsNoFault {S K : Type 0} (order : Order) (text : List ℕ) (c : CallStreams S K) : Type 0 where
-  pub given : IsGivenText (made_by order) (c.source.bytes c.source.old) text
+  pub given : IsGivenText (made_by order) (c.source.of.left c.source.old) text
   pub fine : refusal_for order text ≡ None
-  pub read : ¬ StreamFails c.source
-  pub written : ¬ StreamFails c.out
+  pub read : ¬ SourceFails c.source
+  pub written : ¬ SinkFails c.out

@@ -29,7 +29,7 @@ use Rattle.run_merge.specs.declared.outcome.Outcome.{Outcome}
 use Rattle.report_text.specs.CheckText.{steps_bound}
 use Rattle.report_text.specs.Report.{Reported}
 use Rattle.report_text.specs.Views.{told_by}
-use Rattle.biostack_top.specs.Streams.{Stream}
+use Rattle.biostack_top.specs.Streams.{SinkStream}
 use Rattle.biostack_top.specs.Tracing.{IsTraceOf}
 
 -- the words that order the run of a number
@@ -78,10 +78,10 @@ pub record HasRun (s : Scenario) (maker : Maker) (events : List Event) (ended : 
   pub named : All (IsEventOf s.stack) events
 
 -- A scenario was run by the schedule of a number, and this is what was left, and how the writing of these lines of its events ended.
-abbrev pub WritesRun : {K : Type 0} → Scenario → ℕ → (List Event → List ℕ) → Ended × Result Unit Failed → Stream K → Type 0
+abbrev pub WritesRun : {K : Type 0} → Scenario → ℕ → (List Event → List ℕ) → Ended × Result Unit Failed → SinkStream K → Type 0
 WritesRun s number lines answer out =
     (events : List Event) × HasRun s (ByNumber number) events answer.0
-    × Writes out.bytes out.faults out.old out.new answer.1 (lines events)
+    × Writes out.of out.old out.new answer.1 (lines events)
 
 -- What the merge of what threads left comes to: the run that threads made, with its events where there is to be a trace; or
 -- there was no memory for the trace.

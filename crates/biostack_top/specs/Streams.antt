@@ -1,34 +1,50 @@
 -- A source and a sink, before a call and behind it.
-use Rattle.std.specs.Prelude.{◌≡◌, List, ℕ, Option}
+use Rattle.std.specs.Prelude.{◌≡◌}
 use Rattle.std.specs.Io.KnownBytes.{Keeps}
 use Rattle.outside_io.specs.Causes.{Rose}
+use Rattle.outside_io.specs.declared.sink.Sink.{Ghosts as SinkGhosts}
+use Rattle.outside_io.specs.declared.source.Source.{Ghosts as SourceGhosts}
 
--- a source or a sink before a call and behind it, by what shows of it: the bytes that it has left or holds, and how often it has failed
-pub record Stream (S : Type 0) : Type 0 where
-  pub bytes : S → Option (List ℕ)
-  pub faults : S → ℕ
+-- a source before a call and behind it; `of` says of both what is left and how often it has failed
+pub record SourceStream (S : Type 0) : Type 1 where
+  pub of : SourceGhosts S
   pub old : S
   pub new : S
 
-abbrev pub stream : {S : Type 0} → (S → Option (List ℕ)) → (S → ℕ) → S → S → Stream S
-stream bytes faults old new = record { bytes = bytes; faults = faults; old = old; new = new }
+-- a sink before a call and behind it; `of` says of both what it holds and how often it has failed
+pub record SinkStream (K : Type 0) : Type 1 where
+  pub of : SinkGhosts K
+  pub old : K
+  pub new : K
+
+abbrev pub source_stream : {S : Type 0} → SourceGhosts S → S → S → SourceStream S
+source_stream of old new = record { of = of; old = old; new = new }
+
+abbrev pub sink_stream : {K : Type 0} → SinkGhosts K → K → K → SinkStream K
+sink_stream of old new = record { of = of; old = old; new = new }
 
 -- what a call did to its source and its sink
-pub record CallStreams (S K : Type 0) : Type 0 where
-  pub source : Stream S
-  pub out : Stream K
+pub record CallStreams (S K : Type 0) : Type 1 where
+  pub source : SourceStream S
+  pub out : SinkStream K
 
--- the streams of a call, each as `stream` has it: its source first, and then its output
-abbrev pub call : {S K : Type 0} → (S → Option (List ℕ)) → (S → ℕ) → S → S → (K → Option (List ℕ)) → (K → ℕ) → K → K → CallStreams S K
-call left source_faults source_old source_new held out_faults out_old out_new = record {
-  source = stream left source_faults source_old source_new;
-  out = stream held out_faults out_old out_new;
+-- the streams of a call: its source first, and then its output
+abbrev pub call : {S K : Type 0} → SourceGhosts S → S → S → SinkGhosts K → K → K → CallStreams S K
+call source source_old source_new out out_old out_new = record {
+  source = source_stream source source_old source_new;
+  out = sink_stream out out_old out_new;
 }
 
 -- its bytes are what they were, and so is its count of faults
-abbrev pub StreamStays : {S : Type 0} → Stream S → Type 0
-StreamStays of = Keeps (of.bytes of.old) (of.bytes of.new) × (of.faults of.new ≡ of.faults of.old)
+abbrev pub SourceStays : {S : Type 0} → SourceStream S → Type 0
+SourceStays source = Keeps (source.of.left source.old) (source.of.left source.new) × (source.of.faults source.new ≡ source.of.faults source.old)
+
+abbrev pub SinkStays : {K : Type 0} → SinkStream K → Type 0
+SinkStays out = Keeps (out.of.held out.old) (out.of.held out.new) × (out.of.faults out.new ≡ out.of.faults out.old)
 
 -- its count rose, or it stands at its last number
-abbrev pub StreamFails : {S : Type 0} → Stream S → Type 0
-StreamFails of = Rose (of.faults of.old) (of.faults of.new)
+abbrev pub SourceFails : {S : Type 0} → SourceStream S → Type 0
+SourceFails source = Rose (source.of.faults source.old) (source.of.faults source.new)
+
+abbrev pub SinkFails : {K : Type 0} → SinkStream K → Type 0
+SinkFails out = Rose (out.of.faults out.old) (out.of.faults out.new)

@@ -59,7 +59,7 @@ impl Ending {
     ///
     /// `Failed` only where their count of faults rose. They took a front of the line then.
     pub fn tell<E: Sink>(self, errors: &mut E) -> Result<(), Failed>
-        ensures { Writes E.held E.faults errors.old errors.new result (error_line self) }
+        ensures { Writes E.Sink errors.old errors.new result (error_line self) }
     {
         let mut pen = Pen::new();
         self.say(&mut pen, errors);
@@ -68,7 +68,7 @@ impl Ending {
 
     // The line of this ending.
     fn say<E: Sink>(self, pen: &mut Pen, errors: &mut E)
-        ensures { Says E.held E.faults errors.old pen.old errors.new pen.new (error_line self) }
+        ensures { Says E.Sink errors.old pen.old errors.new pen.new (error_line self) }
     {
         match self {
             Ending::Done | Ending::NotAllWell => {}
@@ -83,7 +83,7 @@ impl Ending {
 
 // `biostack: line L: NUMBER NAME`
 fn tell_refusal<E: Sink>(pen: &mut Pen, errors: &mut E, refusal: Refusal, name: &[u8])
-    ensures { Says E.held E.faults errors.old pen.old errors.new pen.new (refusal_text refusal name.now) }
+    ensures { Says E.Sink errors.old pen.old errors.new pen.new (refusal_text refusal name.now) }
 {
     let mut line_digits = Buffer::new();
     let line = line_digits.format(refusal.line).as_bytes();

@@ -1,7 +1,7 @@
 //! The text that an order is about.
 ghost use Rattle.std.specs.Prelude.{◌≡◌, None, Some};
 ghost use Rattle.biostack_top.specs.Input.{HasInput, made_by};
-ghost use Rattle.biostack_top.specs.Streams.{stream};
+ghost use Rattle.biostack_top.specs.Streams.{source_stream};
 
 use crate::ending::Ending;
 use biostack_words::Order;
@@ -33,7 +33,7 @@ fn made_by(order: Order) -> Option<u64>
 ///
 /// How the call ends without a text: `ReadFault` where the source failed, and `Memory` where there was none.
 pub(crate) fn read<S: Source>(alloc: Global, source: &mut S) -> Result<Vec<u8>, Ending>
-    ensures { HasInput None (stream S.left S.faults source.old source.new) result }
+    ensures { HasInput None (source_stream S.Source source.old source.new) result }
 {
     match read_up_to(alloc, source, LIMIT) {
         Ok(text) => Ok(text),
@@ -52,7 +52,7 @@ pub(crate) fn input<S: Source>(
     order: Order,
     source: &mut S,
 ) -> Result<Vec<u8>, Ending>
-    ensures { HasInput (made_by order) (stream S.left S.faults source.old source.new) result }
+    ensures { HasInput (made_by order) (source_stream S.Source source.old source.new) result }
 {
     let Some(number) = made_by(order) else {
         return read(alloc, source);

@@ -4,12 +4,11 @@
 ghost use Rattle.std.specs.Prelude.{◌≡◌, ◌⊎◌, ◌≤◌, is_some, true, None, Some};
 ghost use Rattle.outside_io.specs.Causes.{Rose};
 ghost use Rattle.outside_io.specs.Saying.{StopsAtFault};
-ghost use Rattle.biostack_words.specs.declared.order.Order.{Order as Orders};
 ghost use Rattle.biostack_words.specs.declared.order.Order.TheVariants.{Workers};
 ghost use Rattle.biostack_top.specs.Ending.{HadRefusedText, IsToldTo, MayFollowRun, exit_of};
-ghost use Rattle.biostack_top.specs.Calls.{AskForRefusedText, CarriesOut, CarriesOutWords, Exits, MayFollowWorkers, OrderExits, WorkersExit, given_order};
+ghost use Rattle.biostack_top.specs.Calls.{AskForRefusedText, AskForUnwell, CarriesOut, CarriesOutWords, Exits, MayFollowWorkers, OrderExits, WorkersExit, given_order};
 ghost use Rattle.biostack_top.specs.Orders.{is_alone, may_be_unwell};
-ghost use Rattle.biostack_top.specs.Streams.{call, stream};
+ghost use Rattle.biostack_top.specs.Streams.{call, sink_stream};
 
 mod ending;
 mod input;
@@ -36,7 +35,7 @@ use std::thread::Threads;
 // Tells an ending to errors, and answers its status.
 fn end<E: Sink>(ending: Ending, errors: &mut E) -> Exit
     ensures exit { result.0 ≡ exit_of ending }
-    ensures told { IsToldTo ending (stream E.held E.faults errors.old errors.new) }
+    ensures told { IsToldTo ending (sink_stream E.Sink errors.old errors.new) }
 {
     let _told = ending.tell(errors);
     ending.exit()
@@ -65,8 +64,8 @@ pub fn serve_alone<S: Source, K: Sink, E: Sink>(
 
     // How it ended is one of the causes, and what the output and the errors hold is what goes with it.
     ensures whole { OrderExits order.now result.0
-        (call S.left S.faults source.old source.new K.held K.faults out.old out.new)
-        E.held E.faults errors.old errors.new }
+        (call S.Source source.old source.new K.Sink out.old out.new)
+        E.Sink errors.old errors.new }
 
     // What each status alone says.
     ensures not_all_well { result.0 ≡ 1 → may_be_unwell order.now ≡ true }
@@ -77,11 +76,11 @@ pub fn serve_alone<S: Source, K: Sink, E: Sink>(
     ensures no_write_fault { (result.0 ≡ 5) ⊎ (K.faults out.new ≡ K.faults out.old) }
 
     // What the output holds by now it held before any fault.
-    ensures stops { StopsAtFault K.held K.faults out.old out.new }
+    ensures stops { StopsAtFault K.Sink out.old out.new }
 
     // Over a text that is not refused the order is carried out where nothing fails, but for want of memory.
     ensures complete { CarriesOut order.now result.0
-        (call S.left S.faults source.old source.new K.held K.faults out.old out.new) }
+        (call S.Source source.old source.new K.Sink out.old out.new) }
 {
     let ending = serve::serve(alloc, *order, source, out);
     end(ending, errors)
@@ -101,18 +100,18 @@ fn serve_shared<R: Threads + Wait + Sync, S: Source, K: Sink, E: Sink, G: Gate +
     requires workers { (1 ≤ workers) × (workers ≤ 16) }
     requires unshown { G.shown gate.old ≡ None }
     ensures whole { WorkersExit trace (G.shown gate.new) result.0
-        (call S.left S.faults source.old source.new K.held K.faults out.old out.new)
-        E.held E.faults errors.old errors.new }
+        (call S.Source source.old source.new K.Sink out.old out.new)
+        E.Sink errors.old errors.new }
     ensures no_usage { (result.0 ≡ 2) → ⊥ }
     ensures refused { result.0 ≡ 3 → HadRefusedText (Workers workers trace) (S.left source.old) }
     ensures read_fault { result.0 ≡ 4 → Rose (S.faults source.old) (S.faults source.new) }
     ensures no_read_fault { (result.0 ≡ 4) ⊎ (S.faults source.new ≡ S.faults source.old) }
     ensures write_fault { result.0 ≡ 5 → Rose (K.faults out.old) (K.faults out.new) }
     ensures no_write_fault { (result.0 ≡ 5) ⊎ (K.faults out.new ≡ K.faults out.old) }
-    ensures stops { StopsAtFault K.held K.faults out.old out.new }
+    ensures stops { StopsAtFault K.Sink out.old out.new }
     ensures shown { is_some (G.shown gate.new) ≡ true → MayFollowRun trace result.0 }
     ensures complete { CarriesOut (Workers workers trace) result.0
-        (call S.left S.faults source.old source.new K.held K.faults out.old out.new) }
+        (call S.Source source.old source.new K.Sink out.old out.new) }
 {
     let ending = workers::serve_workers(rt, alloc, workers, trace, source, out, gate);
     end(ending, errors)
@@ -141,13 +140,13 @@ pub fn biostack<R: Threads + Wait + Sync, S: Source, K: Sink, E: Sink, G: Gate +
 
     // How it ended is one of the causes, and what the output and the errors hold is what goes with it.
     ensures whole { Exits words.now (G.shown gate.new) result.0
-        (call S.left S.faults source.old source.new K.held K.faults out.old out.new)
-        E.held E.faults errors.old errors.new }
+        (call S.Source source.old source.new K.Sink out.old out.new)
+        E.Sink errors.old errors.new }
 
     // What each status alone says.
     ensures usage { result.0 ≡ 2 → given_order words.now ≡ None }
     ensures no_order { given_order words.now ≡ None → (result.0 ≡ 2) ⊎ (result.0 ≡ 6) }
-    ensures not_all_well { result.0 ≡ 1 → (order : Orders) × (given_order words.now ≡ Some order) × (may_be_unwell order ≡ true) }
+    ensures not_all_well { result.0 ≡ 1 → AskForUnwell words.now }
     ensures refused { result.0 ≡ 3 → AskForRefusedText words.now (S.left source.old) }
     ensures read_fault { result.0 ≡ 4 → Rose (S.faults source.old) (S.faults source.new) }
     ensures no_read_fault { (result.0 ≡ 4) ⊎ (S.faults source.new ≡ S.faults source.old) }
@@ -159,11 +158,11 @@ pub fn biostack<R: Threads + Wait + Sync, S: Source, K: Sink, E: Sink, G: Gate +
     ensures shown { is_some (G.shown gate.new) ≡ true → MayFollowWorkers words.now result.0 }
 
     // What the output holds by now it held before any fault.
-    ensures stops { StopsAtFault K.held K.faults out.old out.new }
+    ensures stops { StopsAtFault K.Sink out.old out.new }
 
     // An order over a text that is not refused is carried out where nothing fails, but for want of memory.
     ensures complete { CarriesOutWords words.now result.0
-        (call S.left S.faults source.old source.new K.held K.faults out.old out.new) }
+        (call S.Source source.old source.new K.Sink out.old out.new) }
 {
     match order::order_of(alloc, words) {
         Ok(order) => match order::workers_in(order) {

@@ -4,7 +4,7 @@ ghost use Rattle.biostack_words.specs.declared.order.Order.TheVariants as order;
 ghost use Rattle.biostack_top.specs.Ending.{TextEndsBy};
 ghost use Rattle.biostack_top.specs.Replaying.{ComeTo};
 ghost use Rattle.biostack_top.specs.Scene.{IsSaidBy};
-ghost use Rattle.biostack_top.specs.Streams.{stream};
+ghost use Rattle.biostack_top.specs.Streams.{sink_stream};
 ghost use Rattle.trace_replay.specs.Lines.{told_in};
 
 use crate::ending::Ending;
@@ -38,7 +38,7 @@ fn replayed(alloc: Global, scene: &Scene<'_>, parts: &Parts<'_>) -> Result<Repla
 
 /// Replays the lines of events of a text over the scenario before them, and tells how far they are a run of it.
 pub(crate) fn replay<K: Sink>(alloc: Global, text: &[u8], out: &mut K) -> Ending
-    ensures { TextEndsBy result order.Replay text.now (stream K.held K.faults out.old out.new) }
+    ensures { TextEndsBy result order.Replay text.now (sink_stream K.Sink out.old out.new) }
 {
     if text.len() > MOST_BYTES {
         return Ending::Refused(Reason::TooLong.at(0));

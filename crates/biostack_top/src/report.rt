@@ -5,7 +5,7 @@ ghost use Rattle.stack_base.specs.Fault.{status_eq};
 ghost use Rattle.outside_io.specs.Saying.{Writes};
 ghost use Rattle.report_text.specs.CheckText.{steps_bound};
 ghost use Rattle.report_text.specs.Views.{IsEndedOfStack};
-ghost use Rattle.biostack_top.specs.Streams.{stream};
+ghost use Rattle.biostack_top.specs.Streams.{sink_stream};
 ghost use Rattle.biostack_top.specs.Ending.{EndsReported, all_well, report_left};
 
 use crate::ending::Ending;
@@ -38,7 +38,7 @@ fn write_behind<K: Sink>(
 ) -> Result<(), Failed>
     requires ended { IsEndedOfStack scene.now.accepted.stack ended.now }
     requires bound { steps_bound scene.now.work.bound < 2 ^ 64 }
-    ensures ok { OnOk traced (Writes K.held K.faults out.old out.new result (report_left scene.now ended.now)) }
+    ensures ok { OnOk traced (Writes K.Sink out.old out.new result (report_left scene.now ended.now)) }
     ensures err { OnErr traced (IsErr result × (out.new ≡ out.old)) }
 {
     traced?;
@@ -54,7 +54,7 @@ pub(crate) fn report_behind<K: Sink>(
 ) -> Ending
     requires ended { IsEndedOfStack scene.now.accepted.stack ended.now }
     requires bound { steps_bound scene.now.work.bound < 2 ^ 64 }
-    ensures { EndsReported result traced scene.now ended.now (stream K.held K.faults out.old out.new) }
+    ensures { EndsReported result traced scene.now ended.now (sink_stream K.Sink out.old out.new) }
 {
     match write_behind(traced, ended, scene, out) {
         Err(Failed) => Ending::WriteFault,

@@ -5,7 +5,7 @@ ghost use Rattle.task_core.specs.opened.OfOne.{IsOpened, scenario_in};
 ghost use Rattle.biostack_words.specs.declared.order.Order.TheVariants as order;
 ghost use Rattle.biostack_top.specs.Scene.{IsSaid};
 ghost use Rattle.biostack_top.specs.Running.{ByNumber, HasRun, WritesRun, sectors};
-ghost use Rattle.biostack_top.specs.Streams.{stream};
+ghost use Rattle.biostack_top.specs.Streams.{sink_stream};
 ghost use Rattle.biostack_top.specs.Tracing.{traced};
 ghost use Rattle.biostack_top.specs.Ending.{TextEndsBy};
 
@@ -50,7 +50,7 @@ fn run_opened<K: Sink>(
 ) -> (Ended, Result<(), Failed>)
     requires opened { IsOpened opened }
     ensures { WritesRun (scenario_in opened) number (traced trace stack.now) result
-        (stream K.held K.faults out.old out.new) }
+        (sink_stream K.Sink out.old out.new) }
 {
     if trace {
         run_traced(opened, number, stack, out)
@@ -68,7 +68,7 @@ pub(crate) fn run<K: Sink>(
     out: &mut K,
 ) -> Ending
     requires { IsSaid scene.now }
-    ensures { TextEndsBy result (order.Run number trace) scene.now.text.now (stream K.held K.faults out.old out.new) }
+    ensures { TextEndsBy result (order.Run number trace) scene.now.text.now (sink_stream K.Sink out.old out.new) }
 {
     let Ok(opened) = open(alloc, &scene.accepted, &scene.work) else {
         return Ending::Memory;
@@ -97,7 +97,7 @@ pub(crate) fn run_made<K: Sink>(
     out: &mut K,
 ) -> Ending
     requires { IsSaid scene.now }
-    ensures { TextEndsBy result (order.Gen number false) scene.now.text.now (stream K.held K.faults out.old out.new) }
+    ensures { TextEndsBy result (order.Gen number false) scene.now.text.now (sink_stream K.Sink out.old out.new) }
 {
     let Ok(opened) = open(alloc, &scene.accepted, &scene.work) else {
         return Ending::Memory;

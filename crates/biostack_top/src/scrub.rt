@@ -5,7 +5,7 @@ ghost use Rattle.report_text.specs.CheckText.{steps_bound};
 ghost use Rattle.report_text.specs.Report.{steps_line};
 ghost use Rattle.biostack_words.specs.declared.order.Order.TheVariants as order;
 ghost use Rattle.biostack_top.specs.Scene.{IsSaid};
-ghost use Rattle.biostack_top.specs.Streams.{stream};
+ghost use Rattle.biostack_top.specs.Streams.{sink_stream};
 ghost use Rattle.biostack_top.specs.Ending.{TextEndsBy};
 
 use crate::ending::Ending;
@@ -26,8 +26,7 @@ fn steps_behind<K: Sink>(
     out: &mut K,
 ) -> Result<(), Failed>
     requires { steps_bound bound.now < 2 ^ 64 }
-    ensures ok { OnOk told (Writes K.held K.faults out.old out.new result
-        (steps_line steps (steps_bound bound.now))) }
+    ensures ok { OnOk told (Writes K.Sink out.old out.new result (steps_line steps (steps_bound bound.now))) }
     ensures err { OnErr told (IsErr result × (out.new ≡ out.old)) }
 {
     told?;
@@ -37,7 +36,7 @@ fn steps_behind<K: Sink>(
 /// Runs the scene's writes to their end by the schedule of a number, and tells where the members of its mirrors differ in what the run left.
 pub(crate) fn scrub<K: Sink>(alloc: Global, number: u64, scene: &Scene<'_>, out: &mut K) -> Ending
     requires { IsSaid scene.now }
-    ensures { TextEndsBy result (order.Scrub number) scene.now.text.now (stream K.held K.faults out.old out.new) }
+    ensures { TextEndsBy result (order.Scrub number) scene.now.text.now (sink_stream K.Sink out.old out.new) }
 {
     let Ok(opened) = open(alloc, &scene.accepted, &scene.work) else {
         return Ending::Memory;

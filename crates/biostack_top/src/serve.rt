@@ -6,7 +6,7 @@ ghost use Rattle.biostack_top.specs.Scene.{IsSaid};
 ghost use Rattle.biostack_top.specs.Orders.{is_alone, is_shown};
 ghost use Rattle.biostack_top.specs.Ending.{OrderEndsBy, TextEndsBy};
 ghost use Rattle.biostack_top.specs.Input.{IsMadeText, made_by};
-ghost use Rattle.biostack_top.specs.Streams.{call, stream};
+ghost use Rattle.biostack_top.specs.Streams.{call, sink_stream};
 
 use crate::ending::Ending;
 use crate::input::input;
@@ -25,7 +25,7 @@ use std::alloc::Global;
 // Tells the scene's devices, and what its writes need.
 fn check<K: Sink>(scene: &Scene<'_>, out: &mut K) -> Ending
     requires { IsSaid scene.now }
-    ensures { TextEndsBy result order.Check scene.now.text.now (stream K.held K.faults out.old out.new) }
+    ensures { TextEndsBy result order.Check scene.now.text.now (sink_stream K.Sink out.old out.new) }
 {
     match write_check(&scene.accepted.stack, &scene.work.bound, out) {
         Ok(()) => Ending::Done,
@@ -36,7 +36,7 @@ fn check<K: Sink>(scene: &Scene<'_>, out: &mut K) -> Ending
 // Tells where the scene's writes go.
 fn layout<K: Sink>(alloc: Global, scene: &Scene<'_>, out: &mut K) -> Ending
     requires { IsSaid scene.now }
-    ensures { TextEndsBy result order.Layout scene.now.text.now (stream K.held K.faults out.old out.new) }
+    ensures { TextEndsBy result order.Layout scene.now.text.now (sink_stream K.Sink out.old out.new) }
 {
     let Ok(fragments) = layout_lines(alloc, &scene.accepted.stack, &scene.work.writes) else {
         return Ending::Memory;
@@ -49,7 +49,7 @@ fn layout<K: Sink>(alloc: Global, scene: &Scene<'_>, out: &mut K) -> Ending
 
 // Shows a text that a number made.
 fn show<K: Sink>(text: &[u8], out: &mut K) -> Result<(), Failed>
-    ensures { Writes K.held K.faults out.old out.new result text.now }
+    ensures { Writes K.Sink out.old out.new result text.now }
 {
     let mut pen = Pen::new();
     pen.put(out, &[text]);
@@ -60,7 +60,7 @@ fn show<K: Sink>(text: &[u8], out: &mut K) -> Result<(), Failed>
 fn tell_text<K: Sink>(order: Order, text: &[u8], out: &mut K) -> Ending
     requires shown { is_shown order ≡ true }
     requires made { IsMadeText (made_by order) text.now }
-    ensures { TextEndsBy result order text.now (stream K.held K.faults out.old out.new) }
+    ensures { TextEndsBy result order text.now (sink_stream K.Sink out.old out.new) }
 {
     match show(text, out) {
         Ok(()) => Ending::Done,
@@ -72,7 +72,7 @@ fn tell_text<K: Sink>(order: Order, text: &[u8], out: &mut K) -> Ending
 fn serve_text<K: Sink>(alloc: Global, order: Order, text: &[u8], out: &mut K) -> Ending
     requires alone { is_alone order ≡ true }
     requires made { IsMadeText (made_by order) text.now }
-    ensures { TextEndsBy result order text.now (stream K.held K.faults out.old out.new) }
+    ensures { TextEndsBy result order text.now (sink_stream K.Sink out.old out.new) }
 {
     if is_shown(order) {
         return tell_text(order, text, out);
@@ -98,7 +98,7 @@ fn serve_text<K: Sink>(alloc: Global, order: Order, text: &[u8], out: &mut K) ->
 /// Carries out an order, and tells how that ended.
 pub fn serve<S: Source, K: Sink>(alloc: Global, order: Order, source: &mut S, out: &mut K) -> Ending
     requires { is_alone order ≡ true }
-    ensures { OrderEndsBy result order (call S.left S.faults source.old source.new K.held K.faults out.old out.new) }
+    ensures { OrderEndsBy result order (call S.Source source.old source.new K.Sink out.old out.new) }
 {
     match input(alloc, order, source) {
         Ok(text) => serve_text(alloc, order, &text, out),

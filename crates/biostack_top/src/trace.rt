@@ -1,12 +1,11 @@
 //! Tells a pen the line of each event: as it happens, or of events that were kept.
-ghost use Rattle.std.specs.Prelude.{◌≡◌, All, Bool, List, [], false, true, MatchResult};
+ghost use Rattle.std.specs.Prelude.{◌≡◌, All, [], false, true, MatchResult};
 ghost use Rattle.outside_io.specs.Saying.{Says, Writes};
-ghost use Rattle.run_machine.specs.declared.event.Event.{Event as Happening};
 ghost use Rattle.task_core.specs.opened.OfOne.{IsOpened, scenario_in};
 ghost use Rattle.biostack_top.specs.Running.{WritesRun};
-ghost use Rattle.biostack_top.specs.Streams.{stream};
+ghost use Rattle.biostack_top.specs.Streams.{sink_stream};
 ghost use Rattle.run_machine.specs.Named.{Fits};
-ghost use Rattle.biostack_top.specs.Tracing.{IsTraceOf, WritesKept, event_line, event_lines};
+ghost use Rattle.biostack_top.specs.Tracing.{FitsKept, WritesKept, event_line, event_lines};
 
 use arrayvec::ArrayVec;
 use outside_io::{Failed, Pen, Sink};
@@ -30,7 +29,7 @@ fn fits(event: Event)
 
 // Tells the line of an event, with the byte 10 that ends it.
 fn write_line<K: Sink>(pen: &mut Pen, out: &mut K, stack: &Stack, event: &Event)
-    ensures says { Says K.held K.faults out.old pen.old out.new pen.new (event_line stack.now event.now) }
+    ensures says { Says K.Sink out.old pen.old out.new pen.new (event_line stack.now event.now) }
     ensures fits { Fits event.now }
 {
     fits(*event);
@@ -54,7 +53,7 @@ impl<'k, 's, K> Drop for Trace<'k, 's, K> {
 impl<'k, 's, K: Sink> Events for Trace<'k, 's, K> {
     ghost use Rattle.biostack_top.specs.Tracing.{WritesLine};
 
-    ghost happens = { WritesLine K.held K.faults };
+    ghost happens = { WritesLine K.Sink };
 
     fn event(&mut self, event: &Event) {
         write_line(&mut self.pen, self.out, self.stack, event);
@@ -65,7 +64,7 @@ impl<'k, 's, K: Sink> Trace<'k, 's, K> {
     // Hands on what waits in the pen. An error says that the sink has failed, now or before.
     fn finish(&mut self) -> Result<(), Failed>
         ensures same_reference { self.new.out.ghost_name ≡ self.old.out.ghost_name }
-        ensures says { Says K.held K.faults self.old.out.now self.old.pen self.new.out.now self.new.pen [] }
+        ensures says { Says K.Sink self.old.out.now self.old.pen self.new.out.now self.new.pen [] }
         ensures handed { self.new.pen.pending ≡ [] }
         ensures failed { MatchResult result (λ _. self.new.pen.failed ≡ false) (λ _. self.new.pen.failed ≡ true) }
     {
@@ -83,7 +82,7 @@ pub(crate) fn run_traced<K: Sink>(
 ) -> (Ended, Result<(), Failed>)
     requires opened { IsOpened opened }
     ensures { WritesRun (scenario_in opened) number (event_lines stack.now) result
-        (stream K.held K.faults out.old out.new) }
+        (sink_stream K.Sink out.old out.new) }
 {
     let mut schedule = Schedule::new(number);
     let mut trace = Trace {
@@ -98,7 +97,7 @@ pub(crate) fn run_traced<K: Sink>(
 
 // Tells the lines of events, in their order.
 fn write_lines<K: Sink>(pen: &mut Pen, out: &mut K, stack: &Stack, events: &[Event])
-    ensures says { Says K.held K.faults out.old pen.old out.new pen.new (event_lines stack.now events.now) }
+    ensures says { Says K.Sink out.old pen.old out.new pen.new (event_lines stack.now events.now) }
     ensures fits { All Fits events.now }
 {
     'telling: for event in events {
@@ -108,7 +107,7 @@ fn write_lines<K: Sink>(pen: &mut Pen, out: &mut K, stack: &Stack, events: &[Eve
 
 // Writes the lines of events, in their order.
 fn write_events<K: Sink>(events: &[Event], stack: &Stack, out: &mut K) -> Result<(), Failed>
-    ensures written { Writes K.held K.faults out.old out.new result (event_lines stack.now events.now) }
+    ensures written { Writes K.Sink out.old out.new result (event_lines stack.now events.now) }
     ensures fits { All Fits events.now }
 {
     let mut pen = Pen::new();
@@ -123,8 +122,8 @@ pub(crate) fn write_trace<K: Sink>(
     stack: &Stack,
     out: &mut K,
 ) -> Result<(), Failed>
-    ensures written { WritesKept kept.now stack.now result (stream K.held K.faults out.old out.new) }
-    ensures fits { (trace : Bool) (events : List Happening) → IsTraceOf trace events kept.now → trace ≡ true → All Fits events }
+    ensures written { WritesKept kept.now stack.now result (sink_stream K.Sink out.old out.new) }
+    ensures fits { FitsKept kept.now }
 {
     match kept {
         Some(events) => write_events(events, stack, out),

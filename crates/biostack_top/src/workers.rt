@@ -5,7 +5,7 @@ ghost use Rattle.shared_objects.specs.Shared.{SharedHolds};
 ghost use Rattle.biostack_top.specs.Ending.{SharedEndsBy, WorkersEndBy};
 ghost use Rattle.biostack_top.specs.Running.{ShowsOutcome};
 ghost use Rattle.biostack_top.specs.Scene.{IsSaid};
-ghost use Rattle.biostack_top.specs.Streams.{call, stream};
+ghost use Rattle.biostack_top.specs.Streams.{call, sink_stream};
 
 use crate::ending::Ending;
 use crate::input::read;
@@ -53,7 +53,7 @@ fn run_scene<R: Threads + Wait + Sync, K: Sink, G: Gate + Sync>(
     requires said { IsSaid scene.now }
     requires workers { (1 ≤ workers) × (workers ≤ 16) }
     requires unshown { G.shown gate.old ≡ None }
-    ensures { SharedEndsBy result trace (G.shown gate.new) scene.now.text.now (stream K.held K.faults out.old out.new) }
+    ensures { SharedEndsBy result trace (G.shown gate.new) scene.now.text.now (sink_stream K.Sink out.old out.new) }
 {
     let Ok(opened) = open(alloc, &scene.accepted, &scene.work) else {
         return Ending::Memory;
@@ -81,7 +81,7 @@ fn serve_text<R: Threads + Wait + Sync, K: Sink, G: Gate + Sync>(
 ) -> Ending
     requires workers { (1 ≤ workers) × (workers ≤ 16) }
     requires unshown { G.shown gate.old ≡ None }
-    ensures { SharedEndsBy result trace (G.shown gate.new) text.now (stream K.held K.faults out.old out.new) }
+    ensures { SharedEndsBy result trace (G.shown gate.new) text.now (sink_stream K.Sink out.old out.new) }
 {
     match read_scene(alloc, text, false) {
         Ok(scene) => run_scene(rt, alloc, workers, trace, &scene, out, gate),
@@ -104,7 +104,7 @@ pub(crate) fn serve_workers<R: Threads + Wait + Sync, S: Source, K: Sink, G: Gat
     requires workers { (1 ≤ workers) × (workers ≤ 16) }
     requires unshown { G.shown gate.old ≡ None }
     ensures { WorkersEndBy result trace (G.shown gate.new)
-        (call S.left S.faults source.old source.new K.held K.faults out.old out.new) }
+        (call S.Source source.old source.new K.Sink out.old out.new) }
 {
     match read(alloc, source) {
         Ok(text) => serve_text(rt, alloc, workers, trace, &text, out, gate),

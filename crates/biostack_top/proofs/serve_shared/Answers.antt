@@ -1,14 +1,14 @@
 -- A text that is refused was read, and nothing was written behind a fault.
 use Rattle.std.proofs.Common.{◌∙◌, sym}
-use Rattle.biostack_top.specs.Streams.{CallStreams, stream}
+use Rattle.biostack_top.specs.Streams.{CallStreams, sink_stream, source_stream}
 use Rattle.biostack_top.proofs.EndingLemmas.{refused_workers, stops_with_workers}
 use Rattle.biostack_top.proofs.serve_shared.Goals as goal
 
 pub returns-clause-refused : goal.returns-clause-refused
 returns-clause-refused g c = λ is.
     let call : CallStreams g.row.S.Denot g.row.K.Denot = record {
-      source = stream g.S.Source.left g.S.Source.faults c.args.source.now c.serve_workers-ending.new.source;
-      out = stream g.K.Sink.held g.K.Sink.faults c.args.out.now c.serve_workers-ending.new.out;
+      source = source_stream g.S.Source c.args.source.now c.serve_workers-ending.new.source;
+      out = sink_stream g.K.Sink c.args.out.now c.serve_workers-ending.new.out;
     } in
     refused_workers c.args.trace (g.G.Gate.shown c.serve_workers-ending.new.gate) call c.args.workers c.serve_workers-ending.result
     c.serve_workers-ending.ensures
@@ -17,7 +17,7 @@ returns-clause-refused g c = λ is.
 pub returns-clause-stops : goal.returns-clause-stops
 returns-clause-stops g c =
     let call : CallStreams g.row.S.Denot g.row.K.Denot = record {
-      source = stream g.S.Source.left g.S.Source.faults c.args.source.now c.serve_workers-ending.new.source;
-      out = stream g.K.Sink.held g.K.Sink.faults c.args.out.now c.serve_workers-ending.new.out;
+      source = source_stream g.S.Source c.args.source.now c.serve_workers-ending.new.source;
+      out = sink_stream g.K.Sink c.args.out.now c.serve_workers-ending.new.out;
     } in
     stops_with_workers c.args.trace (g.G.Gate.shown c.serve_workers-ending.new.gate) call c.serve_workers-ending.result c.serve_workers-ending.ensures

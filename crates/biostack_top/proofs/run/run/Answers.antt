@@ -6,7 +6,7 @@ use Rattle.report_text.specs.CheckText.{steps_bound}
 use Rattle.report_text.specs.Report.{report}
 use Rattle.report_text.specs.Views.{told_of}
 use Rattle.biostack_top.specs.Running.{ByNumber, HasRun}
-use Rattle.biostack_top.specs.Streams.{stream}
+use Rattle.biostack_top.specs.Streams.{sink_stream}
 use Rattle.biostack_top.specs.Tracing.{traced}
 use Rattle.biostack_top.specs.Ending.{TellsRun, all_well}
 use Rattle.biostack_top.proofs.RunningLemmas.{few_steps, is_of}
@@ -36,6 +36,6 @@ returns g c =
     let lines = traced c.args.trace scene.accepted.stack by.0 in
     let left = report scene.accepted.stack (told_of ended (steps_bound scene.work.bound)) in
     ends_written c.report_behind.result (text_refusal scene.text.now) (TellsRun maker c.args.trace scene.text.now) (lines ++ left) (all_well ended.statuses.items)
-    (stream g.K.Sink.held g.K.Sink.faults c.args.out.now c.report_behind.new.out) c.requires.fine
+    (sink_stream g.K.Sink c.args.out.now c.report_behind.new.out) c.requires.fine
     (tells_run scene.text.now scene.accepted scene.work c.requires maker by.0 ended has c.args.trace (λ is. has.made.1))
     (c.report_behind.ensures c.args.out.now lines by.2)

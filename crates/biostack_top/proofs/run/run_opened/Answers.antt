@@ -13,7 +13,7 @@ returns-then-trace g c =
       by.0,
       by.1,
       subst
-          (λ (text : List ℕ). Writes g.K.Sink.held g.K.Sink.faults c.args.out.now c.run_traced.new.out c.run_traced.result.1 text)
+          (λ (text : List ℕ). Writes g.K.Sink c.args.out.now c.run_traced.new.out c.run_traced.result.1 text)
           (ap (λ trace. traced trace c.args.stack.now by.0) (sym c.if-trace.true)) by.2,
     )
 
@@ -22,7 +22,7 @@ returns-else-trace g c =
     let by = c.run_quiet.ensures in (
       by.0,
       by.1,
-      subst (λ (text : List ℕ). Writes {E = Failed} g.K.Sink.held g.K.Sink.faults c.args.out.now c.args.out.now (Ok tt) text)
+      subst (λ (text : List ℕ). Writes {E = Failed} g.K.Sink c.args.out.now c.args.out.now (Ok tt) text)
           (ap (λ trace. traced trace c.args.stack.now by.0) (sym c.if-trace.false))
-          (nothing_written g.K.Sink.held g.K.Sink.faults c.args.out.now),
+          (nothing_written g.K.Sink c.args.out.now),
     )

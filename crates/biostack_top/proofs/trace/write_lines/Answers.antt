@@ -17,7 +17,7 @@ abbrev no_event : Event
 no_event = record { task = Writer 0; what = Take FsBios Ordinary }
 
 pub telling-init : goal.telling-init
-telling-init g c = (says_silence g.K.Sink.held g.K.Sink.faults c.args.out.now c.args.pen.now, All-nil Fits)
+telling-init g c = (says_silence g.K.Sink c.args.out.now c.args.pen.now, All-nil Fits)
 
 pub telling-preserved : goal.telling-preserved
 telling-preserved g c = (

@@ -8,5 +8,5 @@ use Rattle.biostack_top.proofs.trace.write_lines.Given as goal
 -- the lines of the events so far, whose numbers fit
 abbrev pub invariant-telling : goal.invariant-telling
 invariant-telling g l =
-    Says g.K.Sink.held g.K.Sink.faults l.fn.out l.fn.pen l.out l.pen (flat_map (event_line l.stack) (take l.event-index l.events))
+    Says g.K.Sink l.fn.out l.fn.pen l.out l.pen (flat_map (event_line l.stack) (take l.event-index l.events))
     × All Fits (take l.event-index l.events)

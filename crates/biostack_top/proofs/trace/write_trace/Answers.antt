@@ -10,5 +10,5 @@ use Rattle.biostack_top.proofs.trace.write_trace.Goals as goal
 pub returns-in-None-clause-written : goal.returns-in-None-clause-written
 returns-in-None-clause-written g c trace events is =
     let none : trace ≡ false = sym is.0 ∙ ap is_some c.in-None.is in
-    subst (λ (b : Bool). Writes {E = Failed} g.K.Sink.held g.K.Sink.faults c.args.out.now c.args.out.now (Ok tt) (traced b c.args.stack.now events))
-    (sym none) (nothing_written g.K.Sink.held g.K.Sink.faults c.args.out.now)
+    subst (λ (b : Bool). Writes {E = Failed} g.K.Sink c.args.out.now c.args.out.now (Ok tt) (traced b c.args.stack.now events))
+    (sym none) (nothing_written g.K.Sink c.args.out.now)

@@ -10,7 +10,7 @@ use Rattle.report_text.specs.Views.{told_of}
 use Rattle.bio_workers.specs.Gates.{Showing}
 use Rattle.biostack_top.specs.Ending.{TellsShown, all_well}
 use Rattle.biostack_top.specs.Running.{ByThreads, HasRun, IsShownOf}
-use Rattle.biostack_top.specs.Streams.{stream}
+use Rattle.biostack_top.specs.Streams.{sink_stream}
 use Rattle.biostack_top.specs.Tracing.{IsTraceOf, traced}
 use Rattle.biostack_top.proofs.RunningLemmas.{few_steps, is_of}
 use Rattle.biostack_top.proofs.ServeLemmas.{ends_shared}
@@ -58,6 +58,6 @@ returns g c =
     let well = all_well outcome.ended.statuses.items in
     let told = tells_run text scene.accepted scene.work c.requires.said maker events outcome.ended has trace (c.write_trace-traced.ensures.fits trace events kept) in
     ends_shared c.report_behind.result trace (g.G.Gate.shown c.run_shown.new.gate) text (lines ++ left) well
-    (stream g.K.Sink.held g.K.Sink.faults c.args.out.now c.report_behind.new.out) c.requires.said.fine
+    (sink_stream g.K.Sink c.args.out.now c.report_behind.new.out) c.requires.said.fine
     (subst (λ (o : Option Showing). TellsShown trace o text (lines ++ left) well) (sym by.1) told)
     (c.report_behind.ensures c.args.out.now lines (c.write_trace-traced.ensures.written trace events kept))

@@ -5,7 +5,7 @@ use Rattle.biostack_top.proofs.ending.Ending.say.Goals as goal
 
 pub returns-in-Done : goal.returns-in-Done
 returns-in-Done g c =
-    let silence = says_silence g.E.Sink.held g.E.Sink.faults c.args.errors.now c.args.pen.now in
+    let silence = says_silence g.E.Sink c.args.errors.now c.args.pen.now in
     elim c.in-Done.is [ inl done ↦ rw done silence | inr done ↦ rw done silence ]
 
 pub returns-in-Usage : goal.returns-in-Usage
