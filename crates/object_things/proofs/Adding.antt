@@ -38,7 +38,7 @@ module _ {O : Type 0} (mark : Held O → MarkState) (serves : O → Request → 
     (one : (old mid : ThingState O) (call : Call) (ticket : Option ℕ) (new : O) (rest : List Call) → StepOf serves looks old call.asked call.told.reply ticket mid → adds_up mid.object rest new → adds_up old.object (call ∷ rest) new) where
   along : (old new : ThingState O) (history : List Call) → Leads (Answers serves looks) old history new → adds_up old.object history new.object
   along old new [] l = subst (λ (k : ThingState O). adds_up old.object [] k.object) l (still old.object)
-  along old new (c ∷ cs) l = one old l.0 c c.told.ticket new.object cs l.1.step (along l.0 new cs l.2)
+  along old new (c ∷ cs) l = one old l.0 c c.told.drawn new.object cs l.1.step (along l.0 new cs l.2)
 
   abbrev homes_tail : List (option.Option (Held O)) → option.Option (Held O) → option.Option (Held O)
   homes_tail [] d = d

@@ -1,14 +1,42 @@
--- Tickets rise along a history, and the calls that drew one are a run.
-use Rattle.std.proofs.Common.{◌≡◌, ℕ, inl, inr, true, false, cond, List, [], ◌∷◌, Option, Some, None, refl, sym, ◌∙◌, ap, subst}
+-- Tickets rise along a history, and the calls that drew one are a run, as are those whose entries carry one.
+use Rattle.std.proofs.Common.{◌≡◌, ◌≤◌, ℕ, inl, inr, true, false, cond, List, [], ◌∷◌, All, Option, Some, None, refl, sym, ◌∙◌, ap, subst, arith}
 use Rattle.std.specs.Option.{is_some}
+use Rattle.std.proofs.lemmas.List.Elements.{All-nil, All-cons, All-head, All-tail}
 use Rattle.seat_lock.specs.History.{Leads}
+use Rattle.run_machine.specs.declared.event.What.{What}
 use Rattle.run_machine.specs.Events.{what_of}
 use Rattle.run_machine.specs.Requests.{Request, Reply, Spent}
-use Rattle.object_things.specs.Stamps.{ThingState, StepOf, Answers}
-use Rattle.object_things.specs.Histories.{Call, IsNextTicket, or_last, TicketsRise, drawn_in, IsQuiet, LeadDrawn, DrawnRun, KeepsHistory, StaysSpent}
+use Rattle.object_things.specs.Stamps.{ThingState, StepOf, Answers, carried}
+use Rattle.object_things.specs.Histories.{Call, IsNextTicket, or_last, TicketsRise, CarriedRise, drawn_in, ticketed_in, CarriesItsOwn, IsQuiet, LeadDrawn, DrawnRun, KeepsHistory, StaysSpent}
+
+-- an entry carries no ticket of a call that drew none
+carried_none : (what : Option What) → carried what None ≡ None
+carried_none None = refl
+carried_none (Some what) = refl
+
+uncarried : (what : Option What) (drawn ticket : Option ℕ) → ticket ≡ carried what drawn → is_some drawn ≡ false → is_some ticket ≡ false
+uncarried None drawn ticket t none = ap is_some t
+uncarried (Some what) drawn ticket t none = ap is_some t ∙ none
+
+-- what entries carry rises where what was drawn does
+carried_rise : (last low end : ℕ) (cs : List Call) → low ≤ last → TicketsRise last cs end → All CarriesItsOwn cs → CarriedRise low cs end
+carried_rise last low end [] under rises all = subst (λ n. low ≤ n) rises under
+carried_rise last low end (c ∷ cs) under rises all =
+    by_two (what_of c.asked c.told.reply) c.told.drawn (All-head CarriesItsOwn c cs all) rises.0 rises.1
+    (λ next lower below up. carried_rise next lower end cs below up (All-tail CarriesItsOwn c cs all))
+  where
+    Rises : Option ℕ → Type 0
+    Rises ticket = IsNextTicket low ticket × CarriedRise (or_last low ticket) cs end
+
+    by_two : (what : Option What) (drawn : Option ℕ) → c.told.ticket ≡ carried what drawn → IsNextTicket last drawn → TicketsRise (or_last last drawn) cs end
+        → ((next lower : ℕ) → lower ≤ next → TicketsRise next cs end → CarriedRise lower cs end) → Rises c.told.ticket
+    by_two (Some what) (Some n) t above up more = subst Rises (sym t) (omega (arith, under, above), more n n (omega arith) up)
+    by_two None (Some n) t above up more = subst Rises (sym t) (tt, more n low (omega (arith, under, above)) up)
+    by_two what None t above up more = subst Rises (sym (t ∙ carried_none what)) (tt, more last low under up)
 
 module _ {O : Type 0} (serves : O → Request → Reply → O → Type 0) (looks : ThingState O → Request → Reply → ThingState O → Type 0)
-    (quiet : (old new : ThingState O) (asked : Request) (reply : Reply) → looks old asked reply new → IsQuiet old reply (what_of asked reply) new) where
+    (quiet : (old new : ThingState O) (asked : Request) (reply : Reply) → looks old asked reply new → IsQuiet old reply (what_of asked reply) new)
+    (refused : (old new : O) (asked : Request) (reply : Reply) → serves old asked reply new → what_of asked reply ≡ None → new ≡ old) where
   next_of : (old new : ThingState O) (asked : Request) (reply : Reply) (ticket : Option ℕ) → StepOf serves looks old asked reply ticket new
       → IsNextTicket old.note ticket × (new.note ≡ or_last old.note ticket)
   next_of old new asked reply None s = (tt, s.1)
@@ -17,8 +45,15 @@ module _ {O : Type 0} (serves : O → Request → Reply → O → Type 0) (looks
   rises : (old new : ThingState O) (history : List Call) → Leads (Answers serves looks) old history new → TicketsRise old.note history new.note
   rises old new [] l = ap (λ (k : ThingState O). k.note) l
   rises old new (c ∷ cs) l =
-      let here = next_of old l.0 c.asked c.told.reply c.told.ticket l.1.step in
+      let here = next_of old l.0 c.asked c.told.reply c.told.drawn l.1.step in
       (here.0, subst (λ n. TicketsRise n cs new.note) here.1 (rises l.0 new cs l.2))
+
+  carry : (old new : ThingState O) (history : List Call) → Leads (Answers serves looks) old history new → All CarriesItsOwn history
+  carry old new [] l = All-nil CarriesItsOwn
+  carry old new (c ∷ cs) l = All-cons CarriesItsOwn c cs l.1.ticket (carry l.0 new cs l.2)
+
+  entries : (old new : ThingState O) (history : List Call) → Leads (Answers serves looks) old history new → CarriedRise old.note history new.note
+  entries old new history l = carried_rise old.note old.note new.note history (omega arith) (rises old new history l) (carry old new history l)
 
   none_left : (old new : ThingState O) (asked : Request) (reply : Reply) (ticket : Option ℕ) → StepOf serves looks old asked reply ticket new → old.spent ≡ true
       → (is_some ticket ≡ false) × (new.spent ≡ true)
@@ -27,39 +62,62 @@ module _ {O : Type 0} (serves : O → Request → Reply → O → Type 0) (looks
 
   -- where a draw found no ticket, no call draws one later
   none_drawn : (old new : ThingState O) (history : List Call) → old.spent ≡ true → Leads (Answers serves looks) old history new
-      → (drawn_in history ≡ []) × (new.spent ≡ true)
-  none_drawn old new [] h l = (refl, sym (ap (λ (k : ThingState O). k.spent) l) ∙ h)
+      → (drawn_in history ≡ []) × (ticketed_in history ≡ []) × (new.spent ≡ true)
+  none_drawn old new [] h l = (refl, refl, sym (ap (λ (k : ThingState O). k.spent) l) ∙ h)
   none_drawn old new (c ∷ cs) h l =
-      let here = none_left old l.0 c.asked c.told.reply c.told.ticket l.1.step h in
-      let rest = none_drawn l.0 new cs here.1 l.2 in
-      (ap (λ b. cond b (c ∷ drawn_in cs) (drawn_in cs)) here.0 ∙ rest.0, rest.1)
+      let here = none_left old l.0 c.asked c.told.reply c.told.drawn l.1.step h in
+      let rest = none_drawn l.0 new cs here.1 l.2 in (
+        ap (λ b. cond b (c ∷ drawn_in cs) (drawn_in cs)) here.0 ∙ rest.0,
+        ap (λ b. cond b (c ∷ ticketed_in cs) (ticketed_in cs)) (uncarried (what_of c.asked c.told.reply) c.told.drawn c.told.ticket l.1.ticket here.0) ∙ rest.1,
+        rest.2,
+      )
 
-  one_more : (old mid new : ThingState O) (c : Call) (cs : List Call) (ticket : Option ℕ) → c.told.ticket ≡ ticket
-      → StepOf serves looks old c.asked c.told.reply ticket mid → Leads (Answers serves looks) mid cs new → DrawnRun serves mid new cs → DrawnRun serves old new (c ∷ cs)
-  one_more old mid new c cs (Some n) t s l r = record {
+  -- a run goes on behind a call that is among those of it, or leaves out one that changed nothing
+  goes : (old mid : ThingState O) (c : Call) (rest : List Call) (last : O) (ticket : Option ℕ) → is_some ticket ≡ true → serves old.object c.asked c.told.reply mid.object
+      → LeadDrawn serves mid.object rest last → LeadDrawn serves old.object (cond (is_some ticket) (c ∷ rest) rest) last
+  goes old mid c rest last ticket is served run = subst (λ b. LeadDrawn serves old.object (cond b (c ∷ rest) rest) last) (sym is) (mid.object, served, run)
+
+  passes : (old mid : O) (c : Call) (rest : List Call) (last : O) (ticket : Option ℕ) → is_some ticket ≡ false → mid ≡ old → LeadDrawn serves mid rest last
+      → LeadDrawn serves old (cond (is_some ticket) (c ∷ rest) rest) last
+  passes old mid c rest last ticket is same run = subst (λ b. LeadDrawn serves old (cond b (c ∷ rest) rest) last) (sym is) (subst (λ x. LeadDrawn serves x rest last) same run)
+
+  one_more : (old mid new : ThingState O) (c : Call) (cs : List Call) (what : Option What) (drawn : Option ℕ) → what_of c.asked c.told.reply ≡ what → c.told.drawn ≡ drawn
+      → c.told.ticket ≡ carried what drawn → StepOf serves looks old c.asked c.told.reply drawn mid → Leads (Answers serves looks) mid cs new → DrawnRun serves mid new cs
+      → DrawnRun serves old new (c ∷ cs)
+  one_more old mid new c cs (Some what) (Some n) w d t s l r = record {
     last = r.last;
-    run = subst (λ x. LeadDrawn serves old.object (cond (is_some x) (c ∷ drawn_in cs) (drawn_in cs)) r.last) (sym t) (mid.object, s.0, r.run);
+    run = goes old mid c (drawn_in cs) r.last c.told.drawn (ap is_some d) s.0 r.run;
+    entries = goes old mid c (ticketed_in cs) r.last c.told.ticket (ap is_some t) s.0 r.entries;
     ends = r.ends;
   }
-  one_more old mid new c cs None t s l r = elim ((quiet old mid c.asked c.told.reply s.0).keeps) [
-    | inl same ↦ record {
-      last = r.last;
-      run = subst (λ x. LeadDrawn serves old.object (cond (is_some x) (c ∷ drawn_in cs) (drawn_in cs)) r.last) (sym t) (subst (λ x. LeadDrawn serves x (drawn_in cs) r.last) same r.run);
-      ends = r.ends;
-    }
-    | inr spent ↦ (let none = none_drawn mid new cs spent.1 l in record {
-      last = old.object;
-      run = subst (λ x. LeadDrawn serves old.object (cond (is_some x) (c ∷ drawn_in cs) (drawn_in cs)) old.object) (sym t) (subst (λ x. LeadDrawn serves old.object x old.object) (sym none.0) refl);
-      ends = λ h. absurd (cc (none.1, h));
-    })
-  ]
+  one_more old mid new c cs None (Some n) w d t s l r = record {
+    last = r.last;
+    run = goes old mid c (drawn_in cs) r.last c.told.drawn (ap is_some d) s.0 r.run;
+    entries = passes old.object mid.object c (ticketed_in cs) r.last c.told.ticket (ap is_some t) (refused old.object mid.object c.asked c.told.reply s.0 w) r.entries;
+    ends = r.ends;
+  }
+  one_more old mid new c cs what None w d t s l r =
+      let bare : is_some c.told.ticket ≡ false = ap is_some (t ∙ carried_none what) in elim ((quiet old mid c.asked c.told.reply s.0).keeps) [
+        | inl same ↦ record {
+          last = r.last;
+          run = passes old.object mid.object c (drawn_in cs) r.last c.told.drawn (ap is_some d) same r.run;
+          entries = passes old.object mid.object c (ticketed_in cs) r.last c.told.ticket bare same r.entries;
+          ends = r.ends;
+        }
+        | inr spent ↦ (let none = none_drawn mid new cs spent.1 l in record {
+          last = old.object;
+          run = passes old.object old.object c (drawn_in cs) old.object c.told.drawn (ap is_some d) refl (subst (λ x. LeadDrawn serves old.object x old.object) (sym none.0) refl);
+          entries = passes old.object old.object c (ticketed_in cs) old.object c.told.ticket bare refl (subst (λ x. LeadDrawn serves old.object x old.object) (sym none.1) refl);
+          ends = λ h. absurd (cc (none.2, h));
+        })
+      ]
 
   runs : (old new : ThingState O) (history : List Call) → Leads (Answers serves looks) old history new → DrawnRun serves old new history
-  runs old new [] l = record { last = old.object; run = refl; ends = λ h. ap (λ (k : ThingState O). k.object) l }
-  runs old new (c ∷ cs) l = one_more old l.0 new c cs c.told.ticket refl l.1.step l.2 (runs l.0 new cs l.2)
+  runs old new [] l = record { last = old.object; run = refl; entries = refl; ends = λ h. ap (λ (k : ThingState O). k.object) l }
+  runs old new (c ∷ cs) l = one_more old l.0 new c cs (what_of c.asked c.told.reply) c.told.drawn refl refl l.1.ticket l.1.step l.2 (runs l.0 new cs l.2)
 
   pub keeps_history : KeepsHistory serves looks
-  keeps_history = record { rises = rises; runs = runs; quiet = quiet }
+  keeps_history = record { rises = rises; runs = runs; quiet = quiet; refused = refused; carry = carry; entries = entries }
 
   module _ (unserved : (old : O) (asked : Request) (new : O) → serves old asked Spent new → ⊥)
       (found : (old new : ThingState O) (asked : Request) → looks old asked Spent new → new.spent ≡ true) where
@@ -70,11 +128,12 @@ module _ {O : Type 0} (serves : O → Request → Reply → O → Type 0) (looks
     told_none old new asked reply (Some n) is s = absurd (unserved old.object asked new.object (subst (λ r. serves old.object asked r new.object) is s.0))
 
     follows : (old new : ThingState O) (call : Call) (rest : List Call) → Leads (Answers serves looks) old (call ∷ rest) new → call.told.reply ≡ Spent
-        → (drawn_in (call ∷ rest) ≡ []) × (new.spent ≡ true)
+        → (drawn_in (call ∷ rest) ≡ []) × (ticketed_in (call ∷ rest) ≡ []) × (new.spent ≡ true)
     follows old new call rest l is =
-        let here = told_none old l.0 call.asked call.told.reply call.told.ticket is l.1.step in
+        let here = told_none old l.0 call.asked call.told.reply call.told.drawn is l.1.step in
         let after = none_drawn l.0 new rest here.1 l.2 in
-        (ap (λ b. cond b (call ∷ drawn_in rest) (drawn_in rest)) here.0 ∙ after.0, after.1)
+        let bare = uncarried (what_of call.asked call.told.reply) call.told.drawn call.told.ticket l.1.ticket here.0 in
+        (ap (λ b. cond b (call ∷ drawn_in rest) (drawn_in rest)) here.0 ∙ after.0, ap (λ b. cond b (call ∷ ticketed_in rest) (ticketed_in rest)) bare ∙ after.1, after.2)
 
     pub stays_spent : StaysSpent serves looks
     stays_spent = record { found = found; stays = λ old new history l h. none_drawn old new history h l; follows = follows }

@@ -26,7 +26,7 @@ book_replied (said.Linked result) = linked_reply result
 book_replied (said.Dropped result) = dropped_reply result
 
 abbrev pub book_told : Replied BookSaid → Told
-book_told replied = record { reply = book_replied replied.said; note = replied.note; drew = replied.drew; ticket = replied.ticket }
+book_told replied = record { reply = book_replied replied.said; note = replied.note; drew = replied.drew; drawn = replied.drawn.value; ticket = replied.ticket }
 
 -- what is served by the book of a writer
 abbrev pub BookServes : BookState → Request → Reply → BookState → Type 0
@@ -61,7 +61,7 @@ BookSays (ask.Drop writer node status part) (said.Dropped result) = DroppedAlone
 BookSays asked reply = ⊥
 
 pub record BookOwes (mark : MarkState) (asking : Asking BookAsk) (replied : Replied BookSaid) : Type 0 where
-  pub pass : PassBy asking.pass replied.note (is_spent (book_replied replied.said)) replied.drew replied.ticket replied.pass
+  pub pass : PassBy asking.pass replied.note (is_spent (book_replied replied.said)) replied.drew replied.drawn.value replied.pass
   pub owed : Owes (stage_in mark.common) (book_asked asking.ask) (book_replied replied.said)
   pub says : BookSays asking.ask replied.said
 

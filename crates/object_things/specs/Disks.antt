@@ -38,7 +38,7 @@ disk_replied (said.Waiting count) = LeftOver count
 disk_replied (said.Completed result) = completed_reply (or_unmade result)
 
 abbrev pub disk_told : Replied DiskSaid → Told
-disk_told replied = record { reply = disk_replied replied.said; note = replied.note; drew = replied.drew; ticket = replied.ticket }
+disk_told replied = record { reply = disk_replied replied.said; note = replied.note; drew = replied.drew; drawn = replied.drawn.value; ticket = replied.ticket }
 
 abbrev pub DiskServes : DiskState → Request → Reply → DiskState → Type 0
 DiskServes old (Push bio) Did new = (bio.bio.dev.0 ≡ old.dev.0) × (new ≡ pushed bio old)
@@ -83,7 +83,7 @@ DiskSays stage (ask.Complete disk index) (said.Completed result) =
 DiskSays stage asked reply = ⊥
 
 pub record DiskOwes (mark : MarkState) (asking : Asking DiskAsk) (replied : Replied DiskSaid) : Type 0 where
-  pub pass : PassBy asking.pass replied.note (is_spent (disk_replied replied.said)) replied.drew replied.ticket replied.pass
+  pub pass : PassBy asking.pass replied.note (is_spent (disk_replied replied.said)) replied.drew replied.drawn.value replied.pass
   pub says : DiskSays (stage_in mark.common) asking.ask replied.said
 
 abbrev pub disk_mark : Held DiskState → MarkState

@@ -31,7 +31,7 @@ list_replied (said.Punted result) = did (punt_or_unmade result)
 list_replied (said.Popped result) = popped_reply (or_unmade result)
 
 abbrev pub list_told : Replied ListSaid → Told
-list_told replied = record { reply = list_replied replied.said; note = replied.note; drew = replied.drew; ticket = replied.ticket }
+list_told replied = record { reply = list_replied replied.said; note = replied.note; drew = replied.drew; drawn = replied.drawn.value; ticket = replied.ticket }
 
 abbrev pub ListServes : Rescue → Request → Reply → Rescue → Type 0
 ListServes old (Punt dev moved) Did new = (dev.0 ≡ old.dev.0) × (new ≡ record old { bios = old.bios ++ moved })
@@ -60,7 +60,7 @@ ListSays (ask.Pop dev) (said.Popped result) = PoppedAlone (or_unmade result) × 
 ListSays asked reply = ⊥
 
 pub record ListOwes (mark : MarkState) (asking : Asking ListAsk) (replied : Replied ListSaid) : Type 0 where
-  pub pass : PassBy asking.pass replied.note (is_spent (list_replied replied.said)) replied.drew replied.ticket replied.pass
+  pub pass : PassBy asking.pass replied.note (is_spent (list_replied replied.said)) replied.drew replied.drawn.value replied.pass
   pub owed : Owes (stage_in mark.common) (list_asked asking.ask) (list_replied replied.said)
   pub says : ListSays asking.ask replied.said
 

@@ -75,7 +75,7 @@ module _ {P : Type 0} where
   pool_replied (said.Resized result) = resized_reply (or_unmade result)
 
   abbrev pub pool_told : Replied (PoolSaid P) → Told
-  pool_told replied = record { reply = pool_replied replied.said; note = replied.note; drew = replied.drew; ticket = replied.ticket }
+  pool_told replied = record { reply = pool_replied replied.said; note = replied.note; drew = replied.drew; drawn = replied.drawn.value; ticket = replied.ticket }
 
 -- an element was had
 abbrev pub HasOne : LedgerPool → Got → LedgerPool → Type 0
@@ -172,7 +172,7 @@ module _ {P : Type 0} where
   PoolSays is_clear ledger asked reply = ⊥
 
   pub record PoolOwes (is_clear : P → Type 0) (mark : MarkState) (asking : Asking (PoolAsk P)) (replied : Replied (PoolSaid P)) : Type 0 where
-    pub pass : PassBy asking.pass replied.note (is_spent (pool_replied replied.said)) replied.drew replied.ticket replied.pass
+    pub pass : PassBy asking.pass replied.note (is_spent (pool_replied replied.said)) replied.drew replied.drawn.value replied.pass
     pub says : PoolSays is_clear ((stage_in mark.common).ledger (object_pool_number mark.name)) asking.ask replied.said
 
 abbrev pub pool_mark : Held LedgerPool → MarkState

@@ -1,7 +1,10 @@
 -- What every thing has beside its object, and what its history says.
 use Rattle.std.specs.Prelude.{◌≡◌, ◌⊎◌, ◌<◌, ◌≤◌, max, not, ℕ, Bool, true, false, Option, None, Some, Result, Ok, Err}
 use Rattle.atomic_table.specs.Seated.{TableId}
+use Rattle.std.specs.declared.snapshot.Snapshot.{Snapshot}
 use Rattle.tick_clock.specs.Tickets.{PassState, IsEnd, drawn_with}
+use Rattle.run_machine.specs.declared.event.What.{What}
+use Rattle.run_machine.specs.Events.{what_of}
 use Rattle.run_machine.specs.Requests.{Request, Reply, Spent}
 use Rattle.run_machine.specs.Objects.{TallyState}
 use Rattle.run_machine.specs.Laws.{Object}
@@ -66,16 +69,24 @@ PassBy pass note false drew None after = after ≡ record pass { seen = max pass
 abbrev pub HasDrawn : StampState → ℕ → StampState → Type 0
 HasDrawn old ticket new = (old.spent ≡ false) × (old.note < ticket) × (new ≡ record old { note = ticket })
 
--- the reply of a call that only looks: the pass has met the note, and there is no ticket
-abbrev pub looked : {S : Type 0} → StampState → PassState → S → Replied S
-looked stamp pass said =
-    record { pass = record pass { seen = max pass.seen stamp.note }; said = said; note = stamp.note; drew = not stamp.spent; ticket = None }
+-- The ticket that the entry of a call carries: the one that was drawn at it, where the call is an event. One that was refused is none, so its
+-- entry carries no ticket.
+abbrev pub carried : Option What → Option ℕ → Option ℕ
+carried None drawn = None
+carried (Some what) drawn = drawn
 
--- what the history keeps of a reply: the reply, what the note had seen, whether no draw had failed before, and the ticket that was drawn
+-- the reply of a call that only looks: the pass has met the note, and there is no ticket
+abbrev pub looked : {S : Type 0} → StampState → PassState → Snapshot (Option ℕ) → S → Replied S
+looked stamp pass drawn said =
+    record { pass = record pass { seen = max pass.seen stamp.note }; said = said; note = stamp.note; drew = not stamp.spent; drawn = drawn; ticket = None }
+
+-- what the history keeps of a reply: the reply, what the note had seen, whether no draw had failed before, the ticket that was drawn, and the one
+-- that the entry carries
 pub record Told : Type 0 where
   pub reply : Reply
   pub note : ℕ
   pub drew : Bool
+  pub drawn : Option ℕ
   pub ticket : Option ℕ
 
 -- what the machine sees of a thing
@@ -92,11 +103,13 @@ module _ {O : Type 0} (serves : O → Request → Reply → O → Type 0) (looks
   StepOf old asked reply (Some n) new = serves old.object asked reply new.object × (old.spent ≡ false) × (old.note < n) × (new.note ≡ n) × (new.spent ≡ false)
   StepOf old asked reply None new = looks old asked reply new × (new.note ≡ old.note)
 
-  -- the machine of a thing: what is served draws a ticket above all that the note had seen, and anything else is a look
+  -- The machine of a thing: what is served draws a ticket above all that the note had seen, and anything else is a look. The entry carries what was
+  -- drawn, where the call is an event.
   pub record Answers (old : ThingState O) (asked : Request) (told : Told) (new : ThingState O) : Type 0 where
     pub note : told.note ≡ old.note
     pub drew : told.drew ≡ not old.spent
-    pub step : StepOf old asked told.reply told.ticket new
+    pub step : StepOf old asked told.reply told.drawn new
+    pub ticket : told.ticket ≡ carried (what_of asked told.reply) told.drawn
 
 -- there was no ticket for the call, and the object is as before
 abbrev pub FindsNone : {O : Type 0} → ThingState O → ThingState O → Type 0

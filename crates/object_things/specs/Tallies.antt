@@ -33,7 +33,7 @@ tally_replied (said.Round round) = Present round
 tally_replied (said.Left count) = LeftOver count
 
 abbrev pub tally_told : Replied TallySaid → Told
-tally_told replied = record { reply = tally_replied replied.said; note = replied.note; drew = replied.drew; ticket = replied.ticket }
+tally_told replied = record { reply = tally_replied replied.said; note = replied.note; drew = replied.drew; drawn = replied.drawn.value; ticket = replied.ticket }
 
 abbrev pub TallyServes : TallyState → Request → Reply → TallyState → Type 0
 TallyServes old (Done write status) Did new = new ≡ done_one write status old
@@ -65,7 +65,7 @@ TallySays ask.Left (said.Left count) = Unit {0}
 TallySays asked reply = ⊥
 
 pub record TallyOwes (mark : MarkState) (asking : Asking TallyAsk) (replied : Replied TallySaid) : Type 0 where
-  pub pass : PassBy asking.pass replied.note (is_spent (tally_replied replied.said)) replied.drew replied.ticket replied.pass
+  pub pass : PassBy asking.pass replied.note (is_spent (tally_replied replied.said)) replied.drew replied.drawn.value replied.pass
   pub owed : Owes (stage_in mark.common) (tally_asked asking.ask) (tally_replied replied.said)
   pub says : TallySays asking.ask replied.said
 

@@ -151,7 +151,7 @@ fn push(disk: &mut Disk, stamp: &mut Stamp, pass: Pass, el: BioElement) -> Repli
     requires fits { RequestFits (stage_in stamp.old.common) (Push (item_of el)) }
     requires of { IsDiskOf (stage_in stamp.old.common) disk.old.dev.0 disk.old }
     ensures answers { DiskReplies disk.old stamp.old (Push (item_of el)) result disk.new stamp.new }
-    ensures pass { PassBy pass result.note (is_spent (disk_replied result.said)) result.drew result.ticket result.pass }
+    ensures pass { PassBy pass result.note (is_spent (disk_replied result.said)) result.drew result.drawn.value result.pass }
     ensures says { DiskSays (stage_in stamp.old.common) (ask.Push el) result.said }
     ensures same { (stamp.new.common ≡ stamp.old.common) × (disk.new.dev ≡ disk.old.dev) }
     ensures of { IsDiskOf (stage_in stamp.old.common) disk.old.dev.0 disk.new }
@@ -179,7 +179,7 @@ fn complete(
     requires own { dev.0 ≡ disk.old.dev.0 }
     requires of { IsDiskOf (stage_in stamp.old.common) disk.old.dev.0 disk.old }
     ensures answers { DiskReplies disk.old stamp.old (CompleteOf dev) result disk.new stamp.new }
-    ensures pass { PassBy pass result.note (is_spent (disk_replied result.said)) result.drew result.ticket result.pass }
+    ensures pass { PassBy pass result.note (is_spent (disk_replied result.said)) result.drew result.drawn.value result.pass }
     ensures says { DiskSays (stage_in stamp.old.common) (ask.Complete dev index) result.said }
     ensures same { (stamp.new.common ≡ stamp.old.common) × (disk.new.dev ≡ disk.old.dev) }
     ensures of { IsDiskOf (stage_in stamp.old.common) disk.old.dev.0 disk.new }

@@ -7,8 +7,9 @@ ghost use Rattle.object_things.specs.Lists.{ListAnswers, ListLooks, ListServes, 
 ghost use Rattle.object_things.specs.Pools.{PoolAnswers, PoolLooks, PoolServes, pool_mark};
 ghost use Rattle.object_things.specs.Tallies.{TallyAnswers, TallyLooks, TallyServes, tally_mark};
 
-/// Along each history of a thing tickets rise, from what the note had seen to what it has seen. The calls that drew one are a run of the object's
-/// machine, which leaves the object as it is while no draw failed. A call that drew none changes nothing, or found none, and tells of no event.
+/// Along each history of a thing tickets rise, from what the note had seen to what it has seen. The entries that carry one are a run of the object's
+/// machine, which leaves the object as it is while no draw failed, and so are the calls that drew one. A call that was served and is no event was
+/// refused: its entry carries no ticket, and it changed nothing. One that drew none changes nothing, or found none, and tells of no event.
 pub fn things_keep_histories()
     ensures pools { KeepsHistory PoolServes PoolLooks }
     ensures lists { KeepsHistory ListServes ListLooks }
@@ -17,8 +18,8 @@ pub fn things_keep_histories()
     ensures tally { KeepsHistory TallyServes TallyLooks }
 {}
 
-/// Once a draw at a thing found no ticket, none is drawn at it: no call with a ticket follows one that was told so, and what is asked later finds the
-/// thing marked.
+/// Once a draw at a thing found no ticket, none is drawn at it: no entry with a ticket follows one that was told so, and what is asked later finds
+/// the thing marked.
 pub fn things_stay_spent()
     ensures pools { StaysSpent PoolServes PoolLooks }
     ensures lists { StaysSpent ListServes ListLooks }

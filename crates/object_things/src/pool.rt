@@ -191,7 +191,7 @@ fn take<P: Fresh + Drop>(
     requires clock { pass.clock ≡ stamp.old.common.clock }
     requires waits { WaitsAt name waits }
     ensures answers { PoolReplies pool.old stamp.old (take_request name waits) result pool.new stamp.new }
-    ensures pass { PassBy pass result.note (is_spent (pool_replied result.said)) result.drew result.ticket result.pass }
+    ensures pass { PassBy pass result.note (is_spent (pool_replied result.said)) result.drew result.drawn.value result.pass }
     ensures says { PoolSays P.is_clear pool.old.ledger (ask.Take name waits) result.said }
     ensures pool { (pool.new.ledger ≡ pool.old.ledger) × (pool.new.most ≡ pool.old.most) }
     ensures same { stamp.new.common ≡ stamp.old.common }
@@ -223,7 +223,7 @@ fn give<P: Fresh + Drop>(
     requires clock { pass.clock ≡ stamp.old.common.clock }
     requires own { el.share ≡ pool.old.ledger }
     ensures answers { PoolReplies pool.old stamp.old (give_of name el.share) result pool.new stamp.new }
-    ensures pass { PassBy pass result.note (is_spent (pool_replied result.said)) result.drew result.ticket result.pass }
+    ensures pass { PassBy pass result.note (is_spent (pool_replied result.said)) result.drew result.drawn.value result.pass }
     ensures says { PoolSays P.is_clear pool.old.ledger (ask.Give name el) result.said }
     ensures pool { (pool.new.ledger ≡ pool.old.ledger) × (pool.new.most ≡ pool.old.most) }
     ensures same { stamp.new.common ≡ stamp.old.common }
@@ -250,14 +250,17 @@ fn resize<P: Fresh + Drop>(
     requires clock { pass.clock ≡ stamp.old.common.clock }
     requires fits { (1 ≤ min) × (min ≤ pool.old.most) }
     ensures answers { PoolReplies pool.old stamp.old (Resize name min) result pool.new stamp.new }
-    ensures pass { PassBy pass result.note (is_spent (pool_replied result.said)) result.drew result.ticket result.pass }
+    ensures pass { PassBy pass result.note (is_spent (pool_replied result.said)) result.drew result.drawn.value result.pass }
     ensures says { PoolSays P.is_clear pool.old.ledger (ask.Resize name min) result.said }
     ensures pool { (pool.new.ledger ≡ pool.old.ledger) × (pool.new.most ≡ pool.old.most) }
     ensures same { stamp.new.common ≡ stamp.old.common }
 {
     let (turn, drawn) = stamp.turn(pass);
-    match drawn {
-        Some(ticket) => turn.reply(Some(ticket), PoolSaid::Resized(Ok(resize_home(pool, min)))),
-        None => turn.reply(None, PoolSaid::Resized(Err(NoTicket))),
-    }
+    let Some(number) = drawn else {
+        return turn.reply(None, PoolSaid::Resized(Err(NoTicket)));
+    };
+    let out = resize_home(pool, min);
+    // One that finds elements out is refused, and its entry carries no ticket.
+    let ticket = if out == 0 { Some(number) } else { None };
+    turn.reply(ticket, PoolSaid::Resized(Ok(out)))
 }

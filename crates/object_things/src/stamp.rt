@@ -79,7 +79,7 @@ impl Model for Told {
 
     ghost Value = { State };
 
-    ghost view = { λ _. record { reply = Spent; note = 0; drew = false; ticket = None } };
+    ghost view = { λ _. record { reply = Spent; note = 0; drew = false; drawn = None; ticket = None } };
 }
 
 /// What is asked of a thing, with the pass of the task that asks. Of a kind that has several objects it names the one, since what the history
@@ -93,11 +93,12 @@ pub struct Asking<Q> {
 #[derive(Clone, Copy)]
 pub struct NoTicket;
 
-/// What a call found of an object's note before it drew, and the pass behind that draw.
+/// What a call found of an object's note before it drew, and the pass and the ticket behind that draw.
 pub(crate) struct Turn {
     pass: Pass,
     note: u64,
     drew: bool,
+    drawn: Snapshot<Option<u64>>,
 }
 
 /// What a thing replies.
@@ -108,7 +109,9 @@ pub struct Replied<S> {
     pub note: u64,
     /// Whether no draw had failed at the object before.
     pub drew: bool,
-    /// The ticket that was drawn.
+    /// The ticket that was drawn. It has no bytes: only clauses read it.
+    pub drawn: Snapshot<Option<u64>>,
+    /// The ticket that the entry of this call carries: the one that was drawn, where the call is an event. One that was refused is none.
     pub ticket: Option<u64>,
 }
 
@@ -150,15 +153,18 @@ impl Stamp {
     /// What a call says that only looks: the pass meets the note, and nothing is drawn.
     #[inline(always)] // as the `serve` of each thing
     pub(crate) fn look<S>(&self, mut pass: Pass, said: S) -> Replied<S>
-        ensures { result ≡ looked self.now pass said }
+        ensures looks { result ≡ looked self.now pass result.drawn said }
+        ensures none { result.drawn.value ≡ None }
     {
         pass.meet(&self.note);
+        let ticket = None;
         Replied {
             pass,
             said,
             note: self.note.seen(),
             drew: !self.spent,
-            ticket: None,
+            drawn: Snapshot::of(&ticket),
+            ticket,
         }
     }
 
@@ -167,6 +173,7 @@ impl Stamp {
     pub(crate) fn turn(&mut self, mut pass: Pass) -> (Turn, Option<u64>)
         requires { pass.clock ≡ self.old.common.clock }
         ensures found { (result.0.note ≡ self.old.note) × (result.0.drew ≡ not self.old.spent) }
+        ensures drawn { result.0.drawn.value ≡ result.1 }
         ensures some { IfSome result.1 (λ n. HasDrawn self.old n self.new) }
         ensures none { result.1 ≡ None → self.new ≡ record self.old { spent = true } }
         ensures pass { PassBy pass self.old.note true (not self.old.spent) result.1 result.0.pass }
@@ -174,7 +181,16 @@ impl Stamp {
         let note = self.note.seen();
         let drew = !self.spent;
         let ticket = self.draw(&mut pass);
-        (Turn { pass, note, drew }, ticket)
+        let drawn = Snapshot::of(&ticket);
+        (
+            Turn {
+                pass,
+                note,
+                drew,
+                drawn,
+            },
+            ticket,
+        )
     }
 
     // Draws a ticket, if there is one.
@@ -199,17 +215,23 @@ impl Stamp {
 }
 
 impl Turn {
-    /// What a call says, with the ticket that it drew.
+    /// What a call says, with the ticket that its entry carries.
     #[inline(always)] // as the `serve` of each thing
     pub(crate) fn reply<S>(self, ticket: Option<u64>, said: S) -> Replied<S>
-        ensures { result ≡ record { pass = self.pass; said = said; note = self.note; drew = self.drew; ticket = ticket } }
+        ensures { result ≡ record { pass = self.pass; said = said; note = self.note; drew = self.drew; drawn = self.drawn; ticket = ticket } }
     {
-        let Turn { pass, note, drew } = self;
+        let Turn {
+            pass,
+            note,
+            drew,
+            drawn,
+        } = self;
         Replied {
             pass,
             said,
             note,
             drew,
+            drawn,
             ticket,
         }
     }

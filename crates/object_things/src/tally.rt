@@ -157,7 +157,7 @@ fn done(
     requires fits { write < (stage_in stamp.old.common).writes }
     requires of { IsTallyOf (stage_in stamp.old.common) (tally_of tally.old) × IsLater (opened_tally stamp.old.common) (tally_of tally.old) }
     ensures answers { TallyReplies (tally_of tally.old) stamp.old (DoneOf write status) result (tally_of tally.new) stamp.new }
-    ensures pass { PassBy pass result.note (is_spent (tally_replied result.said)) result.drew result.ticket result.pass }
+    ensures pass { PassBy pass result.note (is_spent (tally_replied result.said)) result.drew result.drawn.value result.pass }
     ensures owed { Owes (stage_in stamp.old.common) (DoneOf write status) (tally_replied result.said) }
     ensures says { TallySays (ask.Done write status) result.said }
     ensures same { stamp.new.common ≡ stamp.old.common }
@@ -179,7 +179,7 @@ fn next(tally: &mut Tally, stamp: &mut Stamp, pass: Pass) -> Replied<TallySaid>
     requires clock { pass.clock ≡ stamp.old.common.clock }
     requires of { IsTallyOf (stage_in stamp.old.common) (tally_of tally.old) × IsLater (opened_tally stamp.old.common) (tally_of tally.old) }
     ensures answers { TallyReplies (tally_of tally.old) stamp.old (NextRound 0) result (tally_of tally.new) stamp.new }
-    ensures pass { PassBy pass result.note (is_spent (tally_replied result.said)) result.drew result.ticket result.pass }
+    ensures pass { PassBy pass result.note (is_spent (tally_replied result.said)) result.drew result.drawn.value result.pass }
     ensures owed { Owes (stage_in stamp.old.common) (NextRound 0) (tally_replied result.said) }
     ensures says { TallySays ask.Next result.said }
     ensures same { stamp.new.common ≡ stamp.old.common }

@@ -53,7 +53,7 @@ pub record IsOutcomeOf (closed : Closed) (outcome : Outcome) : Type 0 where
   pub run : IsRun (scene (shared_scenario closed) (shared_ledger closed)) (start (shared_scenario closed)) events (state_in closed)
   pub merges : entries_in (scene (shared_scenario closed) (shared_ledger closed)) (start (shared_scenario closed)) events (state_in closed) run
       ≡ without_tickets (sorted (all_of (histories_in closed)))
-  -- those entries are the events among all calls: looks carry no ticket
+  -- those entries are the events among all calls: no look drew a ticket, and no call was refused
   pub tickets : (name : Object) → All DrewAsEvent (history_in closed name)
   pub shows : (place : ℕ) (task : ClosedTask) → slice_get closed.tasks.items place ≡ Some task
       → done_by place (histories_in closed) ≡ sorted (all_of (histories_by closed task.seats.value))

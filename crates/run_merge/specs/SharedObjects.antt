@@ -10,7 +10,7 @@ use Rattle.task_steps.specs.Routed.{routing_setup}
 use Rattle.task_core.specs.declared.opening.Opened.{Opened}
 use Rattle.task_core.specs.Plains.{stage_of}
 use Rattle.task_core.specs.opened.OfOne.{IsOpened, scenario_in, states}
-use Rattle.object_things.specs.Histories.{Call, drawn_in, or_last}
+use Rattle.object_things.specs.Histories.{Call, ticketed_in, or_last}
 use Rattle.object_things.specs.Stamps.{ThingState}
 use Rattle.shared_objects.specs.Closes.{Returned, ClosesAs}
 use Rattle.shared_objects.specs.Kinds.{ThingAt}
@@ -20,17 +20,17 @@ use Rattle.run_merge.specs.Closing.{MergeIsEndedRun}
 use Rattle.run_merge.specs.Merging.{Ticketed, Histories}
 use Rattle.run_merge.specs.ObjectsByName.{StateAt, made_of}
 
--- a call as an entry with its ticket; the seats of the task at a place have the number that is one more
+-- a call as an entry with the ticket that it carries; the seats of the task at a place have the number that is one more
 abbrev pub ticketed : Call → Ticketed
 ticketed call = record { entry = record { place = call.by - 1; asked = call.asked; reply = call.told.reply }; ticket = or_last 0 call.told.ticket }
 
--- The histories of these objects, as the entries that carry a ticket. Looks carry none, and are dropped.
+-- The histories of these objects, as the entries that carry a ticket. Looks and calls that were refused carry none, and are dropped.
 abbrev pub entry_histories : List Object → (Object → List Call) → Histories
-entry_histories names history = map (λ name. (name, map ticketed (drawn_in (history name)))) names
+entry_histories names history = map (λ name. (name, map ticketed (ticketed_in (history name)))) names
 
--- a call drew a ticket exactly where it is an event: each event has one, and no look
+-- a call drew a ticket exactly where it is an event, each event one, and no look; and its entry carries just that one
 abbrev pub DrewAsEvent : Call → Type 0
-DrewAsEvent call = is_some call.told.ticket ≡ is_event call.asked call.told.reply
+DrewAsEvent call = (is_some call.told.drawn ≡ is_event call.asked call.told.reply) × (call.told.ticket ≡ call.told.drawn)
 
 -- what a thing is as an object of runs
 abbrev pub seen_at : (name : Object) → ThingAt name → StateAt name

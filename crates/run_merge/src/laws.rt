@@ -31,8 +31,8 @@ pub fn closed_runs_end()
 {}
 
 /// What a close of shared objects shows is enough for it, where they and the tasks were opened of an accepted text whose mirrors have rescuers: the
-/// merge of the histories is a run that has ended and leaves what is left, no task broke off, and no draw failed. A call carries a ticket exactly
-/// where it is an event of that run; looks carry none.
+/// merge of the histories is a run that has ended and leaves what is left, no task broke off, and no draw failed. A call drew a ticket
+/// exactly where it is an event of that run, which its entry carries; looks drew none.
 pub fn closes_are_runs()
     ensures { ClosesAreRuns }
 {}

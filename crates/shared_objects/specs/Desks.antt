@@ -26,7 +26,7 @@ pub record HasCalled (old : DeskState) (asked : Request) (reply : Reply) (new : 
   pub replies : told.reply ≡ reply
   pub number : new.number ≡ old.number
   pub calls : new.calls ≡ with_call old.calls (object_of asked) (record { by = old.number; asked = asked; told = told })
-  pub pass : PassOn old.pass told.note (is_spent told.reply) told.drew told.ticket new.pass
+  pub pass : PassOn old.pass told.note (is_spent told.reply) told.drew told.drawn new.pass
 
 -- A bio of a disk is completed by one look, where none waits, or by a look and a call behind it.
 pub record LooksAndCompletes (old : DeskState) (disk : DevId) (reply : Reply) (new : DeskState) : Type 0 where

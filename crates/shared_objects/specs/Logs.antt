@@ -48,13 +48,13 @@ events_in log = filter (λ (call : Call). is_event call.asked call.told.reply) l
 
 -- the tickets that its calls drew
 abbrev pub tickets_in : List Call → List ℕ
-tickets_in log = filter_map (λ (call : Call). call.told.ticket) log
+tickets_in log = filter_map (λ (call : Call). call.told.drawn) log
 
 -- a look of the task came before, and let it ask; its call has a ticket above what that look's note had seen
 abbrev pub Looked : List Call → TaskState → Call → Option Request → Type 0
 Looked before task call None = Unit {0}
 Looked before task call (Some look) = (seen : Call) × Contains before seen × (seen.asked ≡ look) × IsTrue (lets task seen.told.reply)
-    × ((is_spent seen.told.reply ≡ false) → IfSome call.told.ticket (λ n. seen.told.note < n))
+    × ((is_spent seen.told.reply ≡ false) → IfSome call.told.drawn (λ n. seen.told.note < n))
 
 -- Calls lead a task on, behind others: each is a glance, or asks what the task asks for next.
 abbrev pub LogLeads : Setup → List Call → TaskState → List Call → TaskState → Type 0
@@ -70,11 +70,11 @@ IsMet seen call = is_spent call.told.reply ≡ false → call.told.note ≤ seen
 
 -- the number is 0, or a ticket that one of these calls drew, or what the note had seen that it met
 abbrev pub IsSeenIn : List Call → ℕ → Type 0
-IsSeenIn log number = (number ≡ 0) ⊎ ((call : Call) × Contains log call × ((call.told.ticket ≡ Some number) ⊎ (call.told.note ≡ number)))
+IsSeenIn log number = (number ≡ 0) ⊎ ((call : Call) × Contains log call × ((call.told.drawn ≡ Some number) ⊎ (call.told.note ≡ number)))
 
 -- a call found no ticket, at an object where no draw had failed
 abbrev pub FoundNone : Call → Type 0
-FoundNone call = (is_spent call.told.reply ≡ true) × (call.told.drew ≡ true) × (call.told.ticket ≡ None)
+FoundNone call = (is_spent call.told.reply ≡ true) × (call.told.drew ≡ true) × (call.told.drawn ≡ None)
 
 -- so the pass knows that the last ticket was drawn
 abbrev pub KnowsLast : PassState → List Call → Type 0
@@ -108,7 +108,7 @@ pub record IsLogged (setup : Setup) (first : TaskState) (log : List Call) (task 
 pub record IsMade (asked : Request) (reply : Reply) (before after : Option PassState) (call : Call) : Type 0 where
   pub asks : call.asked ≡ asked
   pub replies : call.told.reply ≡ reply
-  pub pass : PassOn before call.told.note (is_spent call.told.reply) call.told.drew call.told.ticket after
+  pub pass : PassOn before call.told.note (is_spent call.told.reply) call.told.drew call.told.drawn after
 
 -- The task has stopped: it asks for nothing more, or one of these calls saw that no write was unfinished.
 abbrev pub HasStopped : Setup → List Call → TaskState → Type 0
@@ -124,7 +124,7 @@ seen_by (Some pass) = pass.seen
 -- event drew is the last thing that the pass has seen. Behind `Ended` the task has stopped, and behind `Broken` it asks for nothing more.
 abbrev pub ShowsStep : Setup → TaskState → TaskState → ℕ → List Call → Step → Type 0
 ShowsStep setup task next seen calls (Stepped event) = (call : Call) × (events_in calls ≡ call ∷ []) × (call.asked ≡ struck (request setup task))
-    × (what_of (request setup task) call.told.reply ≡ Some event.what) × (event.task ≡ id_of task) × IfSome call.told.ticket (λ n. n ≡ seen)
+    × (what_of (request setup task) call.told.reply ≡ Some event.what) × (event.task ≡ id_of task) × IfSome call.told.drawn (λ n. n ≡ seen)
 ShowsStep setup task next seen calls Ended = (events_in calls ≡ []) × HasStopped setup calls next
 ShowsStep setup task next seen calls (Broken breach) = (events_in calls ≡ []) × (request setup next ≡ Rest)
 ShowsStep setup task next seen calls step = events_in calls ≡ []

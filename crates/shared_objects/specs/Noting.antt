@@ -19,7 +19,7 @@ noted_as ticket task (Some what) = (ticket, record { task = id_of task; what = w
 
 -- the event that a task's call was, if it was one
 abbrev pub note_of : Setup → TaskState → Call → List (ℕ × Event)
-note_of setup task call = noted_as (or_last 0 call.told.ticket) task (what_of (request setup task) call.told.reply)
+note_of setup task call = noted_as (or_last 0 call.told.drawn) task (what_of (request setup task) call.told.reply)
 
 -- those of all its calls, in their order: the task goes on behind each that is no glance
 abbrev pub notes_of : Setup → TaskState → List Call → List (ℕ × Event)
@@ -29,7 +29,7 @@ notes_of setup task (call ∷ calls) =
 
 -- each of these calls that is an event drew a ticket, as the histories of locks show
 abbrev pub HaveTickets : List Call → Type 0
-HaveTickets log = All (λ (call : Call). is_event call.asked call.told.reply ≡ true → is_some call.told.ticket ≡ true) log
+HaveTickets log = All (λ (call : Call). is_event call.asked call.told.reply ≡ true → is_some call.told.drawn ≡ true) log
 
 -- these stand in front of all, and are not all
 abbrev pub IsFrontOf : {X : Type 0} → List X → List X → Type 0

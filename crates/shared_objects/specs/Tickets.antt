@@ -1,5 +1,5 @@
 -- What closed objects show of the tickets of their clock.
-use Rattle.std.specs.Prelude.{◌≡◌, ◌⊎◌, ◌+◌, ◌-◌, ◌^◌, ◌≤◌, ℕ, true, List, All, Contains, Some}
+use Rattle.std.specs.Prelude.{◌≡◌, ◌⊎◌, ◌+◌, ◌-◌, ◌^◌, ◌≤◌, ℕ, true, List, All, Contains, None, Some}
 use Rattle.tick_clock.specs.declared.ticking.Ticket.{Ticket}
 use Rattle.tick_clock.specs.Tickets.{PassState, AreApart}
 use Rattle.run_machine.specs.Laws.{Object}
@@ -20,7 +20,7 @@ IsBehind tickets ticket = (ticket.number ≡ 1) ⊎ ((other : Ticket) × Contain
 
 -- a call in the history of some object drew the ticket of this number
 abbrev pub DrewTicket : (Object → List Call) → ℕ → Call → Type 0
-DrewTicket history number call = (name : Object) × Contains (history name) call × (call.told.ticket ≡ Some number)
+DrewTicket history number call = (name : Object) × Contains (history name) call × (call.told.drawn ≡ Some number)
 
 abbrev pub IsEvent : Call → Type 0
 IsEvent call = is_event call.asked call.told.reply ≡ true
@@ -28,13 +28,17 @@ IsEvent call = is_event call.asked call.told.reply ≡ true
 abbrev pub IsRefusedCall : Call → Type 0
 IsRefusedCall call = is_refused call.asked call.told.reply ≡ true
 
+-- the entry of an event carries this ticket, and that of a refused call none
+abbrev pub Enters : ℕ → Call → Type 0
+Enters number call = (IsEvent call × (call.told.ticket ≡ Some number)) ⊎ (IsRefusedCall call × (call.told.ticket ≡ None))
+
 -- The tickets that were drawn of a clock, and the histories of the objects that draw of it.
 pub record AreOfHistories (history : Object → List Call) (tickets : List Ticket) : Type 0 where
   -- they all differ
   pub apart : AreApart tickets
   pub row : All (IsBehind tickets) tickets
-  -- each is that of an event in the histories, or of a call that was refused
-  pub drawn : All (λ (ticket : Ticket). (call : Call) × DrewTicket history ticket.number call × (IsEvent call ⊎ IsRefusedCall call)) tickets
+  -- each is the ticket of an entry in the histories, but for those that calls drew which were refused
+  pub drawn : All (λ (ticket : Ticket). (call : Call) × DrewTicket history ticket.number call × Enters ticket.number call) tickets
   -- of which each task has one at most
   pub few : (one other : ℕ) (call later : Call) → DrewTicket history one call → IsRefusedCall call → DrewTicket history other later → IsRefusedCall later → call.by ≡ later.by → one ≡ other
   -- where a draw found none, the last one is among them

@@ -36,6 +36,7 @@ where
         said,
         note: _,
         drew: _,
+        drawn: _,
         ticket: _,
     } = lock.call(rt, seat, Asking { pass: held, ask });
     *pass = Some(back);

@@ -40,8 +40,9 @@ pub fn locks_close_as()
     ensures { LocksCloseAs }
 {}
 
-/// The tickets of the clock, of what a close shows: they all differ; each is 1 or one more than another one; each is that of an event in the
-/// histories, but for one of a call that was refused, of which each task has one at most; and where a draw found none, 2^64 - 1 is among them.
+/// The tickets of the clock, of what a close shows: they all differ; each is 1 or one more than another one; each is the ticket of an entry in the
+/// histories, that of an event, but for those that refused calls drew, whose entries carry none and of which each task has one at most; and where a
+/// draw found none, 2^64 - 1 is among them.
 pub fn closes_show_tickets()
     ensures { ClosesShowTickets }
 {}

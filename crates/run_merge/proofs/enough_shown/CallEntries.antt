@@ -11,8 +11,7 @@ use Rattle.shared_objects.specs.Names.{Apart}
 use Rattle.shared_objects.specs.Logs.{is_event, events_in}
 use Rattle.shared_objects.proofs.SameNames.{same_is}
 use Rattle.run_merge.specs.Merging.{Ticketed, all_of, history_of, AreOfDifferentObjects, AreTagged}
-use Rattle.run_merge.specs.SharedObjects.{ticketed}
-use Rattle.run_merge.proofs.enough_shown.CallEvents.{ticketed_events, event_histories}
+use Rattle.run_merge.proofs.enough_shown.CallEvents.{drawn_entry, ticketed_events, event_histories}
 use Rattle.run_merge.proofs.enough_shown.LogLeads.{is_told}
 
 module _ (history : Object → List Call) where
@@ -31,7 +30,7 @@ module _ (history : Object → List Call) where
   all_events [] = All-nil (λ (n : Ticketed). IsTrue (is_event n.entry.asked n.entry.reply))
   all_events (name ∷ names) =
       All-append (λ (n : Ticketed). IsTrue (is_event n.entry.asked n.entry.reply)) (ticketed_events (history name)) (all_of (event_histories names history))
-      (All-map (λ (n : Ticketed). IsTrue (is_event n.entry.asked n.entry.reply)) ticketed (events_in (history name)) (filter_passes is_told (history name))) (all_events names)
+      (All-map (λ (n : Ticketed). IsTrue (is_event n.entry.asked n.entry.reply)) drawn_entry (events_in (history name)) (filter_passes is_told (history name))) (all_events names)
 
   pub are_apart : (names : List Object) → Apart is_same_object names → AreOfDifferentObjects (event_histories names history)
   are_apart [] apart = tt
@@ -51,7 +50,7 @@ module _ (history : Object → List Call) where
   pub are_tagged : (names : List Object) → ((name : Object) → All (λ (call : Call). object_of call.asked ≡ name) (history name)) → AreTagged (event_histories names history)
   are_tagged [] named = tt
   are_tagged (name ∷ names) named = (
-    All-map (λ (n : Ticketed). object_of n.entry.asked ≡ name) ticketed (events_in (history name))
+    All-map (λ (n : Ticketed). object_of n.entry.asked ≡ name) drawn_entry (events_in (history name))
         (All-filter is_told (λ (call : Call). object_of call.asked ≡ name) (history name) (named name)),
     are_tagged names named,
   )

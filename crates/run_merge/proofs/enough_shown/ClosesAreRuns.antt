@@ -37,15 +37,15 @@ use Rattle.run_merge.specs.Machines.{LeadsObject}
 use Rattle.run_merge.specs.Merging.{Ticketed, RiseFrom, without_tickets, history_of, done_by, LetsAsk, Shown}
 use Rattle.run_merge.specs.ObjectsByName.{get, made_of}
 use Rattle.run_merge.specs.Products.{LeadsTask, led_by, task_behind}
-use Rattle.run_merge.specs.SharedObjects.{ticketed, seen_at, tasks_left, state_left, ClosesAreRuns}
+use Rattle.run_merge.specs.SharedObjects.{seen_at, tasks_left, state_left, ClosesAreRuns}
 use Rattle.run_merge.proofs.Fronts.{has_some}
 use Rattle.run_merge.proofs.enough_shown.TaskCounts.{walked, first_is, done_at, rounds_few, few_drawn, image_at, image_none}
 use Rattle.run_merge.proofs.enough_shown.DrewEvents.{drew_as_events}
 use Rattle.run_merge.proofs.enough_shown.CallTickets.{events_told, events_untold, rises_events}
-use Rattle.run_merge.proofs.enough_shown.CallEvents.{ticketed_events, event_histories, histories_are}
+use Rattle.run_merge.proofs.enough_shown.CallEvents.{drawn_entry, ticketed_events, event_histories, histories_are}
 use Rattle.run_merge.proofs.enough_shown.TallyLooks.{lets_ask}
 use Rattle.run_merge.proofs.enough_shown.CallEntries.{history_is, all_events, are_apart, are_tagged}
-use Rattle.run_merge.proofs.enough_shown.ObjectHistories.{told_drew, IsReady, object_leads}
+use Rattle.run_merge.proofs.enough_shown.ObjectHistories.{told_drew, history_shows, IsReady, object_leads}
 use Rattle.run_merge.proofs.enough_shown.CalledObjects.{ask_some}
 use Rattle.run_merge.proofs.enough_shown.RoundsStarted.{rounds_there}
 use Rattle.run_merge.proofs.enough_shown.SortedByTicket.{done_is}
@@ -61,7 +61,7 @@ record IsCutAt (log : List Call) (mine : List Ticketed) (n : Ticketed) : Type 0 
   after : List Call
   is : log ≡ before ++ call ∷ after
   events : ticketed_events before ≡ mine
-  here : ticketed call ≡ n
+  here : drawn_entry call ≡ n
   told : is_told call ≡ true
 
 cut_at : (log : List Call) (mine rest : List Ticketed) (n : Ticketed) → ticketed_events log ≡ mine ++ n ∷ rest → IsCutAt log mine n
@@ -69,12 +69,12 @@ cut_at [] [] rest n is = absurd (true≢false (sym (ap has_some is)))
 cut_at [] (m ∷ mine) rest n is = absurd (true≢false (sym (ap has_some is)))
 cut_at (call ∷ calls) mine rest n is = by_told (is_told call) refl (λ ms e. cut_at calls ms rest n e)
   where
-    told_so : is_told call ≡ true → (ms : List Ticketed) → ticketed call ∷ ticketed_events calls ≡ ms ++ n ∷ rest
+    told_so : is_told call ≡ true → (ms : List Ticketed) → drawn_entry call ∷ ticketed_events calls ≡ ms ++ n ∷ rest
         → ((l : List Ticketed) → ticketed_events calls ≡ l ++ n ∷ rest → IsCutAt calls l n) → IsCutAt (call ∷ calls) ms n
     told_so told [] e more = record { before = []; call = call; after = calls; is = refl; events = refl; here = ap (first_or n) e; told = told }
     told_so told (m ∷ ms) e more =
         let r = more ms (ap behind_first e) in
-        let head : ticketed call ≡ m = ap (first_or m) e in
+        let head : drawn_entry call ≡ m = ap (first_or m) e in
         record {
           before = call ∷ r.before;
           call = r.call;
@@ -189,7 +189,7 @@ module _ (s : Scenario) (plain : Plain) (names : List Object) (history : Object 
           let has = log_drew s plain names history left tasks pass c (stage_of plain).ledger begins ready found place task at cut.call within cut.told in
           let lets = lets_ask s plain names history left tasks pass c (stage_of plain).ledger begins ready place task at cut.before
           (λ x inside. subst (λ l. Contains l x) (sym cut.is) (Contains-append_left cut.before (cut.call ∷ cut.after) x inside))
-          (led task.first (ticketed_events cut.before)) cut.call (or_last 0 cut.call.told.ticket) (ticket_is cut.call.told.ticket has)
+          (led task.first (ticketed_events cut.before)) cut.call (or_last 0 cut.call.told.drawn) (ticket_is cut.call.told.drawn has)
           (look_of (led task.first (ticketed_events cut.before))) refl looked in
           subst (λ t. LetsAsk s (stage_of plain).ledger (history_of OfTally (event_histories names history)) n.ticket (led t mine) (look_of (led t mine))) (sym first)
           (subst (λ ns. LetsAsk s (stage_of plain).ledger (history_of OfTally (event_histories names history)) n.ticket (led task.first ns) (look_of (led task.first ns))) cut.events
@@ -276,8 +276,9 @@ closes_are_runs opened names history left tasks pass is firsts c found =
     let merged = closed_runs_end s ledger (event_histories names history) (numbers_of pass.drawn) (state_left left tasks) runnable is.rescuers is.one.holds.numbered
     (is_closed s opened.objects names history left tasks pass closes (firsts ∙ is.tasks)
     (λ name. ap (λ (o : Objects). get o name) (sym is.objects) ∙ opened_is opened.objects name) found) in
+    let shows = λ (name : Object). history_shows name (unasked (opened_at opened.objects name)) (left name) (history name) (c.things name) in
     let drew = drew_as_events s opened.objects names history left tasks pass closes
     (λ place task at. ap is_broken (sym (image_at (λ (task : Returned). task.task) no_task tasks place task at)) ∙ merged.unbroken place) in (
-      subst (λ histories. MergeIsEndedRun s ledger histories (numbers_of pass.drawn) (state_left left tasks)) (sym (histories_are names history drew)) merged,
+      subst (λ histories. MergeIsEndedRun s ledger histories (numbers_of pass.drawn) (state_left left tasks)) (sym (histories_are names history shows)) merged,
       drew,
     )

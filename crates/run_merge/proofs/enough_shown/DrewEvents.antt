@@ -1,16 +1,18 @@
--- Where no task broke off, a call drew a ticket exactly where it is an event.
+-- Where no task broke off, a call drew a ticket exactly where it is an event, and its entry carries it.
 use Rattle.std.proofs.Common.{◌≡◌, ◌⊎◌, ℕ, Bool, true, false, List, Option, None, Some, inl, inr, refl, sym, ◌∙◌, ap}
 use Rattle.std.specs.Option.{is_some}
 use Rattle.std.specs.Prelude.{All, Contains, slice_get}
 use Rattle.std.proofs.lemmas.Bool.{true≢false}
 use Rattle.std.proofs.lemmas.List.Elements.{All-weaker, All-contains, All-contains_itself}
 use Rattle.tick_clock.specs.Tickets.{PassState}
+use Rattle.run_machine.specs.declared.event.What.{What}
+use Rattle.run_machine.specs.Events.{what_of}
 use Rattle.run_machine.specs.Laws.{Object}
 use Rattle.run_machine.specs.Opened.{Scenario, setup}
 use Rattle.run_machine.specs.Tasks.{is_broken}
 use Rattle.task_core.specs.declared.plain.Plain.{Plain}
 use Rattle.object_things.specs.Histories.{Call}
-use Rattle.object_things.specs.Stamps.{ThingState, StepOf}
+use Rattle.object_things.specs.Stamps.{ThingState, StepOf, carried}
 use Rattle.shared_objects.specs.Closes.{Returned, ClosesAs}
 use Rattle.shared_objects.specs.Kinds.{ThingAt, serves_at, looks_at}
 use Rattle.shared_objects.specs.Led.{BrokeOff, IsLed}
@@ -21,6 +23,12 @@ use Rattle.shared_objects.proofs.tickets.CallOwners.{logged, IsCallOfTask, owner
 use Rattle.shared_objects.proofs.steps.EventOrRefused.{refused_stops, served_refused}
 use Rattle.run_merge.specs.SharedObjects.{DrewAsEvent}
 use Rattle.run_merge.proofs.enough_shown.LogLeads.{is_told}
+
+-- an entry carries what was drawn, where that was drawn as the call is an event
+carries_all : (what : Option What) (drawn : Option ℕ) → is_some drawn ≡ is_some what → carried what drawn ≡ drawn
+carries_all None None drew = refl
+carries_all None (Some n) drew = absurd (true≢false drew)
+carries_all (Some what) drawn drew = refl
 
 module _ (s : Scenario) (plain : Plain) (names : List Object) (history : Object → List Call) (left : (name : Object) → ThingState (ThingAt name)) (tasks : List Returned)
     (pass : PassState) (c : ClosesAs (setup s) plain names history left tasks pass)
@@ -38,7 +46,8 @@ module _ (s : Scenario) (plain : Plain) (names : List Object) (history : Object 
       by_end (inr broke) = absurd (true≢false (sym broke.broken ∙ whole place task at))
 
   drew_as : (name : Object) (call : Call) → Contains (history name) call → DrewAsEvent call
-  drew_as name call there = by_ticket call.told.ticket p.answers.step
+  drew_as name call there =
+      let drew = by_ticket call.told.drawn p.answers.step in (drew, p.answers.ticket ∙ carries_all (what_of call.asked call.told.reply) call.told.drawn drew)
     where
       p : IsInPlace (setup s) plain names history left tasks pass c name call
       p = in_place (setup s) plain names history left tasks pass c name call there

@@ -14,10 +14,9 @@ use Rattle.shared_objects.proofs.logs.CallsLead.{event_first, kinds, quiet_first
 use Rattle.shared_objects.proofs.steps.BrokenRests.{broken_rests}
 use Rattle.run_merge.specs.Merging.{Ticketed, without_tickets}
 use Rattle.run_merge.specs.Products.{LeadsTask, led_by}
-use Rattle.run_merge.specs.SharedObjects.{ticketed}
 use Rattle.run_merge.proofs.Fronts.{has_some}
 use Rattle.run_merge.proofs.enough_shown.BreaksOff.{stop_breaks}
-use Rattle.run_merge.proofs.enough_shown.CallEvents.{ticketed_events}
+use Rattle.run_merge.proofs.enough_shown.CallEvents.{drawn_entry, ticketed_events}
 
 abbrev pub is_told : Call → Bool
 is_told call = is_event call.asked call.told.reply
@@ -47,7 +46,7 @@ pub record Walked (setup : Setup) (before : List Call) (first : TaskState) (log 
   pub end : (last ≡ now) ⊎ IsStopped setup before log now last
 
 abbrev pub map_all : List Call → List Ticketed
-map_all calls = map ticketed calls
+map_all calls = map drawn_entry calls
 
 module _ (setup : Setup) where
   by_events : (before : List Call) (first : TaskState) (m : Call) (mine : List Call) (call : Call) (events : List Call) → events_in (m ∷ mine) ≡ events

@@ -115,7 +115,7 @@ pub found_none : (name : Object) (old new : ThingState (ThingAt name)) (calls : 
     → (call : Call) × Contains calls call × FoundNone call
 found_none name old new [] leads had none = absurd (true≢false (sym none ∙ ap (λ (thing : ThingState (ThingAt name)). thing.spent) (sym leads) ∙ had))
 found_none name old new (call ∷ calls) leads had none =
-    by_ticket call.told.ticket refl leads.1.step leads.0.spent refl (λ still. found_none name leads.0 new calls leads.2 still none)
+    by_ticket call.told.drawn refl leads.1.step leads.0.spent refl (λ still. found_none name leads.0 new calls leads.2 still none)
   where
     Found : List Call → Type 0
     Found list = (x : Call) × Contains list x × FoundNone x
@@ -123,7 +123,7 @@ found_none name old new (call ∷ calls) leads had none =
     further : Found calls → Found (call ∷ calls)
     further (x, there, found) = (x, Contains-append_right (call ∷ []) calls x there, found)
 
-    by_ticket : (ticket : Option ℕ) → call.told.ticket ≡ ticket → StepOf (serves_at name) (looks_at name) old call.asked call.told.reply ticket leads.0 → (b : Bool) → leads.0.spent ≡ b
+    by_ticket : (ticket : Option ℕ) → call.told.drawn ≡ ticket → StepOf (serves_at name) (looks_at name) old call.asked call.told.reply ticket leads.0 → (b : Bool) → leads.0.spent ≡ b
         → (leads.0.spent ≡ false → Found calls) → Found (call ∷ calls)
     by_ticket ticket t step false is rest = further (rest is)
     by_ticket (Some n) t step true is rest = absurd (true≢false (sym is ∙ step.4))

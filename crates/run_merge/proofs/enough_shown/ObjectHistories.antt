@@ -11,7 +11,7 @@ use Rattle.run_machine.specs.Laws.{Object, OfPool, OfRescuer, OfDisk, OfBook, Of
 use Rattle.run_machine.specs.Objects.{TallyState}
 use Rattle.run_machine.specs.Requests.{Request, Reply, Done, NextRound, LookRound, LookLeft, Did, Present, LeftOver, Spent}
 use Rattle.object_things.specs.Tallies.{TallyServes, TallyLooks}
-use Rattle.object_things.specs.Histories.{Call, drawn_in, LeadDrawn}
+use Rattle.object_things.specs.Histories.{Call, CarriesItsOwn, drawn_in, LeadDrawn}
 use Rattle.object_things.specs.Stamps.{ThingState, StepOf}
 use Rattle.shared_objects.specs.Kinds.{ThingAt, serves_at, looks_at, answers_at}
 use Rattle.shared_objects.proofs.tickets.TicketsOfCalls.{keeps}
@@ -28,11 +28,15 @@ use Rattle.run_merge.proofs.enough_shown.LogLeads.{is_told}
 -- each event of a history drew a ticket
 pub told_drew : (name : Object) (old new : ThingState (ThingAt name)) (calls : List Call) → Leads (answers_at name) old calls new → All HasTicket calls
 told_drew name old new [] leads = All-nil HasTicket
-told_drew name old new (call ∷ calls) leads = All-cons HasTicket call calls (λ told. by_ticket told call.told.ticket leads.1.step) (told_drew name leads.0 new calls leads.2)
+told_drew name old new (call ∷ calls) leads = All-cons HasTicket call calls (λ told. by_ticket told call.told.drawn leads.1.step) (told_drew name leads.0 new calls leads.2)
   where
     by_ticket : is_told call ≡ true → (ticket : Option ℕ) → StepOf (serves_at name) (looks_at name) old call.asked call.told.reply ticket leads.0 → is_some ticket ≡ true
     by_ticket told (Some n) step = refl
     by_ticket told None step = absurd (true≢false (sym told ∙ ap is_some ((keeps name).quiet old leads.0 call.asked call.told.reply step.0).told))
+
+-- and its entry carries that one
+pub history_shows : (name : Object) (old new : ThingState (ThingAt name)) (calls : List Call) → Leads (answers_at name) old calls new → All HasTicket calls × All CarriesItsOwn calls
+history_shows name old new calls leads = (told_drew name old new calls leads, (keeps name).carry old new calls leads)
 
 -- how many of these calls start a round
 abbrev pub starts : List Call → ℕ
@@ -122,12 +126,12 @@ module _ (ledger : ℕ → LedgerId) where
         → LeadsObject ledger name (seen_at name old) (without_tickets (ticketed_events calls)) (seen_at name last)
     drawn_leads [] old last has ready leads = ap (seen_at name) (sym leads)
     drawn_leads (call ∷ calls) old last has ready leads =
-        by_two (is_some call.told.ticket) (is_told call) refl refl ready leads (λ o r l. drawn_leads calls o last (All-tail HasTicket call calls has) r l)
+        by_two (is_some call.told.drawn) (is_told call) refl refl ready leads (λ o r l. drawn_leads calls o last (All-tail HasTicket call calls has) r l)
       where
         More : List Call → Type 0
         More drawn = (o : ThingAt name) → IsReady name o drawn → LeadDrawn (serves_at name) o drawn last → Result o last calls
 
-        by_two : (drew told : Bool) → is_some call.told.ticket ≡ drew → is_told call ≡ told → IsReady name old (cond drew (call ∷ drawn_in calls) (drawn_in calls))
+        by_two : (drew told : Bool) → is_some call.told.drawn ≡ drew → is_told call ≡ told → IsReady name old (cond drew (call ∷ drawn_in calls) (drawn_in calls))
             → LeadDrawn (serves_at name) old (cond drew (call ∷ drawn_in calls) (drawn_in calls)) last → More (drawn_in calls) → Result old last (call ∷ calls)
         by_two true true d t ready leads more =
             subst (λ ns. LeadsObject ledger name (seen_at name old) (without_tickets ns) (seen_at name last)) (sym (events_told call calls t))
@@ -157,7 +161,7 @@ tally_stays_so old new asked reply looks = absurd looks
 
 pub tally_drawn : (calls : List Call) (old new : ThingState TallyState) → Leads (answers_at OfTally) old calls new → LeadDrawn TallyServes old.object (drawn_in calls) new.object
 tally_drawn [] old new leads = ap (λ (thing : ThingState TallyState). thing.object) leads
-tally_drawn (call ∷ calls) old new leads = by_ticket call.told.ticket leads.1.step (tally_drawn calls leads.0 new leads.2)
+tally_drawn (call ∷ calls) old new leads = by_ticket call.told.drawn leads.1.step (tally_drawn calls leads.0 new leads.2)
   where
     by_ticket : (ticket : Option ℕ) → StepOf TallyServes TallyLooks old call.asked call.told.reply ticket leads.0 → LeadDrawn TallyServes leads.0.object (drawn_in calls) new.object
         → LeadDrawn TallyServes old.object (cond (is_some ticket) (call ∷ drawn_in calls) (drawn_in calls)) new.object

@@ -32,9 +32,8 @@ use Rattle.shared_objects.specs.Logs.{is_event}
 use Rattle.run_merge.specs.Entries.{Entry, AreEvents}
 use Rattle.run_merge.specs.Merging.{Ticketed}
 use Rattle.run_merge.specs.Products.{LeadsTask, is_next_round}
-use Rattle.run_merge.specs.SharedObjects.{ticketed}
 use Rattle.run_merge.proofs.enough_shown.CallTickets.{events_told, events_untold}
-use Rattle.run_merge.proofs.enough_shown.CallEvents.{ticketed_events}
+use Rattle.run_merge.proofs.enough_shown.CallEvents.{drawn_entry, ticketed_events}
 use Rattle.run_merge.proofs.enough_shown.ObjectHistories as calls
 use Rattle.run_merge.proofs.enough_shown.LogLeads.{is_told}
 use Rattle.run_merge.proofs.products.KeeperAsks.{is_keeping, writer_keeps_none, rescuer_keeps_none, completer_keeps_none}
@@ -134,7 +133,7 @@ rounds_of ns = length (filter (λ (n : Ticketed). is_next_round n.entry.asked) n
 pub tally_starts : (history : List Call) (old new : ThingState TallyState) → Leads (answers_at OfTally) old history new
     → calls.starts (drawn_in history) ≤ rounds_of (ticketed_events history)
 tally_starts [] old new leads = omega arith
-tally_starts (call ∷ history) old new leads = by_ticket call.told.ticket leads.1.step (is_told call) refl (tally_starts history leads.0 new leads.2)
+tally_starts (call ∷ history) old new leads = by_ticket call.told.drawn leads.1.step (is_told call) refl (tally_starts history leads.0 new leads.2)
   where
     few : List Call
     few = drawn_in history
@@ -144,13 +143,13 @@ tally_starts (call ∷ history) old new leads = by_ticket call.told.ticket leads
 
     more : (b : Bool) → calls.starts few ≤ rounds_of events
         → length (cond b (call ∷ filter (λ (c : Call). is_next_round c.asked) few) (filter (λ (c : Call). is_next_round c.asked) few))
-        ≤ length (cond b (ticketed call ∷ filter (λ (n : Ticketed). is_next_round n.entry.asked) events) (filter (λ (n : Ticketed). is_next_round n.entry.asked) events))
+        ≤ length (cond b (drawn_entry call ∷ filter (λ (n : Ticketed). is_next_round n.entry.asked) events) (filter (λ (n : Ticketed). is_next_round n.entry.asked) events))
     more true rest = omega (arith, rest)
     more false rest = rest
 
     fewer : (b : Bool) → calls.starts few ≤ rounds_of events
         → calls.starts few
-        ≤ length (cond b (ticketed call ∷ filter (λ (n : Ticketed). is_next_round n.entry.asked) events) (filter (λ (n : Ticketed). is_next_round n.entry.asked) events))
+        ≤ length (cond b (drawn_entry call ∷ filter (λ (n : Ticketed). is_next_round n.entry.asked) events) (filter (λ (n : Ticketed). is_next_round n.entry.asked) events))
     fewer true rest = omega (arith, rest)
     fewer false rest = rest
 

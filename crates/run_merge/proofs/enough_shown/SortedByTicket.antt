@@ -14,9 +14,8 @@ use Rattle.shared_objects.specs.Names.{Apart}
 use Rattle.shared_objects.specs.Logs.{events_in}
 use Rattle.shared_objects.proofs.SameNames.{same_is}
 use Rattle.run_merge.specs.Merging.{Ticketed, insert, sorted, RiseFrom, all_of, done_by}
-use Rattle.run_merge.specs.SharedObjects.{ticketed}
 use Rattle.run_merge.proofs.enough_shown.CallTickets.{events_told, events_untold, rises_above}
-use Rattle.run_merge.proofs.enough_shown.CallEvents.{ticketed_events, event_histories}
+use Rattle.run_merge.proofs.enough_shown.CallEvents.{drawn_entry, ticketed_events, event_histories}
 use Rattle.run_merge.proofs.enough_shown.CalledObjects.{or_first, or_second, turned}
 use Rattle.run_merge.proofs.enough_shown.LogLeads.{is_told}
 use Rattle.run_merge.proofs.merging.Picked.{is_at, is_by}
@@ -40,29 +39,30 @@ mine_is place (suc by) some = by_test (place == by) refl
 abbrev mine : ℕ → Call → Bool
 mine place call = nat_lt 0 (count call.by ((place + 1) ∷ []))
 
--- those of a task among calls of some kind
-pub picks_mine : (p : Call → Bool) (place : ℕ) (calls : List Call) → All (λ (call : Call). 0 < call.by) calls
-    → filter (is_by place) (map ticketed (filter p calls)) ≡ map ticketed (filter p (calls_by ((place + 1) ∷ []) calls))
-picks_mine p place [] some = refl
-picks_mine p place (call ∷ calls) some =
-    by_two (p call) (mine place call) refl (mine_is place call.by (All-head (λ (c : Call). 0 < c.by) call calls some))
-    (picks_mine p place calls (All-tail (λ (c : Call). 0 < c.by) call calls some))
-  where
-    rest : List Call
-    rest = calls_by ((place + 1) ∷ []) calls
+-- those of a task among calls of some kind, as entries
+module _ (entry : Call → Ticketed) (place : ℕ) (by : (call : Call) → is_by place (entry call) ≡ (place == call.by - 1)) where
+  pub picks_mine : (p : Call → Bool) (calls : List Call) → All (λ (call : Call). 0 < call.by) calls
+      → filter (is_by place) (map entry (filter p calls)) ≡ map entry (filter p (calls_by ((place + 1) ∷ []) calls))
+  picks_mine p [] some = refl
+  picks_mine p (call ∷ calls) some =
+      by_two (p call) (mine place call) refl (by call ∙ mine_is place call.by (All-head (λ (c : Call). 0 < c.by) call calls some))
+      (picks_mine p calls (All-tail (λ (c : Call). 0 < c.by) call calls some))
+    where
+      rest : List Call
+      rest = calls_by ((place + 1) ∷ []) calls
 
-    picked : List Ticketed
-    picked = filter (is_by place) (map ticketed (filter p calls))
+      picked : List Ticketed
+      picked = filter (is_by place) (map entry (filter p calls))
 
-    more : (b : Bool) → p call ≡ b → map ticketed (filter p (call ∷ rest)) ≡ map ticketed (cond b (call ∷ filter p rest) (filter p rest))
-    more b is = ap (λ b. map ticketed (cond b (call ∷ filter p rest) (filter p rest))) is
+      more : (b : Bool) → p call ≡ b → map entry (filter p (call ∷ rest)) ≡ map entry (cond b (call ∷ filter p rest) (filter p rest))
+      more b is = ap (λ b. map entry (cond b (call ∷ filter p rest) (filter p rest))) is
 
-    by_two : (has own : Bool) → p call ≡ has → is_by place (ticketed call) ≡ own → picked ≡ map ticketed (filter p rest)
-        → filter (is_by place) (map ticketed (cond has (call ∷ filter p calls) (filter p calls))) ≡ map ticketed (filter p (cond own (call ∷ rest) rest))
-    by_two true true h m is = ap (λ b. cond b (ticketed call ∷ picked) picked) m ∙ ap (λ l. ticketed call ∷ l) is ∙ sym (more true h)
-    by_two true false h m is = ap (λ b. cond b (ticketed call ∷ picked) picked) m ∙ is
-    by_two false true h m is = is ∙ sym (more false h)
-    by_two false false h m is = is
+      by_two : (has own : Bool) → p call ≡ has → is_by place (entry call) ≡ own → picked ≡ map entry (filter p rest)
+          → filter (is_by place) (map entry (cond has (call ∷ filter p calls) (filter p calls))) ≡ map entry (filter p (cond own (call ∷ rest) rest))
+      by_two true true h m is = ap (λ b. cond b (entry call ∷ picked) picked) m ∙ ap (λ l. entry call ∷ l) is ∙ sym (more true h)
+      by_two true false h m is = ap (λ b. cond b (entry call ∷ picked) picked) m ∙ is
+      by_two false true h m is = is ∙ sym (more false h)
+      by_two false false h m is = is
 
 -- of the calls at an object the events are those among all that are at it
 pub events_to : (name : Object) (log : List Call) → ticketed_events (calls_to name log) ≡ filter (is_at name) (ticketed_events log)
@@ -73,11 +73,11 @@ events_to name (call ∷ calls) = by_two (is_told call) (is_same_object name (ob
     rest = calls_to name calls
 
     by_two : (told own : Bool) → is_told call ≡ told → is_same_object name (object_of call.asked) ≡ own → ticketed_events rest ≡ filter (is_at name) (ticketed_events calls)
-        → ticketed_events (cond own (call ∷ rest) rest) ≡ filter (is_at name) (map ticketed (cond told (call ∷ events_in calls) (events_in calls)))
+        → ticketed_events (cond own (call ∷ rest) rest) ≡ filter (is_at name) (map drawn_entry (cond told (call ∷ events_in calls) (events_in calls)))
     by_two true true t m is =
-        events_told call rest t ∙ ap (λ l. ticketed call ∷ l) is
-        ∙ sym (ap (λ b. cond b (ticketed call ∷ filter (is_at name) (ticketed_events calls)) (filter (is_at name) (ticketed_events calls))) m)
-    by_two true false t m is = is ∙ sym (ap (λ b. cond b (ticketed call ∷ filter (is_at name) (ticketed_events calls)) (filter (is_at name) (ticketed_events calls))) m)
+        events_told call rest t ∙ ap (λ l. drawn_entry call ∷ l) is
+        ∙ sym (ap (λ b. cond b (drawn_entry call ∷ filter (is_at name) (ticketed_events calls)) (filter (is_at name) (ticketed_events calls))) m)
+    by_two true false t m is = is ∙ sym (ap (λ b. cond b (drawn_entry call ∷ filter (is_at name) (ticketed_events calls)) (filter (is_at name) (ticketed_events calls))) m)
     by_two false true t m is = events_untold call rest t ∙ is
     by_two false false t m is = is
 
@@ -170,5 +170,5 @@ done_is names history place log apart some calls there rises = ap sorted (picked
     picked (name ∷ names) =
         filter-append (is_by place) (ticketed_events (history name)) (all_of (event_histories names history))
         ∙ ap (λ l. l ++ filter (is_by place) (all_of (event_histories names history)))
-        (picks_mine is_told place (history name) (some name) ∙ ap ticketed_events (calls name) ∙ events_to name log)
+        (picks_mine drawn_entry place (λ call. refl) is_told (history name) (some name) ∙ ap ticketed_events (calls name) ∙ events_to name log)
         ∙ ap (λ l. filter (is_at name) (ticketed_events log) ++ l) (picked names)

@@ -92,7 +92,7 @@ module _ (s : Scenario) (plain : Plain) (names : List Object) (history : Object 
     (ready : (name : Object) → IsReady ledger name (opened_at plain name) (drawn_in (history name))) where
   pub parts_ready : (name : Object) (before after : List Call) → history name ≡ before ++ after → IsReady ledger name (opened_at plain name) (drawn_in before ++ drawn_in after)
   parts_ready name before after is =
-      subst (IsReady ledger name (opened_at plain name)) (ap drawn_in is ∙ filter-append (λ (call : Call). is_some call.told.ticket) before after) (ready name)
+      subst (IsReady ledger name (opened_at plain name)) (ap drawn_in is ∙ filter-append (λ (call : Call). is_some call.told.drawn) before after) (ready name)
 
   pub history_parts : (name : Object) (call : Call) (p : IsInPlace (setup s) plain names history left tasks pass c name call) → is_told call ≡ false
       → history_of name (event_histories names history) ≡ ticketed_events p.before ++ ticketed_events p.after
@@ -132,12 +132,12 @@ module _ (s : Scenario) (plain : Plain) (names : List Object) (history : Object 
       untold = ap (λ a. is_event a call.told.reply) asks ∙ is.untold call.told.reply
 
       told : TallyMachine p.here.object look call.told.reply p.here.object × (is_spent call.told.reply ≡ false)
-      told = is.serves p.here p.next call.told.reply call.told.ticket
-          (subst (λ a. StepOf things.TallyServes things.TallyLooks p.here a call.told.reply call.told.ticket p.next) asks p.answers.step)
+      told = is.serves p.here p.next call.told.reply call.told.drawn
+          (subst (λ a. StepOf things.TallyServes things.TallyLooks p.here a call.told.reply call.told.drawn p.next) asks p.answers.step)
 
   -- a look that lets a task ask
   pub lets_ask : (place : ℕ) (task : Returned) → slice_get tasks place ≡ Some task → (before : List Call) → ((x : Call) → Contains before x → Contains task.log x)
-      → (now : TaskState) (call : Call) (n : ℕ) → call.told.ticket ≡ Some n → (look : Option Request) → look_of now ≡ look → Looked before now call look
+      → (now : TaskState) (call : Call) (n : ℕ) → call.told.drawn ≡ Some n → (look : Option Request) → look_of now ≡ look → Looked before now call look
       → LetsAsk s ledger (history_of OfTally (event_histories names history)) n now look
   lets_ask place task at before inside now call n ticket None is looked = tt
   lets_ask place task at before inside now call n ticket (Some look) is (seen, there, asks, may, less) = (

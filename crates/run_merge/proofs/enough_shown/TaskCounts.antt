@@ -29,10 +29,9 @@ use Rattle.shared_objects.proofs.steps.EventOrRefused.{refused_stops, served_ref
 use Rattle.run_merge.specs.Entries.{Entry}
 use Rattle.run_merge.specs.Merging.{Ticketed, RiseFrom, without_tickets, all_of, done_by}
 use Rattle.run_merge.specs.Products.{is_next_round}
-use Rattle.run_merge.specs.SharedObjects.{ticketed}
 use Rattle.run_merge.proofs.enough_shown.BreaksOff.{stop_breaks}
 use Rattle.run_merge.proofs.enough_shown.CallTickets.{rises_events}
-use Rattle.run_merge.proofs.enough_shown.CallEvents.{ticketed_events, event_histories}
+use Rattle.run_merge.proofs.enough_shown.CallEvents.{ticketed_events, event_histories, drawn_entry}
 use Rattle.run_merge.proofs.enough_shown.ObjectHistories as calls
 use Rattle.run_merge.proofs.enough_shown.ObjectHistories.{told_drew}
 use Rattle.run_merge.proofs.enough_shown.CalledObjects.{ask_some, named}
@@ -48,10 +47,10 @@ use Rattle.run_merge.proofs.merging.Picked.{is_at, is_by, entries_filter, filter
 
 -- a call that left its task as it was drew no ticket
 abbrev GlanceNone : Call → Type 0
-GlanceNone call = is_glance call.asked call.told.reply ≡ true → call.told.ticket ≡ None
+GlanceNone call = is_glance call.asked call.told.reply ≡ true → call.told.drawn ≡ None
 
 first_ticket : (call : Call) (calls : List Call) → length (tickets_in (call ∷ calls)) ≤ length (tickets_in calls) + 1
-first_ticket call calls = by_ticket call.told.ticket
+first_ticket call calls = by_ticket call.told.drawn
   where
     by_ticket : (ticket : Option ℕ) → length (cons_option ticket (tickets_in calls)) ≤ length (tickets_in calls) + 1
     by_ticket None = omega arith
@@ -124,7 +123,7 @@ module _ (s : Scenario) (plain : Plain) (names : List Object) (history : Object 
 
   placed : (name : Object) → All (λ (x : Ticketed). x.entry.place < length tasks) (ticketed_events (history name))
   placed name =
-      All-map (λ (x : Ticketed). x.entry.place < length tasks) ticketed (events_in (history name))
+      All-map (λ (x : Ticketed). x.entry.place < length tasks) drawn_entry (events_in (history name))
       (All-filter is_told (λ (call : Call). call.by - 1 < length tasks) (history name)
       (All-weaker (λ (call : Call). (0 < call.by) × (call.by ≤ length tasks)) (λ (call : Call). call.by - 1 < length tasks)
       (λ call h. let some = h.0 in let less = h.1 in omega (arith, some, less)) (history name) (c.numbers name)))
@@ -144,7 +143,7 @@ module _ (s : Scenario) (plain : Plain) (names : List Object) (history : Object 
   pub done_at : (place : ℕ) (task : Returned) → slice_get tasks place ≡ Some task → done_by place (event_histories names history) ≡ ticketed_events task.log
   done_at place task at =
       done_is names history place task.log c.apart number_some (λ name. c.calls name place task at)
-      (All-map (λ (n : Ticketed). list_any (λ name. is_same_object name (object_of n.entry.asked)) names ≡ true) ticketed (events_in task.log)
+      (All-map (λ (n : Ticketed). list_any (λ name. is_same_object name (object_of n.entry.asked)) names ≡ true) drawn_entry (events_in task.log)
       (All-filter is_told (λ (call : Call). list_any (λ name. is_same_object name (object_of call.asked)) names ≡ true) task.log
       (All-weaker (Contains task.log) (λ (call : Call). list_any (λ name. is_same_object name (object_of call.asked)) names ≡ true)
       (named s plain names history left tasks pass c place task at) task.log (All-contains_itself task.log))))
@@ -157,7 +156,7 @@ module _ (s : Scenario) (plain : Plain) (names : List Object) (history : Object 
       let p = λ (n : Ticketed). is_next_round n.entry.asked in
       let events = ticketed_events task.log in
       let mine : filter (is_by place) (ticketed_events (history OfTally)) ≡ filter (is_at OfTally) events =
-      picks_mine is_told place (history OfTally) (number_some OfTally) ∙ ap ticketed_events (c.calls OfTally place task at) ∙ events_to OfTally task.log in
+      picks_mine drawn_entry place (λ call. refl) is_told (history OfTally) (number_some OfTally) ∙ ap ticketed_events (c.calls OfTally place task at) ∙ events_to OfTally task.log in
       let same : length (filter (is_by place) (filter p (ticketed_events (history OfTally)))) ≡ length (filter (is_at OfTally) (filter p events)) =
       ap (λ (l : List Ticketed). length l)
       (filter_swap (is_by place) p (ticketed_events (history OfTally)) ∙ ap (filter p) mine ∙ filter_swap p (is_at OfTally) events) in
@@ -166,7 +165,7 @@ module _ (s : Scenario) (plain : Plain) (names : List Object) (history : Object 
       let w = walked place task at in
       let most = task_starts (setup s) (without_tickets events) task.first w.now
       (All-map (λ (e : Entry). IsTrue (is_event e.asked e.reply)) (λ (n : Ticketed). n.entry) events
-      (All-map (λ (n : Ticketed). IsTrue (is_event n.entry.asked n.entry.reply)) ticketed (events_in task.log) (filter_passes is_told task.log))) w.leads in
+      (All-map (λ (n : Ticketed). IsTrue (is_event n.entry.asked n.entry.reply)) drawn_entry (events_in task.log) (filter_passes is_told task.log))) w.leads in
       let first = ap starts_left (first_is place task at) in
       let few = few_of (is_at OfTally) (filter p events) in
       omega (arith, same, entries, most, first, few)
@@ -199,7 +198,7 @@ module _ (s : Scenario) (plain : Plain) (names : List Object) (history : Object 
 
   -- a call that left its task as it was drew no ticket
   glance_none : (place : ℕ) (task : Returned) → slice_get tasks place ≡ Some task → (call : Call) → Contains task.log call → GlanceNone call
-  glance_none place task at call within glance = by_ticket call.told.ticket p.answers.step
+  glance_none place task at call within glance = by_ticket call.told.drawn p.answers.step
     where
       name : Object
       name = object_of call.asked
@@ -222,7 +221,7 @@ module _ (s : Scenario) (plain : Plain) (names : List Object) (history : Object 
       let tickets = ap (λ (l : List ℕ). length l) (drew_of (setup s) plain names history left tasks pass c place task at) in
       let few = few_tickets (setup s) [] task.first task.log task.task (ask_some s plain names history left tasks pass c place task at)
       (All-weaker (Contains task.log) GlanceNone (glance_none place task at) task.log (All-contains_itself task.log)) (logged (setup s) plain names history left tasks pass c place task at).0.leads in
-      let events = length-map (events_in task.log) ticketed in
+      let events = length-map (events_in task.log) drawn_entry in
       let done = ap (λ (l : List Ticketed). length l) (done_at place task at) in
       let order = sorted_length (filter (is_by place) (all_of (event_histories names history))) in
       omega (arith, tickets, few, events, done, order)

@@ -25,9 +25,9 @@ use Rattle.run_merge.specs.Closing.{IsThrough, WasRefused, HasLast}
 use Rattle.run_merge.specs.Machines.{ServesAt, TallyMachine, LeadsObject}
 use Rattle.run_merge.specs.Merging.{Ticketed, without_tickets, done_by}
 use Rattle.run_merge.specs.ObjectsByName.{get}
-use Rattle.run_merge.specs.SharedObjects.{ticketed, seen_at}
+use Rattle.run_merge.specs.SharedObjects.{seen_at}
 use Rattle.run_merge.proofs.enough_shown.CallTickets.{events_append, events_untold, rises_events, none_greater, rises_above, rises_parts}
-use Rattle.run_merge.proofs.enough_shown.CallEvents.{ticketed_events, event_histories}
+use Rattle.run_merge.proofs.enough_shown.CallEvents.{ticketed_events, event_histories, drawn_entry}
 use Rattle.run_merge.proofs.enough_shown.TallyLooks.{parts_ready, history_parts, IsSeen, seen_then, left_look, lets_ask}
 use Rattle.run_merge.proofs.enough_shown.ObjectHistories.{told_drew, IsReady, ready_first, ready_behind, serves_is, serves_none, drawn_leads}
 use Rattle.run_merge.proofs.enough_shown.NoTicketCalls.{found_none, none_served, stop_spent}
@@ -40,7 +40,7 @@ module _ (s : Scenario) (plain : Plain) (names : List Object) (history : Object 
     (found : All (λ (task : Returned). found_by task.desk.pass ≤ pass.known) tasks) where
   -- where an object said that there was no ticket, the last one was drawn
   pub said_last : (name : Object) (call : Call) → Contains (history name) call → is_spent call.told.reply ≡ true → HasLast (numbers_of pass.drawn)
-  said_last name call there spent = by_ticket call.told.ticket refl p.answers.step
+  said_last name call there spent = by_ticket call.told.drawn refl p.answers.step
     where
       p : IsInPlace (setup s) plain names history left tasks pass c name call
       p = in_place (setup s) plain names history left tasks pass c name call there
@@ -49,13 +49,13 @@ module _ (s : Scenario) (plain : Plain) (names : List Object) (history : Object 
       spent_is Spent is = refl
       spent_is reply is = absurd (true≢false (sym is))
 
-      by_object : (b : Bool) → p.here.spent ≡ b → call.told.ticket ≡ None → HasLast (numbers_of pass.drawn)
+      by_object : (b : Bool) → p.here.spent ≡ b → call.told.drawn ≡ None → HasLast (numbers_of pass.drawn)
       by_object false had none = last_drawn (setup s) plain names history left tasks pass c found name call there (spent, p.answers.drew ∙ ap not had, none)
       by_object true had none =
           let f = found_none name (unasked (opened_at plain name)) p.here p.before p.leads refl had in
           last_drawn (setup s) plain names history left tasks pass c found name f.0 (subst (λ l. Contains l f.0) (sym p.is) (Contains-append_left p.before (call ∷ p.after) f.0 f.1)) f.2
 
-      by_ticket : (ticket : Option ℕ) → call.told.ticket ≡ ticket → StepOf (serves_at name) (looks_at name) p.here call.asked call.told.reply ticket p.next → HasLast (numbers_of pass.drawn)
+      by_ticket : (ticket : Option ℕ) → call.told.drawn ≡ ticket → StepOf (serves_at name) (looks_at name) p.here call.asked call.told.reply ticket p.next → HasLast (numbers_of pass.drawn)
       by_ticket (Some n) t step =
           none_served name p.here.object p.next.object call.asked (subst (λ r. serves_at name p.here.object call.asked r p.next.object) (spent_is call.told.reply spent) step.0)
       by_ticket None t step = by_object p.here.spent refl t
@@ -84,7 +84,7 @@ module _ (s : Scenario) (plain : Plain) (names : List Object) (history : Object 
       p : IsInPlace (setup s) plain names history left tasks pass c (object_of st.call.asked) st.call
       p = in_place (setup s) plain names history left tasks pass c (object_of st.call.asked) st.call there
 
-      refused : (n : ℕ) → st.call.told.ticket ≡ Some n
+      refused : (n : ℕ) → st.call.told.drawn ≡ Some n
           → WasRefused s ledger (event_histories names history) place now task.task
       refused n ticket = record {
         asked = st.call.asked;
@@ -148,15 +148,15 @@ module _ (s : Scenario) (plain : Plain) (names : List Object) (history : Object 
               let lt : parts.0 < n = subst (IsNextTicket parts.0) ticket parts.2.0 in
               let events : ticketed_events task.log ≡ ticketed_events st.here =
               ap ticketed_events st.log_is ∙ events_append st.here (st.call ∷ st.later)
-              ∙ ap (λ l. ticketed_events st.here ++ l) (events_untold st.call st.later st.untold ∙ ap (map ticketed) st.none) ∙ append-nil (ticketed_events st.here) in
+              ∙ ap (λ l. ticketed_events st.here ++ l) (events_untold st.call st.later st.untold ∙ ap (map drawn_entry) st.none) ∙ append-nil (ticketed_events st.here) in
               subst (All (λ (x : Ticketed). x.ticket < n)) (sym events)
               (All-weaker (λ (x : Ticketed). x.ticket ≤ parts.0) (λ (x : Ticketed). x.ticket < n) (λ x le. omega (arith, le, lt)) (ticketed_events st.here)
               (none_greater 0 parts.0 st.here parts.1 has_here).1)
 
       stopped : WasRefused s ledger (event_histories names history) place now task.task ⊎ HasLast (numbers_of pass.drawn)
-      stopped = by_ticket st.call.told.ticket refl
+      stopped = by_ticket st.call.told.drawn refl
         where
-          by_ticket : (ticket : Option ℕ) → st.call.told.ticket ≡ ticket
+          by_ticket : (ticket : Option ℕ) → st.call.told.drawn ≡ ticket
               → WasRefused s ledger (event_histories names history) place now task.task ⊎ HasLast (numbers_of pass.drawn)
           by_ticket (Some n) t = inl (refused n t)
           by_ticket None t =

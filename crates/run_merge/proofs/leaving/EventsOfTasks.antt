@@ -15,9 +15,8 @@ use Rattle.shared_objects.specs.Kinds.{ThingAt}
 use Rattle.shared_objects.specs.Logs.{events_in}
 use Rattle.shared_objects.specs.Rows.{Abreast}
 use Rattle.run_merge.specs.Merging.{Ticketed, all_of}
-use Rattle.run_merge.specs.SharedObjects.{ticketed}
 use Rattle.run_merge.proofs.enough_shown.TaskCounts.{all_placed, done_at}
-use Rattle.run_merge.proofs.enough_shown.CallEvents.{event_histories}
+use Rattle.run_merge.proofs.enough_shown.CallEvents.{drawn_entry, event_histories}
 use Rattle.run_merge.proofs.enough_shown.PlaceSums.{total, by_places}
 use Rattle.run_merge.proofs.closing.EventsAndEntries.{sorted_length}
 use Rattle.run_merge.proofs.merging.Picked.{is_by}
@@ -38,7 +37,7 @@ module _ (s : Scenario) (plain : Plain) (names : List Object) (history : Object 
   one_task place task at =
       let done = ap (λ (l : List Ticketed). length l) (done_at s plain names history left tasks pass c firsts place task at) in
       let order = sorted_length (filter (is_by place) (all_of (event_histories names history))) in
-      let events = length-map (events_in task.log) ticketed in
+      let events = length-map (events_in task.log) drawn_entry in
       omega (arith, done, order, events)
 
   pub all_tasks : sum_by (λ (task : Returned). length (events_in task.log)) tasks ≡ length (all_of (event_histories names history))

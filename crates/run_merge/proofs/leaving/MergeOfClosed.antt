@@ -16,19 +16,21 @@ use Rattle.task_steps.specs.Routed.{routing_setup}
 use Rattle.block_core.specs.Runnable.{IsRunnable}
 use Rattle.block_core.proofs.bound.Bounded.{runs_are_bounded}
 use Rattle.block_core.proofs.claim.Runnable.{accepted_texts_are_runnable, steps_fit_in_24_bits}
-use Rattle.object_things.specs.Histories.{Call, drawn_in}
+use Rattle.object_things.specs.Histories.{Call, CarriesItsOwn, ticketed_in}
 use Rattle.seat_lock.specs.History.{calls_by}
 use Rattle.shared_objects.specs.Calls.{calls_at, calls_to}
 use Rattle.shared_objects.specs.ClosedByName.{history_in, object_left_in, names_in}
 use Rattle.shared_objects.specs.Closes.{Returned, ClosesAs}
 use Rattle.shared_objects.specs.Holding.{calls_of}
 use Rattle.shared_objects.specs.Desks.{DeskState}
+use Rattle.shared_objects.specs.Kinds.{opened_at, unasked}
 use Rattle.shared_objects.specs.Left.{HasClosed, IsReturned}
 use Rattle.shared_objects.specs.Logs.{events_in}
 use Rattle.shared_objects.specs.Rows.{Abreast}
 use Rattle.shared_objects.specs.declared.closed.Closed.{Closed}
 use Rattle.shared_objects.specs.declared.closed.ClosedTask.{ClosedTask}
 use Rattle.shared_objects.specs.Passes.{numbers_of}
+use Rattle.shared_objects.proofs.logs.StepNotes.{HasTicket}
 use Rattle.run_merge.specs.declared.outcome.Outcome.{Outcome}
 use Rattle.run_merge.specs.Closing.{MergeIsEndedRun}
 use Rattle.run_merge.specs.Falling.{with_facts, falling_below}
@@ -39,6 +41,7 @@ use Rattle.run_merge.specs.Outcomes.{shared_scenario, shared_ledger, histories_i
 use Rattle.run_merge.specs.SharedObjects.{DrewAsEvent, entry_histories, seen_at, state_left, ticketed}
 use Rattle.run_merge.proofs.enough_shown.ClosesAreRuns.{closes_are_runs}
 use Rattle.run_merge.proofs.enough_shown.CallEvents.{histories_are}
+use Rattle.run_merge.proofs.enough_shown.ObjectHistories.{history_shows}
 use Rattle.run_merge.proofs.enough_shown.SortedByTicket.{picks_mine}
 use Rattle.run_merge.proofs.closing.EventsAndEntries.{merge_length}
 use Rattle.run_merge.proofs.leaving.EventsOfTasks.{all_tasks, sums_stop}
@@ -89,8 +92,8 @@ module _ (closed : Closed) (has : HasClosed closed) where
   some_by name =
       All-weaker (λ (call : Call). (0 < call.by) × (call.by ≤ length has.returned)) (λ (call : Call). 0 < call.by) (λ call h. h.0) (history_in closed name) (has.closes.numbers name)
 
-  abbrev drawn : List Call → List Ticketed
-  drawn calls = map ticketed (drawn_in calls)
+  abbrev entries : List Call → List Ticketed
+  entries calls = map ticketed (ticketed_in calls)
 
   -- the events of a task are those that its seats show
   module _ (place : ℕ) (task : ClosedTask) (at : slice_get closed.tasks.items place ≡ Some task) where
@@ -124,10 +127,10 @@ module _ (closed : Closed) (has : HasClosed closed) where
     picked : (names : List Object) → filter (is_by place) (all_of (entry_histories names (history_in closed))) ≡ all_of (entry_histories names (calls_at (calls_of task.seats.value)))
     picked [] = refl
     picked (name ∷ names) =
-        filter-append (is_by place) (drawn (history_in closed name)) (all_of (entry_histories names (history_in closed)))
+        filter-append (is_by place) (entries (history_in closed name)) (all_of (entry_histories names (history_in closed)))
         ∙ ap (λ l. l ++ filter (is_by place) (all_of (entry_histories names (history_in closed))))
-        (picks_mine (λ (call : Call). is_some call.told.ticket) place (history_in closed name) (some_by name) ∙ ap drawn (calls_are name))
-        ∙ ap (λ l. drawn (calls_at (calls_of task.seats.value) name) ++ l) (picked names)
+        (picks_mine ticketed place (λ call. refl) (λ (call : Call). is_some call.told.ticket) (history_in closed name) (some_by name) ∙ ap entries (calls_are name))
+        ∙ ap (λ l. entries (calls_at (calls_of task.seats.value) name) ++ l) (picked names)
 
     pub task_shows : done_by place (histories_in closed) ≡ sorted (all_of (histories_by closed task.seats.value))
     task_shows = ap sorted (picked (names_in closed))
@@ -146,11 +149,15 @@ module _ (closed : Closed) (has : HasClosed closed) where
   merged =
       subst (MergeIsEndedRun (shared_scenario closed) (shared_ledger closed) (histories_in closed) (numbers_of closed.pass.value.drawn)) state_is closes.0
 
+  shows : (name : Object) → All HasTicket (history_in closed name) × All CarriesItsOwn (history_in closed name)
+  shows name =
+      history_shows name (unasked (opened_at closed.told.value.objects name)) (object_left_in closed closed.told.value.objects name) (history_in closed name) (has.closes.things name)
+
   -- as many events as the tasks had together
   counted : min (sum_by (λ (task : ClosedTask). task.events) closed.tasks.items) (2 ^ 64 - 1) ≡ length merged.run.0
   counted =
       let all = all_tasks (shared_scenario closed) closed.told.value.objects (names_in closed) (history_in closed) (object_left_in closed closed.told.value.objects) has.returned closed.pass.value closes_in firsts_in in
-      let same = ap (λ histories. length (all_of histories)) (histories_are (names_in closed) (history_in closed) closes.1) in
+      let same = ap (λ histories. length (all_of histories)) (histories_are (names_in closed) (history_in closed) shows) in
       let long = merge_length (shared_scenario closed) (shared_ledger closed) (all_of (histories_in closed)) (state_in closed) merged.run in
       let bounded = runs_are_bounded (shared_scenario closed) (shared_ledger closed) merged.run.0 (state_in closed) runnable.scenario has.opened.one.holds.numbered merged.run.1 in
       let few = steps_fit_in_24_bits (shared_scenario closed) runnable in

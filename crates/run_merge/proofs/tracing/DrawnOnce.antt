@@ -24,10 +24,9 @@ use Rattle.shared_objects.specs.Passes.{numbers_of}
 use Rattle.shared_objects.proofs.tickets.TicketsOfCalls.{drawn_of, drew_of, numbers_is}
 use Rattle.shared_objects.proofs.logs.StepNotes.{HasTicket}
 use Rattle.run_merge.specs.Merging.{Ticketed, sorted, all_of}
-use Rattle.run_merge.specs.SharedObjects.{ticketed}
 use Rattle.run_merge.proofs.enough_shown.TaskCounts.{done_at, image_at, all_placed, log_drew}
 use Rattle.run_merge.proofs.enough_shown.CallTickets.{events_told, events_untold}
-use Rattle.run_merge.proofs.enough_shown.CallEvents.{ticketed_events, event_histories}
+use Rattle.run_merge.proofs.enough_shown.CallEvents.{ticketed_events, event_histories, drawn_entry}
 use Rattle.run_merge.proofs.enough_shown.PlaceSums.{total, total_most, total_list, by_places}
 use Rattle.run_merge.proofs.enough_shown.LogLeads.{is_told}
 use Rattle.run_merge.proofs.merging.Picked.{is_by, filter_swap, merge_by}
@@ -79,25 +78,25 @@ count_is number (n ∷ ns) = by_test (n.ticket == number) refl (count_is number 
 events_fewer : (number : ℕ) (calls : List Call) → All HasTicket calls → hits number (tickets_of (ticketed_events calls)) ≤ hits number (tickets_in calls)
 events_fewer number [] has = omega arith
 events_fewer number (call ∷ calls) has =
-    by_two (is_told call) refl call.told.ticket refl (events_fewer number calls (All-tail HasTicket call calls has))
+    by_two (is_told call) refl call.told.drawn refl (events_fewer number calls (All-tail HasTicket call calls has))
   where
     Few : List Ticketed → Option ℕ → Type 0
     Few ns ticket = hits number (tickets_of ns) ≤ hits number (cons_option ticket (tickets_in calls))
 
-    by_two : (told : Bool) → is_told call ≡ told → (ticket : Option ℕ) → call.told.ticket ≡ ticket → hits number (tickets_of (ticketed_events calls)) ≤ hits number (tickets_in calls)
-        → Few (ticketed_events (call ∷ calls)) call.told.ticket
+    by_two : (told : Bool) → is_told call ≡ told → (ticket : Option ℕ) → call.told.drawn ≡ ticket → hits number (tickets_of (ticketed_events calls)) ≤ hits number (tickets_in calls)
+        → Few (ticketed_events (call ∷ calls)) call.told.drawn
     by_two true is (Some n) t rest =
-        let here : or_last 0 call.told.ticket ≡ n = ap (or_last 0) t in
-        let first : Few (ticketed call ∷ ticketed_events calls) (Some n) =
+        let here : or_last 0 call.told.drawn ≡ n = ap (or_last 0) t in
+        let first : Few (drawn_entry call ∷ ticketed_events calls) (Some n) =
         subst (λ m. hits number (m ∷ tickets_of (ticketed_events calls)) ≤ hits number (n ∷ tickets_in calls)) (sym here)
         (omega (arith, rest, sum_by-cons (is_hit number) n (tickets_of (ticketed_events calls)), sum_by-cons (is_hit number) n (tickets_in calls))) in
-        subst (λ ns. Few ns call.told.ticket) (sym (events_told call calls is)) (subst (Few (ticketed call ∷ ticketed_events calls)) (sym t) first)
+        subst (λ ns. Few ns call.told.drawn) (sym (events_told call calls is)) (subst (Few (drawn_entry call ∷ ticketed_events calls)) (sym t) first)
     by_two true is None t rest = absurd (true≢false (sym (All-head HasTicket call calls has is) ∙ ap is_some t))
     by_two false is (Some n) t rest =
-        subst (λ ns. Few ns call.told.ticket) (sym (events_untold call calls is))
+        subst (λ ns. Few ns call.told.drawn) (sym (events_untold call calls is))
         (subst (Few (ticketed_events calls)) (sym t) (omega (arith, rest, sum_by-cons (is_hit number) n (tickets_in calls))))
     by_two false is None t rest =
-        subst (λ ns. Few ns call.told.ticket) (sym (events_untold call calls is)) (subst (Few (ticketed_events calls)) (sym t) rest)
+        subst (λ ns. Few ns call.told.drawn) (sym (events_untold call calls is)) (subst (Few (ticketed_events calls)) (sym t) rest)
 
 pub ordered_falls : (last : ℕ) (ns : List Ticketed) → Ordered last ns → All (λ m. last ≤ m) (tickets_of ns) × NoneFalls (tickets_of ns)
 ordered_falls last [] ordered = (All-nil (λ m. last ≤ m), tt)

@@ -22,11 +22,10 @@ use Rattle.shared_objects.proofs.logs.CallsLead.{kinds, stop_kind}
 use Rattle.shared_objects.proofs.steps.GlanceStays.{event_struck}
 use Rattle.run_merge.specs.Entries.{Entry, entries_in}
 use Rattle.run_merge.specs.Merging.{Ticketed, without_tickets}
-use Rattle.run_merge.specs.SharedObjects.{ticketed}
 use Rattle.run_merge.proofs.Fronts.{is_none}
 use Rattle.run_merge.proofs.enough_shown.BreaksOff.{stop_breaks}
 use Rattle.run_merge.proofs.enough_shown.CallTickets.{events_told, events_untold}
-use Rattle.run_merge.proofs.enough_shown.CallEvents.{ticketed_events}
+use Rattle.run_merge.proofs.enough_shown.CallEvents.{drawn_entry, ticketed_events}
 use Rattle.run_merge.proofs.enough_shown.LogLeads.{is_told, AskSome, only_looks}
 use Rattle.run_merge.proofs.merging.Picked.{is_by}
 use Rattle.run_merge.proofs.products.StateBehind.{entry_of}
@@ -204,11 +203,11 @@ module _ (setup : Setup) where
       → notes_of setup first log ≡ own_notes setup first (ticketed_events log)
   log_notes before first [] last some leads = refl
   log_notes before first (call ∷ calls) last some (inl (glance, leads)) =
-      ap (λ b. if b then notes_of setup first calls else noted_as (or_last 0 call.told.ticket) first (what_of (request setup first) call.told.reply) ++ notes_of setup (answered setup first call.told.reply) calls) glance
+      ap (λ b. if b then notes_of setup first calls else noted_as (or_last 0 call.told.drawn) first (what_of (request setup first) call.told.reply) ++ notes_of setup (answered setup first call.told.reply) calls) glance
       ∙ log_notes (before ++ call ∷ []) first calls last (All-tail (λ (c : Call). object_of c.asked ≡ OfNone → ⊥) call calls some) leads
       ∙ ap (own_notes setup first) (sym (events_untold call calls (kinds call glance).0))
   log_notes before first (call ∷ calls) last some (inr (goes, asks, looked, leads)) =
-      ap (λ b. if b then notes_of setup first calls else noted_as (or_last 0 call.told.ticket) first (what_of (request setup first) call.told.reply) ++ notes_of setup (answered setup first call.told.reply) calls) goes
+      ap (λ b. if b then notes_of setup first calls else noted_as (or_last 0 call.told.drawn) first (what_of (request setup first) call.told.reply) ++ notes_of setup (answered setup first call.told.reply) calls) goes
       ∙ by_event (is_told call) refl (log_notes (before ++ call ∷ []) (answered setup first call.told.reply) calls last others leads)
     where
       others : AskSome calls
@@ -219,10 +218,10 @@ module _ (setup : Setup) where
       no_what (Some what) none = absurd (true≢false none)
 
       by_event : (told : Bool) → is_told call ≡ told → notes_of setup (answered setup first call.told.reply) calls ≡ own_notes setup (answered setup first call.told.reply) (ticketed_events calls)
-          → noted_as (or_last 0 call.told.ticket) first (what_of (request setup first) call.told.reply) ++ notes_of setup (answered setup first call.told.reply) calls
+          → noted_as (or_last 0 call.told.drawn) first (what_of (request setup first) call.told.reply) ++ notes_of setup (answered setup first call.told.reply) calls
           ≡ own_notes setup first (ticketed_events (call ∷ calls))
       by_event true is rest =
-          ap (λ l. noted_as (or_last 0 call.told.ticket) first (what_of (request setup first) call.told.reply) ++ l) rest ∙ ap (own_notes setup first) (sym (events_told call calls is))
+          ap (λ l. noted_as (or_last 0 call.told.drawn) first (what_of (request setup first) call.told.reply) ++ l) rest ∙ ap (own_notes setup first) (sym (events_told call calls is))
       by_event false is rest =
           let stop = stop_kind (is_told call) (is_stop call.asked call.told.reply) goes is in
           let broken = stop_breaks setup first call.asked call.told.reply asks (All-head (λ (c : Call). object_of c.asked ≡ OfNone → ⊥) call calls some) stop in
@@ -230,6 +229,6 @@ module _ (setup : Setup) where
           let none : what_of (request setup first) call.told.reply ≡ None =
           no_what (what_of (request setup first) call.told.reply)
           (sym (event_struck (request setup first) call.told.reply) ∙ ap (λ asked. is_event asked call.told.reply) (sym asks) ∙ is) in
-          ap (λ what. noted_as (or_last 0 call.told.ticket) first what ++ notes_of setup (answered setup first call.told.reply) calls) none
-          ∙ rest ∙ ap (λ l. own_notes setup (answered setup first call.told.reply) (map ticketed l)) behind.1
-          ∙ sym (ap (own_notes setup first) (events_untold call calls is ∙ ap (map ticketed) behind.1))
+          ap (λ what. noted_as (or_last 0 call.told.drawn) first what ++ notes_of setup (answered setup first call.told.reply) calls) none
+          ∙ rest ∙ ap (λ l. own_notes setup (answered setup first call.told.reply) (map drawn_entry l)) behind.1
+          ∙ sym (ap (own_notes setup first) (events_untold call calls is ∙ ap (map drawn_entry) behind.1))

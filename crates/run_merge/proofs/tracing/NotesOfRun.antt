@@ -1,12 +1,10 @@
 -- What tasks noted, joined by tickets, are the events of the run to which the histories merge.
-use Rattle.std.proofs.Common.{◌≡◌, ◌⊎◌, ◌<◌, ◌≤◌, ◌++◌, cond, ℕ, suc, Bool, true, false, List, [], ◌∷◌, None, Some, length, filter, map, inl, inr, refl, sym, ◌∙◌, ap, subst, arith, get_or}
-use Rattle.std.specs.Option.{is_some}
-use Rattle.std.specs.Prelude.{All, Contains, IsPermutation, IsTrue, slice_get, sum_by}
+use Rattle.std.proofs.Common.{◌≡◌, ◌⊎◌, ◌<◌, ◌≤◌, ◌++◌, ℕ, suc, List, [], ◌∷◌, None, Some, length, filter, map, inl, inr, refl, sym, ◌∙◌, ap, subst, arith, get_or}
+use Rattle.std.specs.Prelude.{Contains, IsPermutation, slice_get, sum_by}
 use Rattle.std.specs.List.{flat_map}
 use Rattle.std.specs.List.Sorted.{IsNonDecreasingBy}
-use Rattle.std.proofs.lemmas.Bool.{true≢false}
 use Rattle.std.proofs.lemmas.List.{map-append}
-use Rattle.std.proofs.lemmas.List.Elements.{All-head, All-tail, All-cons, All-nil, All-weaker, All-contains, All-contains_itself, Contains-append_left, Contains-append_right, Contains-append_cases}
+use Rattle.std.proofs.lemmas.List.Elements.{Contains-append_cases}
 use Rattle.std.proofs.lemmas.List.Sorted.{Contains-permutation, IsPermutation-sym, sum_by-IsPermutation}
 use Rattle.std.proofs.lemmas.List.Sums.{sum_by-cons}
 use Rattle.std.proofs.lemmas.Option.{slice_get_cases}
@@ -20,28 +18,23 @@ use Rattle.run_machine.specs.Runs.{State, IsRun}
 use Rattle.task_core.specs.declared.plain.Plain.{Plain}
 use Rattle.task_core.specs.Plains.{stage_of}
 use Rattle.task_core.specs.opened.OfOne.{scenario_in}
-use Rattle.object_things.specs.Histories.{Call, drawn_in}
+use Rattle.object_things.specs.Histories.{Call}
 use Rattle.object_things.specs.Stamps.{ThingState}
 use Rattle.shared_objects.specs.Closes.{Returned, ClosesAs}
 use Rattle.shared_objects.specs.Kinds.{ThingAt, opened_at, unasked}
-use Rattle.shared_objects.specs.Logs.{is_event, events_in}
 use Rattle.shared_objects.specs.Noting.{notes_of}
 use Rattle.shared_objects.proofs.tickets.TicketsOfCalls.{flat_there}
 use Rattle.shared_objects.proofs.tickets.CallOwners.{logged}
-use Rattle.shared_objects.proofs.logs.StepNotes.{HasTicket}
-use Rattle.run_merge.specs.Entries.{Entry, AreEvents, entries_in}
+use Rattle.run_merge.specs.Entries.{entries_in}
 use Rattle.run_merge.specs.Joining.{IsJoined}
 use Rattle.run_merge.specs.Merging.{Ticketed, all_of, done_by, without_tickets, sorted}
-use Rattle.run_merge.specs.SharedObjects.{ticketed, entry_histories}
 use Rattle.run_merge.specs.Tracing.{notes_in, NotesAreRuns}
 use Rattle.run_merge.proofs.enough_shown.TaskCounts.{first_is, done_at}
-use Rattle.run_merge.proofs.enough_shown.CallEvents.{ticketed_events, event_histories}
-use Rattle.run_merge.proofs.enough_shown.ObjectHistories.{told_drew}
+use Rattle.run_merge.proofs.enough_shown.CallEvents.{ticketed_events, event_histories, histories_are}
+use Rattle.run_merge.proofs.enough_shown.ObjectHistories.{history_shows}
 use Rattle.run_merge.proofs.enough_shown.CalledObjects.{ask_some}
-use Rattle.run_merge.proofs.enough_shown.LogLeads.{is_told}
 use Rattle.run_merge.proofs.merging.Picked.{is_by, merge_by}
-use Rattle.run_merge.proofs.merging.TicketOrder.{sorted_ordered, of_sorted}
-use Rattle.run_merge.proofs.products.RunIsProduct.{run_events}
+use Rattle.run_merge.proofs.merging.TicketOrder.{sorted_ordered}
 use Rattle.run_merge.proofs.tracing.RisingLists.{is_hit, hits, AreOnce, climbs, none_falls, Climbs, NoneFalls, falls_rises, same_climbing}
 use Rattle.run_merge.proofs.tracing.DrawnOnce.{merged, merged_placed, merged_climbs, ordered_falls, parts_once}
 use Rattle.run_merge.proofs.tracing.NotedEntries.{keys_of, events_of, own_falls, own_notes, led_notes, run_notes, of_task, IsNotedOf, task_of, tickets_of, keys_fewer, log_notes}
@@ -144,49 +137,12 @@ module _ (s : Scenario) (ledger : ℕ → LedgerId) (plain : Plain) (names : Lis
     pub joined_is : events ≡ joined
     joined_is = sym (run_notes (scene s ledger) (start s) events last run entries is).1 ∙ ap events_of (sym in_order) ∙ sym j.values
 
-abbrev IsEntryOfEvent : Ticketed → Type 0
-IsEntryOfEvent n = IsTrue (is_event n.entry.asked n.entry.reply)
-
-of_entries : (ns : List Ticketed) → AreEvents (without_tickets ns) → All IsEntryOfEvent ns
-of_entries [] are = All-nil IsEntryOfEvent
-of_entries (n ∷ ns) are =
-    All-cons IsEntryOfEvent n ns (All-head (λ (e : Entry). IsTrue (is_event e.asked e.reply)) n.entry (without_tickets ns) are)
-    (of_entries ns (All-tail (λ (e : Entry). IsTrue (is_event e.asked e.reply)) n.entry (without_tickets ns) are))
-
--- The entries of a run are events: so the calls that drew a ticket are, where the merge of them is such entries.
-drawn_events : (calls : List Call) → All HasTicket calls → All IsEntryOfEvent (map ticketed (drawn_in calls)) → drawn_in calls ≡ events_in calls
-drawn_events [] has are = refl
-drawn_events (call ∷ calls) has are =
-    by_two (is_some call.told.ticket) (is_told call) refl refl are (drawn_events calls (All-tail HasTicket call calls has))
-  where
-    by_two : (drew told : Bool) → is_some call.told.ticket ≡ drew → is_told call ≡ told → All IsEntryOfEvent (map ticketed (cond drew (call ∷ drawn_in calls) (drawn_in calls)))
-        → (All IsEntryOfEvent (map ticketed (drawn_in calls)) → drawn_in calls ≡ events_in calls)
-        → cond drew (call ∷ drawn_in calls) (drawn_in calls) ≡ cond told (call ∷ events_in calls) (events_in calls)
-    by_two true true d t all more = ap (λ l. call ∷ l) (more (All-tail IsEntryOfEvent (ticketed call) (map ticketed (drawn_in calls)) all))
-    by_two true false d t all more = absurd (true≢false (sym (All-head IsEntryOfEvent (ticketed call) (map ticketed (drawn_in calls)) all) ∙ t))
-    by_two false true d t all more = absurd (true≢false (sym (All-head HasTicket call calls has t) ∙ d))
-    by_two false false d t all more = more all
-
-module _ (history : Object → List Call) (has : (name : Object) → All HasTicket (history name)) where
-  run_histories : (names : List Object) → All IsEntryOfEvent (all_of (entry_histories names history)) → entry_histories names history ≡ event_histories names history
-  run_histories [] are = refl
-  run_histories (name ∷ names) are =
-      let own : List Ticketed = map ticketed (drawn_in (history name)) in
-      let others : List Ticketed = all_of (entry_histories names history) in
-      let part = λ (ns : List Ticketed) (within : (n : Ticketed) → Contains ns n → Contains (own ++ others) n).
-      All-weaker (Contains ns) IsEntryOfEvent (λ n there. All-contains IsEntryOfEvent (own ++ others) n are (within n there)) ns (All-contains_itself ns) in
-      let here = drawn_events (history name) (has name) (part own (λ n there. Contains-append_left own others n there)) in
-      let rest = run_histories names (part others (λ n there. Contains-append_right own others n there)) in
-      λ i. (name, map ticketed (here i)) ∷ rest i
-
 pub notes_are_runs : NotesAreRuns
 notes_are_runs opened names history left tasks pass is firsts c joined last j (events, run, entries) =
     let s = scenario_in opened in
     let ledger = (stage_of opened.objects).ledger in
-    let are = of_sorted IsEntryOfEvent (all_of (entry_histories names history))
-    (of_entries (sorted (all_of (entry_histories names history))) (subst AreEvents entries (run_events (scene s ledger) (start s) events last run))) in
-    let has = λ (name : Object). told_drew name (unasked (opened_at opened.objects name)) (left name) (history name) (c.things name) in
-    let same = run_histories history has names are in
+    let shows = λ (name : Object). history_shows name (unasked (opened_at opened.objects name)) (left name) (history name) (c.things name) in
+    let same = histories_are names history shows in
     joined_is s ledger opened.objects names history left tasks pass
     (subst (λ setup. ClosesAs setup opened.objects names history left tasks pass) is.setup c) (firsts ∙ is.tasks) joined
     (subst (λ setup. IsJoined (notes_in setup tasks) joined) is.setup j) events last run (entries ∙ ap (λ histories. without_tickets (sorted (all_of histories))) same)

@@ -43,15 +43,15 @@ pub record SeatCalls {T : Type 0} (task : ℕ) (old new : Known T Request Told) 
   pub told : Told
   pub replies : told.reply ≡ reply
   pub calls : own new ≡ own old ++ record { by = task + 1; asked = asked; told = told } ∷ []
-  pub pass : PassOn before told.note (is_spent told.reply) told.drew told.ticket after
+  pub pass : PassOn before told.note (is_spent told.reply) told.drew told.drawn after
 
 -- what a history keeps of a reply
 abbrev pub told_by : {S : Type 0} → (S → Reply) → Replied S → Told
-told_by reply_of replied = record { reply = reply_of replied.said; note = replied.note; drew = replied.drew; ticket = replied.ticket }
+told_by reply_of replied = record { reply = reply_of replied.said; note = replied.note; drew = replied.drew; drawn = replied.drawn.value; ticket = replied.ticket }
 
 -- what is owed of the pass
 abbrev pub PassesBy : {S Q : Type 0} → (S → Reply) → Asking Q → Replied S → Type 0
-PassesBy reply_of asking replied = PassBy asking.pass replied.note (is_spent (reply_of replied.said)) replied.drew replied.ticket replied.pass
+PassesBy reply_of asking replied = PassBy asking.pass replied.note (is_spent (reply_of replied.said)) replied.drew replied.drawn.value replied.pass
 
 module _ {Q S T : Type 0} (asked_of : Q → Request) (reply_of : S → Reply) {owes : Asking Q → Replied S → Type 0} {old new : Known T Request Told}
     {before after : Option PassState} {ask : Q} {said : S}
@@ -69,8 +69,8 @@ module _ {Q S T : Type 0} (asked_of : Q → Request) (reply_of : S → Reply) {o
         replies = ap reply_of made.says;
         calls = made.calls ∙ ap (λ n. own old ++ record { by = n; asked = asked_of ask; told = told } ∷ []) is.number;
         pass =
-            subst (λ b. PassOn b told.note (is_spent told.reply) told.drew told.ticket after) (sym made.held)
-            (subst (λ a. PassOn (Some made.pass) told.note (is_spent told.reply) told.drew told.ticket a) (sym made.back) (passes made.owed));
+            subst (λ b. PassOn b told.note (is_spent told.reply) told.drew told.drawn after) (sym made.held)
+            (subst (λ a. PassOn (Some made.pass) told.note (is_spent told.reply) told.drew told.drawn a) (sym made.back) (passes made.owed));
       }
 
   -- what is owed of what was said
@@ -94,4 +94,4 @@ has_called {task = task} {asked = asked} name calls next named made is = record 
 pub home_again : {T : Type 0} {task : ℕ} {old new : Known T Request Told} {before after : Option PassState} {asked : Request} {reply : Reply} (clock : TableId)
     → SeatCalls task old new before asked reply after → IsPassOf clock before → IsPassOf clock after
 home_again {before = before} {after = after} clock made home =
-    pass_comes_home clock before after made.told.note (is_spent made.told.reply) made.told.drew made.told.ticket made.pass home
+    pass_comes_home clock before after made.told.note (is_spent made.told.reply) made.told.drew made.told.drawn made.pass home

@@ -58,11 +58,11 @@ leads_more setup before (x ∷ xs) ys task mid last l m =
       | inr asks ↦ inr (asks.0, asks.1, asks.2, leads_more setup (before ++ x ∷ []) xs ys (answered setup task x.told.reply) mid last asks.3 rest)
     ]
 
-rises_more : (last end : ℕ) (xs : List Call) (call : Call) → TicketsRise last xs end → IsNextTicket end call.told.ticket
-    → TicketsRise last (xs ++ call ∷ []) (or_last end call.told.ticket)
+rises_more : (last end : ℕ) (xs : List Call) (call : Call) → TicketsRise last xs end → IsNextTicket end call.told.drawn
+    → TicketsRise last (xs ++ call ∷ []) (or_last end call.told.drawn)
 rises_more last end [] call r next =
-    (subst (λ n. IsNextTicket n call.told.ticket) (sym r) next, ap (λ n. or_last n call.told.ticket) r)
-rises_more last end (x ∷ xs) call r next = (r.0, rises_more (or_last last x.told.ticket) end xs call r.1 next)
+    (subst (λ n. IsNextTicket n call.told.drawn) (sym r) next, ap (λ n. or_last n call.told.drawn) r)
+rises_more last end (x ∷ xs) call r next = (r.0, rises_more (or_last last x.told.drawn) end xs call r.1 next)
 
 met_later : (m n : ℕ) (log : List Call) → m ≤ n → All (IsMet m) log → All (IsMet n) log
 met_later m n log le a = All-weaker (IsMet m) (IsMet n) (λ call met ok. (let k = met ok in omega (arith, le, k))) log a
@@ -111,15 +111,15 @@ last_later pass after log call le all here =
 saw_later : (log more : List Call) (ts : List Ticket) → All (λ (t : Ticket). IsSeenIn log t.seen) ts → All (λ (t : Ticket). IsSeenIn (log ++ more) t.seen) ts
 saw_later log more ts all = All-weaker (λ (t : Ticket). IsSeenIn log t.seen) (λ (t : Ticket). IsSeenIn (log ++ more) t.seen) (λ t is. seen_later log more t.seen is) ts all
 
-pub tickets_more : (log : List Call) (call : Call) (ticket : Option ℕ) → call.told.ticket ≡ ticket → tickets_in (log ++ call ∷ []) ≡ tickets_in log ++ cons_option ticket []
+pub tickets_more : (log : List Call) (call : Call) (ticket : Option ℕ) → call.told.drawn ≡ ticket → tickets_in (log ++ call ∷ []) ≡ tickets_in log ++ cons_option ticket []
 tickets_more log call ticket is =
-    filter_map-append (λ (c : Call). c.told.ticket) log (call ∷ []) ∙ ap (λ t. tickets_in log ++ cons_option t []) is
+    filter_map-append (λ (c : Call). c.told.drawn) log (call ∷ []) ∙ ap (λ t. tickets_in log ++ cons_option t []) is
 
-tickets_same : (log : List Call) (call : Call) → call.told.ticket ≡ None → tickets_in (log ++ call ∷ []) ≡ tickets_in log
+tickets_same : (log : List Call) (call : Call) → call.told.drawn ≡ None → tickets_in (log ++ call ∷ []) ≡ tickets_in log
 tickets_same log call is = tickets_more log call None is ∙ append-nil (tickets_in log)
 
 -- what a pass keeps behind one more call
-draws : (pass : PassState) (end n : ℕ) (log : List Call) (call : Call) → call.told.ticket ≡ Some n → max pass.seen call.told.note < n → pass.known < n
+draws : (pass : PassState) (end n : ℕ) (log : List Call) (call : Call) → call.told.drawn ≡ Some n → max pass.seen call.told.note < n → pass.known < n
     → WentThrough pass end log → WentThrough (drawn_with pass (max pass.seen call.told.note) n) n (log ++ call ∷ [])
 draws pass end n log call t above fresh was =
     let seen : pass.seen ≤ n = omega (arith, above) in
@@ -134,7 +134,7 @@ draws pass end n log call t above fresh was =
       last = last_later pass (drawn_with pass (max pass.seen call.told.note) n) log call (omega (arith, fresh)) was.last (λ found. absurd (cc (t, found.2)));
     }
 
-finds_none : (pass : PassState) (end known : ℕ) (log : List Call) (call : Call) → call.told.ticket ≡ None → is_spent call.told.reply ≡ true → pass.known ≤ known
+finds_none : (pass : PassState) (end known : ℕ) (log : List Call) (call : Call) → call.told.drawn ≡ None → is_spent call.told.reply ≡ true → pass.known ≤ known
     → (call.told.drew ≡ true → IsOver pass call.told.note (record pass { known = known })) → WentThrough pass end log
     → WentThrough (record pass { known = known }) end (log ++ call ∷ [])
 finds_none pass end known log call t s le over was = record {
@@ -146,7 +146,7 @@ finds_none pass end known log call t s le over was = record {
   last = last_later pass (record pass { known = known }) log call le was.last (λ found. knows_now pass (record pass { known = known }) log call was.own (over found.1));
 }
 
-meets : (pass : PassState) (end : ℕ) (log : List Call) (call : Call) → call.told.ticket ≡ None → is_spent call.told.reply ≡ false → WentThrough pass end log
+meets : (pass : PassState) (end : ℕ) (log : List Call) (call : Call) → call.told.drawn ≡ None → is_spent call.told.reply ≡ false → WentThrough pass end log
     → WentThrough (record pass { seen = max pass.seen call.told.note }) end (log ++ call ∷ [])
 meets pass end log call t s was = let low = was.above in record {
   above = omega (arith, low);
@@ -157,7 +157,7 @@ meets pass end log call t s was = let low = was.above in record {
   last = last_later pass (record pass { seen = max pass.seen call.told.note }) log call (omega (arith)) was.last (λ found. absurd (cc (s, found.0)));
 }
 
-pass_by : (pass after : PassState) (end : ℕ) (log : List Call) (call : Call) (spent : Bool) (ticket : Option ℕ) → is_spent call.told.reply ≡ spent → call.told.ticket ≡ ticket
+pass_by : (pass after : PassState) (end : ℕ) (log : List Call) (call : Call) (spent : Bool) (ticket : Option ℕ) → is_spent call.told.reply ≡ spent → call.told.drawn ≡ ticket
     → PassBy pass call.told.note spent call.told.drew ticket after → WentThrough pass end log
     → IsNextTicket end ticket × WentThrough after (or_last end ticket) (log ++ call ∷ [])
 pass_by pass after end log call spent (Some n) s t by was =
@@ -171,11 +171,11 @@ pass_by pass after end log call true None s t by was = (
 pass_by pass after end log call false None s t by was =
     (tt, subst (λ p. WentThrough p end (log ++ call ∷ [])) (sym by) (meets pass end log call t s was))
 
-pass_on : (pass after : Option PassState) (end : ℕ) (log : List Call) (call : Call) → PassOn pass call.told.note (is_spent call.told.reply) call.told.drew call.told.ticket after
-    → HasPass pass end log → IsNextTicket end call.told.ticket × HasPass after (or_last end call.told.ticket) (log ++ call ∷ [])
+pass_on : (pass after : Option PassState) (end : ℕ) (log : List Call) (call : Call) → PassOn pass call.told.note (is_spent call.told.reply) call.told.drew call.told.drawn after
+    → HasPass pass end log → IsNextTicket end call.told.drawn × HasPass after (or_last end call.told.drawn) (log ++ call ∷ [])
 pass_on None after end log call by was = absurd was
 pass_on (Some pass) None end log call by was = absurd by
-pass_on (Some pass) (Some after) end log call by was = pass_by pass after end log call (is_spent call.told.reply) call.told.ticket refl refl by was
+pass_on (Some pass) (Some after) end log call by was = pass_by pass after end log call (is_spent call.told.reply) call.told.drawn refl refl by was
 
 pub one_call : (setup : Setup) (first task next : TaskState) (log : List Call) (old new : DeskState) (asked : Request) (reply : Reply)
     → IsLogged setup first log task old → HasCalled old asked reply new → (object_of asked ≡ OfNone → ⊥)
@@ -190,7 +190,7 @@ one_call setup first task next log old new asked reply is calls apart step =
       record {
         calls = λ name. ap (λ (c : CallsAt). calls_at c name) calls.calls ∙ calls_more old.calls log call apart is.calls name;
         leads = leads_more setup [] log (call ∷ []) first task next is.leads (step call made);
-        end = or_last is.end calls.told.ticket;
+        end = or_last is.end calls.told.drawn;
         rises = rises_more 0 is.end log call is.rises passed.0;
         pass = passed.1;
       },

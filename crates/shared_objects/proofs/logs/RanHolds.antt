@@ -73,7 +73,7 @@ goes_other (Some pass) note spent drew ticket (Some after) by is = stays_other p
 call_keeps : (old : DeskState) (asked : Request) (reply : Reply) (new : DeskState) → HasCalled old asked reply new → KeepsSeats old new
 call_keeps old asked reply new called = record {
   number = called.number;
-  pass = goes_other old.pass called.told.note _ called.told.drew called.told.ticket new.pass called.pass;
+  pass = goes_other old.pass called.told.note _ called.told.drew called.told.drawn new.pass called.pass;
 }
 
 serves_keep : (old : DeskState) (asked : Request) (reply : Reply) (new : DeskState) → DeskServes old asked reply new → KeepsSeats old new

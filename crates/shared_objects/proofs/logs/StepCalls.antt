@@ -48,12 +48,12 @@ above_by pass after seen call spent None le by = tt
 above_by pass after seen call spent (Some n) le by = (let above = by.0 in omega (arith, above, le))
 
 above : (pass after : Option PassState) (end : ℕ) (log : List Call) (seen call : Call) → HasPass pass end log → Contains log seen
-    → PassOn pass call.told.note (is_spent call.told.reply) call.told.drew call.told.ticket after → is_spent seen.told.reply ≡ false
-    → IfSome call.told.ticket (λ n. seen.told.note < n)
+    → PassOn pass call.told.note (is_spent call.told.reply) call.told.drew call.told.drawn after → is_spent seen.told.reply ≡ false
+    → IfSome call.told.drawn (λ n. seen.told.note < n)
 above None after end log seen call saw in_it by ok = absurd saw
 above (Some pass) None end log seen call saw in_it by ok = absurd by
 above (Some pass) (Some after) end log seen call saw in_it by ok =
-    above_by pass after seen call (is_spent call.told.reply) call.told.ticket (All-contains (IsMet pass.seen) log seen saw.met in_it ok) by
+    above_by pass after seen call (is_spent call.told.reply) call.told.drawn (All-contains (IsMet pass.seen) log seen saw.met in_it ok) by
 
 looked : (setup : Setup) (first task : TaskState) (log : List Call) (old : DeskState) (after : Option PassState) (asked : Request) (reply : Reply) (call : Call) (look : Option Request)
     → IsLogged setup first log task old → Let log task look → IsMade asked reply old.pass after call → Looked log task call look
@@ -110,7 +110,7 @@ module _ (setup : Setup) (first : TaskState) where
         made.0 ∷ [],
         made.2,
         tells_one (what_of asked reply) made.0 asked reply (seen_by new.pass) refl made.1.asks made.1.replies
-            (seen_made old.pass new.pass made.0.told.note (is_spent made.0.told.reply) made.0.told.drew made.0.told.ticket made.1.pass),
+            (seen_made old.pass new.pass made.0.told.note (is_spent made.0.told.reply) made.0.told.drew made.0.told.drawn made.1.pass),
       )
 
   further : (log : List Call) (look : Call) (next : TaskState) (new : DeskState) (Shows Then : List Call → Type 0) → ((calls : List Call) → Shows calls → Then (look ∷ calls))

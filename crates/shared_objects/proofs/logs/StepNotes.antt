@@ -32,7 +32,7 @@ all_right P (x ∷ xs) ys all = all_right P xs ys (All-tail P x (xs ++ ys) all)
 
 -- an event drew a ticket
 abbrev pub HasTicket : Call → Type 0
-HasTicket call = is_event call.asked call.told.reply ≡ true → is_some call.told.ticket ≡ true
+HasTicket call = is_event call.asked call.told.reply ≡ true → is_some call.told.drawn ≡ true
 
 pub earlier_tickets : (log more : List Call) → HaveTickets (log ++ more) → HaveTickets log
 earlier_tickets log more have = all_left HasTicket log more have
@@ -80,7 +80,7 @@ module _ (setup : Setup) where
       let none : what_of (request setup task) call.told.reply ≡ None =
       no_what (what_of (request setup task) call.told.reply)
       (sym (event_struck (request setup task) call.told.reply) ∙ sym (ap (λ a. is_event a call.told.reply) asks) ∙ is) in
-      ap (λ what. noted_as (or_last 0 call.told.ticket) task what ++ notes_of setup (answered setup task call.told.reply) calls) none
+      ap (λ what. noted_as (or_last 0 call.told.drawn) task what ++ notes_of setup (answered setup task call.told.reply) calls) none
       ∙ glances_note before calls (answered setup task call.told.reply) last glances
       ∙ sym (ap (notes_along task) (quiet_first call calls is ∙ glances_quiet calls glances))
 
@@ -134,10 +134,10 @@ module _ (setup : Setup) where
       let what = what_of (request setup task) call.told.reply in
       let is : is_event call.asked call.told.reply ≡ true =
       ap (λ a. is_event a call.told.reply) shows.2 ∙ event_struck (request setup task) call.told.reply ∙ ap is_some shows.3 in
-      let drew : is_some call.told.ticket ≡ true =
+      let drew : is_some call.told.drawn ≡ true =
       All-head HasTicket call [] (subst (All HasTicket) shows.1 (All-filter (λ (c : Call). is_event c.asked c.told.reply) HasTicket more have)) is in
-      ap (notes_along task) shows.1 ∙ append-nil (note_of setup task call) ∙ ap (noted_as (or_last 0 call.told.ticket) task) shows.3
-      ∙ ap (λ n. (n, record { task = id_of task; what = event.what }) ∷ []) (ticket_seen call.told.ticket seen drew shows.5)
+      ap (notes_along task) shows.1 ∙ append-nil (note_of setup task call) ∙ ap (noted_as (or_last 0 call.told.drawn) task) shows.3
+      ∙ ap (λ n. (n, record { task = id_of task; what = event.what }) ∷ []) (ticket_seen call.told.drawn seen drew shows.5)
       ∙ ap (λ id. (seen, record { task = id; what = event.what }) ∷ []) (sym shows.4)
   step_notes task next seen more Ended shows have = ap (notes_along task) shows.0
   step_notes task next seen more (Broken breach) shows have = ap (notes_along task) shows.0

@@ -35,7 +35,7 @@ use Rattle.shared_objects.proofs.steps.BrokenRests.{broken_rests, stop_breaks, s
 abbrev pub Tells : Option What → Request → Reply → ℕ → List Call → Type 0
 Tells None asked reply seen calls = events_in calls ≡ []
 Tells (Some what) asked reply seen calls = (call : Call) × (events_in calls ≡ call ∷ []) × (call.asked ≡ struck asked) × (call.told.reply ≡ reply)
-    × IfSome call.told.ticket (λ n. n ≡ seen)
+    × IfSome call.told.drawn (λ n. n ≡ seen)
 
 -- a ticket is the last thing that its pass has seen
 seen_last : (pass after : PassState) (note : ℕ) (spent drew : Bool) (ticket : Option ℕ) → PassBy pass note spent drew ticket after → IfSome ticket (λ n. n ≡ after.seen)
@@ -55,7 +55,7 @@ event_alone : (call : Call) (b : Bool) → is_event call.asked call.told.reply �
 event_alone call b is = ap (λ (e : Bool). cond e (call ∷ []) []) is
 
 pub tells_one : (told : Option What) (call : Call) (asked : Request) (reply : Reply) (seen : ℕ) → what_of asked reply ≡ told → call.asked ≡ struck asked
-    → call.told.reply ≡ reply → IfSome call.told.ticket (λ n. n ≡ seen) → Tells told asked reply seen (call ∷ [])
+    → call.told.reply ≡ reply → IfSome call.told.drawn (λ n. n ≡ seen) → Tells told asked reply seen (call ∷ [])
 tells_one None call asked reply seen is asks replies last = event_alone call false (same_event call asked reply asks replies ∙ ap is_some is)
 tells_one (Some what) call asked reply seen is asks replies last =
     (call, event_alone call true (same_event call asked reply asks replies ∙ ap is_some is), asks, replies, last)

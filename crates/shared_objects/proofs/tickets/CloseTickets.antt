@@ -1,5 +1,6 @@
 -- What a close shows of the tickets of its clock.
-use Rattle.std.proofs.Common.{◌≡◌, ◌⊎◌, ◌+◌, ◌-◌, ◌^◌, ◌≤◌, ◌++◌, ℕ, zero, suc, Bool, true, false, List, [], ◌∷◌, Some, inl, inr, refl, sym, ◌∙◌, ap, subst, arith, get_or}
+use Rattle.std.proofs.Common.{◌≡◌, ◌⊎◌, ◌+◌, ◌-◌, ◌^◌, ◌≤◌, ◌++◌, ℕ, zero, suc, Bool, true, false, List, [], ◌∷◌, Option, None, Some, inl, inr, refl, sym, ◌∙◌, ap, subst, arith, get_or}
+use Rattle.std.specs.Option.{is_some}
 use Rattle.std.specs.Prelude.{All, Contains, slice_get}
 use Rattle.std.proofs.lemmas.Bool.{true≢false}
 use Rattle.std.proofs.lemmas.List.Elements.{All-contains, All-contains_itself, All-weaker, Contains-append_right}
@@ -7,12 +8,14 @@ use Rattle.std.proofs.lemmas.Option.{get_or_from_slice_get}
 use Rattle.tick_clock.specs.declared.ticking.Ticket.{Ticket}
 use Rattle.tick_clock.specs.Tickets.{PassState}
 use Rattle.tick_clock.proofs.Rows.{pass_once}
+use Rattle.run_machine.specs.declared.event.What.{What}
+use Rattle.run_machine.specs.Events.{what_of}
 use Rattle.run_machine.specs.Laws.{Object, object_of}
 use Rattle.run_machine.specs.Scene.{Setup}
 use Rattle.run_machine.specs.Tasks.{TaskState}
 use Rattle.task_core.specs.declared.plain.Plain.{Plain}
 use Rattle.object_things.specs.Histories.{Call, or_last}
-use Rattle.object_things.specs.Stamps.{ThingState, StepOf}
+use Rattle.object_things.specs.Stamps.{ThingState, StepOf, carried}
 use Rattle.shared_objects.specs.ClosedByName.{history_in}
 use Rattle.shared_objects.specs.Closes.{Returned, ClosesAs}
 use Rattle.shared_objects.specs.Kinds.{ThingAt, looks_at, serves_at}
@@ -20,7 +23,7 @@ use Rattle.shared_objects.specs.Led.{BrokeOff, IsLed}
 use Rattle.shared_objects.specs.Left.{HasClosed}
 use Rattle.shared_objects.specs.Logs.{FoundNone, is_event, is_glance, is_stop}
 use Rattle.shared_objects.specs.Passes.{found_by, numbers_of}
-use Rattle.shared_objects.specs.Tickets.{AreOfHistories, ClosesShowTickets, DrewTicket, IsBehind, IsEvent, IsRefusedCall, ShowsItsTickets}
+use Rattle.shared_objects.specs.Tickets.{AreOfHistories, ClosesShowTickets, DrewTicket, Enters, IsBehind, IsEvent, IsRefusedCall, ShowsItsTickets}
 use Rattle.shared_objects.specs.declared.closed.Closed.{Closed}
 use Rattle.shared_objects.proofs.tickets.TicketsOfCalls.{drawn_of, drew_of, flat_all, in_row, last_drawn, map_from, map_there, ticket_from}
 use Rattle.shared_objects.proofs.logs.CallsLead.{kinds, logs_lead}
@@ -37,6 +40,15 @@ in_parts {X} (z ∷ xs) y ys x (suc k, lt, at) = further (in_parts xs y ys x (k,
     further : Contains xs x ⊎ ((y ≡ x) ⊎ Contains ys x) → Contains (z ∷ xs) x ⊎ ((y ≡ x) ⊎ Contains ys x)
     further (inl early) = inl (Contains-append_right (z ∷ []) xs x early)
     further (inr more) = inr more
+
+-- the entry of an event carries what was drawn, and that of any other call nothing
+carried_some : (what : Option What) (drawn : Option ℕ) → is_some what ≡ true → carried what drawn ≡ drawn
+carried_some None drawn told = absurd (true≢false (sym told))
+carried_some (Some what) drawn told = refl
+
+carried_not : (what : Option What) (drawn : Option ℕ) → is_some what ≡ false → carried what drawn ≡ None
+carried_not None drawn untold = refl
+carried_not (Some what) drawn untold = absurd (true≢false untold)
 
 -- a task breaks off with one call at most
 one_stop : (set : Setup) (log : List Call) (through now : TaskState) (b : BrokeOff set log through now) (call : Call) → Contains log call
@@ -59,8 +71,8 @@ same_stops set first now log led call other there here stop halt = by_stops led.
 
 module _ (set : Setup) (plain : Plain) (names : List Object) (history : Object → List Call) (left : (name : Object) → ThingState (ThingAt name)) (tasks : List Returned)
     (pass : PassState) (c : ClosesAs set plain names history left tasks pass) (found : All (λ (task : Returned). found_by task.desk.pass ≤ pass.known) tasks) where
-  -- a call that drew a ticket is an event, or was refused
-  told_or_refused : (name : Object) (call : Call) (n : ℕ) → Contains (history name) call → call.told.ticket ≡ Some n → IsEvent call ⊎ IsRefusedCall call
+  -- a call that drew a ticket is an event, whose entry carries it, or was refused
+  told_or_refused : (name : Object) (call : Call) (n : ℕ) → Contains (history name) call → call.told.drawn ≡ Some n → Enters n call
   told_or_refused name call n there is = by_event (is_event call.asked call.told.reply) refl
     where
       p : IsInPlace set plain names history left tasks pass c name call
@@ -69,12 +81,15 @@ module _ (set : Setup) (plain : Plain) (names : List Object) (history : Object �
       step : StepOf (serves_at name) (looks_at name) p.here call.asked call.told.reply (Some n) p.next
       step = subst (λ t. StepOf (serves_at name) (looks_at name) p.here call.asked call.told.reply t p.next) is p.answers.step
 
-      by_event : (b : Bool) → is_event call.asked call.told.reply ≡ b → IsEvent call ⊎ IsRefusedCall call
-      by_event true e = inl e
-      by_event false e = inr (served_refused name p.here.object p.next.object call.asked call.told.reply step.0 e)
+      by_event : (b : Bool) → is_event call.asked call.told.reply ≡ b → Enters n call
+      by_event true e = inl (e, p.answers.ticket ∙ carried_some (what_of call.asked call.told.reply) call.told.drawn e ∙ is)
+      by_event false e = inr (
+        served_refused name p.here.object p.next.object call.asked call.told.reply step.0 e,
+        p.answers.ticket ∙ carried_not (what_of call.asked call.told.reply) call.told.drawn e,
+      )
 
   abbrev HasDrawing : Ticket → Type 0
-  HasDrawing ticket = (call : Call) × DrewTicket history ticket.number call × (IsEvent call ⊎ IsRefusedCall call)
+  HasDrawing ticket = (call : Call) × DrewTicket history ticket.number call × Enters ticket.number call
 
   -- the ticket of a call of a task stands in the history of the object that was asked
   of_task : (place : ℕ) (task : Returned) → slice_get tasks place ≡ Some task → (ticket : Ticket) → Contains (drawn_of task) ticket → HasDrawing ticket
@@ -84,7 +99,7 @@ module _ (set : Setup) (plain : Plain) (names : List Object) (history : Object �
     told_or_refused (object_of drew.0.asked) drew.0 ticket.number inside drew.2,
   )
     where
-      drew : (call : Call) × Contains task.log call × (call.told.ticket ≡ Some ticket.number)
+      drew : (call : Call) × Contains task.log call × (call.told.drawn ≡ Some ticket.number)
       drew = ticket_from task.log ticket.number
           (subst (λ l. Contains l ticket.number) (drew_of set plain names history left tasks pass c place task at) (map_there (λ (t : Ticket). t.number) (drawn_of task) ticket there))
 
@@ -108,7 +123,7 @@ module _ (set : Setup) (plain : Plain) (names : List Object) (history : Object �
 
   one_refused : (one other : ℕ) (call later : Call) → DrewTicket history one call → IsRefusedCall call → DrewTicket history other later → IsRefusedCall later → call.by ≡ later.by → one ≡ other
   one_refused one other call later drew refused drew_later refused_later same =
-      ap (or_last 0) (sym drew.2 ∙ ap (λ (x : Call). x.told.ticket) is ∙ drew_later.2)
+      ap (or_last 0) (sym drew.2 ∙ ap (λ (x : Call). x.told.drawn) is ∙ drew_later.2)
     where
       o : IsCallOfTask set plain names history left tasks pass c drew.0 call
       o = owner set plain names history left tasks pass c drew.0 call drew.1

@@ -13,6 +13,7 @@ use Rattle.task_core.specs.declared.plain.Plain.{Plain}
 use Rattle.object_things.specs.Histories.{Call, KeepsHistory, or_last, TicketsRise}
 use Rattle.object_things.specs.Stamps.{ThingState}
 use Rattle.object_things.proofs.Looking.{book_quiet, tally_quiet, disk_quiet, list_quiet, pool_quiet}
+use Rattle.object_things.proofs.Refused.{book_stays, disk_stays, list_stays, pool_stays, tally_stays}
 use Rattle.object_things.proofs.Rising.{keeps_history}
 use Rattle.object_things.specs.Books.{BookServes, BookLooks}
 use Rattle.object_things.specs.Disks.{DiskServes, DiskLooks}
@@ -27,12 +28,12 @@ use Rattle.shared_objects.specs.Logs.{tickets_in, IsSeenIn, FoundNone, KnowsLast
 use Rattle.shared_objects.proofs.tickets.CallOwners.{split_at, first_there, at_all, IsCallOfTask, owner, logged, kept, IsInPlace, in_place}
 
 pub keeps : (name : Object) → KeepsHistory (serves_at name) (looks_at name)
-keeps (OfPool number) = keeps_history PoolServes PoolLooks pool_quiet
-keeps (OfRescuer dev) = keeps_history ListServes ListLooks list_quiet
-keeps (OfDisk dev) = keeps_history DiskServes DiskLooks disk_quiet
-keeps (OfBook writer) = keeps_history BookServes BookLooks book_quiet
-keeps OfTally = keeps_history TallyServes TallyLooks tally_quiet
-keeps OfNone = keeps_history (serves_at OfNone) (looks_at OfNone) (λ old new asked reply looks. absurd looks)
+keeps (OfPool number) = keeps_history PoolServes PoolLooks pool_quiet pool_stays
+keeps (OfRescuer dev) = keeps_history ListServes ListLooks list_quiet list_stays
+keeps (OfDisk dev) = keeps_history DiskServes DiskLooks disk_quiet disk_stays
+keeps (OfBook writer) = keeps_history BookServes BookLooks book_quiet book_stays
+keeps OfTally = keeps_history TallyServes TallyLooks tally_quiet tally_stays
+keeps OfNone = keeps_history (serves_at OfNone) (looks_at OfNone) (λ old new asked reply looks. absurd looks) (λ old new asked reply serves none. absurd serves)
 
 pub map_there : {X Y : Type 0} (f : X → Y) (xs : List X) (x : X) → Contains xs x → Contains (map f xs) (f x)
 map_there f xs x there =
@@ -40,24 +41,24 @@ map_there f xs x there =
     subst (λ l. Contains l (f x)) (sym (ap (map f) p.is ∙ map-append f p.before (x ∷ p.after)))
     (Contains-append_right (map f p.before) (f x ∷ map f p.after) (f x) (first_there (f x) (map f p.after)))
 
-ticket_there : (calls : List Call) (call : Call) (n : ℕ) → Contains calls call → call.told.ticket ≡ Some n → Contains (tickets_in calls) n
+ticket_there : (calls : List Call) (call : Call) (n : ℕ) → Contains calls call → call.told.drawn ≡ Some n → Contains (tickets_in calls) n
 ticket_there calls call n there is =
     let p = split_at calls call there in
     subst (λ l. Contains l n)
-    (sym (ap tickets_in p.is ∙ filter_map-append (λ (c : Call). c.told.ticket) p.before (call ∷ p.after) ∙ ap (λ o. tickets_in p.before ++ cons_option o (tickets_in p.after)) is))
+    (sym (ap tickets_in p.is ∙ filter_map-append (λ (c : Call). c.told.drawn) p.before (call ∷ p.after) ∙ ap (λ o. tickets_in p.before ++ cons_option o (tickets_in p.after)) is))
     (Contains-append_right (tickets_in p.before) (n ∷ tickets_in p.after) n (first_there n (tickets_in p.after)))
 
-pub ticket_from : (calls : List Call) (n : ℕ) → Contains (tickets_in calls) n → (call : Call) × Contains calls call × (call.told.ticket ≡ Some n)
+pub ticket_from : (calls : List Call) (n : ℕ) → Contains (tickets_in calls) n → (call : Call) × Contains calls call × (call.told.drawn ≡ Some n)
 ticket_from [] n (k, lt, at) = absurd (omega (arith, lt))
-ticket_from (call ∷ calls) n there = by_ticket call.told.ticket refl there (λ inside. ticket_from calls n inside)
+ticket_from (call ∷ calls) n there = by_ticket call.told.drawn refl there (λ inside. ticket_from calls n inside)
   where
     Found : List Call → Type 0
-    Found list = (x : Call) × Contains list x × (x.told.ticket ≡ Some n)
+    Found list = (x : Call) × Contains list x × (x.told.drawn ≡ Some n)
 
     further : Found calls → Found (call ∷ calls)
     further (x, inside, is) = (x, Contains-append_right (call ∷ []) calls x inside, is)
 
-    by_ticket : (ticket : Option ℕ) → call.told.ticket ≡ ticket → Contains (cons_option ticket (tickets_in calls)) n → (Contains (tickets_in calls) n → Found calls)
+    by_ticket : (ticket : Option ℕ) → call.told.drawn ≡ ticket → Contains (cons_option ticket (tickets_in calls)) n → (Contains (tickets_in calls) n → Found calls)
         → Found (call ∷ calls)
     by_ticket None t there rest = further (rest there)
     by_ticket (Some m) t (zero, lt, at) rest = (call, first_there call calls, t ∙ ap Some at)
@@ -104,12 +105,12 @@ pass_knows None end log call has there none = absurd has
 pass_knows (Some pass) end log call has there none = All-contains (λ (call : Call). FoundNone call → KnowsLast pass log) log call has.last there none
 
 -- tickets end with one of them, or where they began
-end_is : (last end : ℕ) (calls : List Call) → TicketsRise last calls end → (end ≡ last) ⊎ ((call : Call) × Contains calls call × (call.told.ticket ≡ Some end))
+end_is : (last end : ℕ) (calls : List Call) → TicketsRise last calls end → (end ≡ last) ⊎ ((call : Call) × Contains calls call × (call.told.drawn ≡ Some end))
 end_is last end [] rises = inl (sym rises)
-end_is last end (call ∷ calls) rises = by_ticket call.told.ticket refl (end_is (or_last last call.told.ticket) end calls rises.1)
+end_is last end (call ∷ calls) rises = by_ticket call.told.drawn refl (end_is (or_last last call.told.drawn) end calls rises.1)
   where
-    by_ticket : (ticket : Option ℕ) → call.told.ticket ≡ ticket → (end ≡ or_last last ticket) ⊎ ((x : Call) × Contains calls x × (x.told.ticket ≡ Some end))
-        → (end ≡ last) ⊎ ((x : Call) × Contains (call ∷ calls) x × (x.told.ticket ≡ Some end))
+    by_ticket : (ticket : Option ℕ) → call.told.drawn ≡ ticket → (end ≡ or_last last ticket) ⊎ ((x : Call) × Contains calls x × (x.told.drawn ≡ Some end))
+        → (end ≡ last) ⊎ ((x : Call) × Contains (call ∷ calls) x × (x.told.drawn ≡ Some end))
     by_ticket (Some n) t (inl is) = inr (call, first_there call calls, t ∙ ap Some (sym is))
     by_ticket None t (inl is) = inl is
     by_ticket ticket t (inr (x, there, is)) = inr (x, Contains-append_right (call ∷ []) calls x there, is)
@@ -127,7 +128,7 @@ module _ (set : Setup) (plain : Plain) (names : List Object) (history : Object �
   pub numbers_is : numbers_of pass.drawn ≡ flat_map (λ (task : Returned). numbers_of (drawn_of task)) tasks
   numbers_is = ap numbers_of c.drawn ∙ numbers_flat tasks
 
-  pub ticket_drawn : (name : Object) (call : Call) (n : ℕ) → Contains (history name) call → call.told.ticket ≡ Some n → Contains (numbers_of pass.drawn) n
+  pub ticket_drawn : (name : Object) (call : Call) (n : ℕ) → Contains (history name) call → call.told.drawn ≡ Some n → Contains (numbers_of pass.drawn) n
   ticket_drawn name call n there is =
       let o = owner set plain names history left tasks pass c name call there in
       subst (λ l. Contains l n) (sym numbers_is)
@@ -140,7 +141,7 @@ module _ (set : Setup) (plain : Plain) (names : List Object) (history : Object �
       p : IsInPlace set plain names history left tasks pass c name call
       p = in_place set plain names history left tasks pass c name call there
 
-      by_two : (p.here.note ≡ 0) ⊎ ((x : Call) × Contains p.before x × (x.told.ticket ≡ Some p.here.note)) → (call.told.note ≡ 0) ⊎ Contains (numbers_of pass.drawn) call.told.note
+      by_two : (p.here.note ≡ 0) ⊎ ((x : Call) × Contains p.before x × (x.told.drawn ≡ Some p.here.note)) → (call.told.note ≡ 0) ⊎ Contains (numbers_of pass.drawn) call.told.note
       by_two (inl none) = inl (p.answers.note ∙ none)
       by_two (inr (x, inside, is)) =
           inr (subst (λ n. Contains (numbers_of pass.drawn) n) (sym p.answers.note)

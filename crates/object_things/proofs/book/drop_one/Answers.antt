@@ -13,10 +13,10 @@ pub returns-clause-owed : goal.returns-clause-owed
 returns-clause-owed c =
     subst (λ said. Owes (stage_in c.args.stamp.now.common) (Drop c.args.writer c.args.node c.args.status (bio_of c.args.part)) (book_replied said))
     (sym (ap (λ (r : Replied BookSaid). r.said) c.reply-2.ensures))
-    (drops_is (stage_in c.args.stamp.now.common) c.args.book.now.writer c.args.node c.args.status (bio_of c.args.part) (ended_of c.drop_one.result) c.args.book.now c.drop_one.new.self
-    c.requires.of c.requires.fits.1 _ (node_is (stage_in c.args.stamp.now.common) c.args.book.now.writer c.args.node c.args.book.now c.requires.of) c.drop_one.ensures.drops).1
+    (drops_is (stage_in c.args.stamp.now.common) c.args.book.now.writer c.args.node c.args.status (bio_of c.args.part) (ended_of c.drop_one-dropped.result) c.args.book.now c.drop_one-dropped.new.self
+    c.requires.of c.requires.fits.1 _ (node_is (stage_in c.args.stamp.now.common) c.args.book.now.writer c.args.node c.args.book.now c.requires.of) c.drop_one-dropped.ensures.drops).1
 
 pub returns-clause-of : goal.returns-clause-of
 returns-clause-of c =
-    (drops_is (stage_in c.args.stamp.now.common) c.args.book.now.writer c.args.node c.args.status (bio_of c.args.part) (ended_of c.drop_one.result) c.args.book.now c.drop_one.new.self
-    c.requires.of c.requires.fits.1 _ (node_is (stage_in c.args.stamp.now.common) c.args.book.now.writer c.args.node c.args.book.now c.requires.of) c.drop_one.ensures.drops).0
+    (drops_is (stage_in c.args.stamp.now.common) c.args.book.now.writer c.args.node c.args.status (bio_of c.args.part) (ended_of c.drop_one-dropped.result) c.args.book.now c.drop_one-dropped.new.self
+    c.requires.of c.requires.fits.1 _ (node_is (stage_in c.args.stamp.now.common) c.args.book.now.writer c.args.node c.args.book.now c.requires.of) c.drop_one-dropped.ensures.drops).0

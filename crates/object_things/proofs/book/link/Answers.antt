@@ -13,10 +13,10 @@ use Rattle.object_things.proofs.book.link.Goals as goal
 pub returns-clause-owed : goal.returns-clause-owed
 returns-clause-owed c =
     subst (λ said. Owes (stage_in c.args.stamp.now.common) (Link c.args.writer (opening_of c.args.what)) (book_replied said)) (sym (ap (λ (r : Replied BookSaid). r.said) c.reply-2.ensures))
-    (links_is (stage_in c.args.stamp.now.common) c.args.book.now.writer (opening_of c.args.what) (linked_of c.link_in.result) c.args.book.now c.link_in.new.book c.requires.of c.requires.fits.1
-    c.link_in.ensures.opened).1
+    (links_is (stage_in c.args.stamp.now.common) c.args.book.now.writer (opening_of c.args.what) (linked_of c.link_in-linked.result) c.args.book.now c.link_in-linked.new.book c.requires.of c.requires.fits.1
+    c.link_in-linked.ensures.opened).1
 
 pub returns-clause-of : goal.returns-clause-of
 returns-clause-of c =
-    (links_is (stage_in c.args.stamp.now.common) c.args.book.now.writer (opening_of c.args.what) (linked_of c.link_in.result) c.args.book.now c.link_in.new.book c.requires.of c.requires.fits.1
-    c.link_in.ensures.opened).0
+    (links_is (stage_in c.args.stamp.now.common) c.args.book.now.writer (opening_of c.args.what) (linked_of c.link_in-linked.result) c.args.book.now c.link_in-linked.new.book c.requires.of c.requires.fits.1
+    c.link_in-linked.ensures.opened).0
