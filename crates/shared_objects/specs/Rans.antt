@@ -77,6 +77,28 @@ pub record RanState : Type 0 where
   pub stopped : Bool
   pub noted : Option Noted
 
+-- what is known of it beside the task and its seats, which may stand at a desk meanwhile
+pub record ProgressState : Type 0 where
+  pub first : TaskOf
+  pub home : Locks
+  pub events : ℕ
+  pub stopped : Bool
+  pub noted : Option Noted
+
+abbrev pub progress_of : RanState → ProgressState
+progress_of ran = record { first = ran.first; home = ran.home; events = ran.events; stopped = ran.stopped; noted = ran.noted }
+
+-- the task with its seats, put together again
+abbrev pub ran_of : TaskOf → TaskSeats → ProgressState → RanState
+ran_of task seats progress =
+    record { task = task; seats = seats; first = progress.first; home = progress.home; events = progress.events; stopped = progress.stopped; noted = progress.noted }
+
+-- it was told of a step, behind which the pass had seen this
+abbrev pub GoesOn : Step → ℕ → ProgressState → ProgressState → Type 0
+GoesOn step seen old new =
+    (new ≡ record old { events = events_after step old.events; stopped = stopped_after step old.stopped; noted = new.noted })
+    × NotesStep step seen old.noted new.noted
+
 -- what never changes of it: as it was opened, the locks that its seats are of, and its number
 pub record RanKey : Type 0 where
   pub first : TaskOf
@@ -112,3 +134,10 @@ pub record IsNewRan (ran : RanState) : Type 0 where
   pub events : ran.events ≡ 0
   pub stopped : ran.stopped ≡ false
   pub blank : IsBlank ran.noted
+
+-- What holds of a task with its seats holds behind a step that it made at a desk of their locks, and it is the same task.
+abbrev pub StepsKeepTasks : Type 0
+StepsKeepTasks = (ran : RanState) (task : TaskOf) (seats : TaskSeats) (step : Step) (progress : ProgressState) → RanHolds ran
+    → TurnsWith ran.home ran.task ran.seats task seats step → DeskHolds ran.home seats → task.routing ≡ ran.task.routing
+    → GoesOn step (seen_by seats.pass) (progress_of ran) progress
+    → RanHolds (ran_of task seats progress) × (ran_key (ran_of task seats progress) ≡ ran_key ran)

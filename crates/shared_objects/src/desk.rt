@@ -4,12 +4,14 @@ ghost use Rattle.task_steps.specs.Homes.{IsTaskOf};
 ghost use Rattle.task_steps.specs.TaskViews.{ChosenBy};
 ghost use Rattle.shared_objects.specs.Desks.{DeskPicks};
 ghost use Rattle.shared_objects.specs.Holding.{DeskHolds, stage_at};
+ghost use Rattle.shared_objects.specs.Logs.{seen_by};
 ghost use Rattle.shared_objects.specs.Rans.{TurnsWith};
 
 pub mod objects;
 
 use crate::caller::Caller;
 use crate::locks::Locks;
+use crate::ran::seen_by;
 use crate::seats::TaskSeats;
 use std::sync::Wait;
 use task_steps::{Chooser, Step, Task};
@@ -40,6 +42,13 @@ impl<'a, R: Wait> Desk<'a, R> {
             seats,
         } = self;
         seats
+    }
+
+    /// The greatest ticket that the task's pass has seen: behind an event, that one's.
+    pub fn seen(&self) -> u64
+        ensures { result ≡ seen_by self.now.seats.pass }
+    {
+        seen_by(&self.seats.pass)
     }
 
     /// The next step of the task whose desk it is. What the desk tells of it is kept in the task's calls.

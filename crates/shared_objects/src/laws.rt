@@ -2,7 +2,7 @@
 ghost use Rattle.shared_objects.specs.Closing.{LocksCloseAs};
 ghost use Rattle.shared_objects.specs.Led.{LogsLead};
 ghost use Rattle.shared_objects.specs.Logs.{CallsAreLogged, StepsAreLogged};
-ghost use Rattle.shared_objects.specs.Rans.{NewDesksAreRan, StepsKeepRan};
+ghost use Rattle.shared_objects.specs.Rans.{NewDesksAreRan, StepsKeepRan, StepsKeepTasks};
 ghost use Rattle.shared_objects.specs.Tickets.{ClosesShowTickets};
 
 use crate::locks::Locks;
@@ -27,6 +27,11 @@ pub fn logs_lead()
 /// What is kept of a task with its seats is kept by each step of it at its desk.
 pub fn steps_keep_ran()
     ensures { StepsKeepRan }
+{}
+
+/// So is what holds of the two, and it is the same task: one that stood at a desk of its locks may be put together again.
+pub fn steps_keep_tasks()
+    ensures { StepsKeepTasks }
 {}
 
 /// A task at a desk where nothing was called yet has no events, and has not stopped.

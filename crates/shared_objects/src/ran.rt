@@ -10,6 +10,7 @@ use crate::closed::ClosedTask;
 use crate::closing::join_seats;
 use crate::locks::Locks;
 use crate::noted::Noted;
+use crate::progress::Progress;
 use crate::seats::TaskSeats;
 use std::alloc::Global;
 use std::marker::Model;
@@ -19,7 +20,7 @@ use task_core::{Chooser, Kind, Step, Task, TaskId};
 use tick_clock::Pass;
 
 /// A task with its seats of shared objects, as it goes from thread to thread. Whatever steps it has made, its seats show the calls that led it
-/// from where it was opened to where it is. Only since it steps itself, at a desk, can its type keep that.
+/// from where it was opened to where it is. It steps itself, or is taken apart for a desk and put together again.
 pub struct Ran {
     pub task: Task,
     pub seats: TaskSeats,
@@ -72,7 +73,7 @@ impl Ran {
     ghost use Rattle.shared_objects.specs.Desks.{DeskPicks};
     ghost use Rattle.shared_objects.specs.Holding.{DeskHolds, desk_of, stage_at};
     ghost use Rattle.shared_objects.specs.Joining.{HasJoinedSeats, IsPutAway};
-    ghost use Rattle.shared_objects.specs.Rans.{IsNewDesk, IsOtherPass, RanHolds, TurnsWith, ran_key};
+    ghost use Rattle.shared_objects.specs.Rans.{IsNewDesk, IsOtherPass, RanHolds, TurnsWith, progress_of, ran_key, ran_of};
     ghost use Rattle.shared_objects.specs.Shared.{FirstsHold};
 
     /// A task as it was opened, with seats of these locks, at which nothing was called yet, and an empty list for its events, where the locks
@@ -123,22 +124,52 @@ impl Ran {
         step
     }
 
-    /// The task and its seats, each by itself, for a desk that the caller holds (`Locks::desk`). It can't be put back then.
-    pub fn parts(self) -> (Task, TaskSeats)
-        ensures parts { (result.0 ≡ self.task) × (result.1 ≡ self.seats) }
+    /// The task and its seats, each by itself, for a desk that the caller holds (`Locks::desk`), and what is kept of the two meanwhile.
+    pub fn parts(self) -> (Task, TaskSeats, Progress)
+        ensures parts { (result.0 ≡ self.task) × (result.1 ≡ self.seats) × (result.2 ≡ progress_of self) }
         ensures holds { RanHolds self }
     {
         let Ran {
             task,
             seats,
-            first: _,
-            home: _,
-            events: _,
-            stopped: _,
+            first,
+            home,
+            events,
+            stopped,
             noted,
         } = self;
-        drop(noted);
-        (task, seats)
+        let progress = Progress {
+            first,
+            home,
+            events,
+            stopped,
+            noted,
+        };
+        (task, seats, progress)
+    }
+
+    /// Puts a task and its seats together again, that stood at a desk. What holds of them does so behind each step there, of which what is kept
+    /// of them was told (`laws::steps_keep_tasks`).
+    pub fn of(task: Task, seats: TaskSeats, progress: Progress) -> Ran
+        requires holds { RanHolds (ran_of task seats progress) }
+        ensures { result ≡ ran_of task seats progress }
+    {
+        let Progress {
+            first,
+            home,
+            events,
+            stopped,
+            noted,
+        } = progress;
+        Ran {
+            task,
+            seats,
+            first,
+            home,
+            events,
+            stopped,
+            noted,
+        }
     }
 
     /// Puts the task away, and joins its seats into the first ones.
@@ -198,7 +229,7 @@ impl Ran {
 }
 
 // How many events there are behind a step.
-fn events_after(step: Step, events: u64) -> u64
+pub(crate) fn events_after(step: Step, events: u64) -> u64
     ensures { result ≡ events_after step events }
 {
     match step {
@@ -208,7 +239,7 @@ fn events_after(step: Step, events: u64) -> u64
 }
 
 // Whether the task has stopped behind a step.
-fn stopped_after(step: Step, stopped: bool) -> bool
+pub(crate) fn stopped_after(step: Step, stopped: bool) -> bool
     ensures { result ≡ stopped_after step stopped }
 {
     match step {
@@ -218,7 +249,7 @@ fn stopped_after(step: Step, stopped: bool) -> bool
 }
 
 // What a pass has seen, where it is at home.
-fn seen_by(pass: &Option<Pass>) -> u64
+pub(crate) fn seen_by(pass: &Option<Pass>) -> u64
     ensures { result ≡ seen_by pass.now }
 {
     match pass {
@@ -236,7 +267,7 @@ fn noted_for(alloc: Global, trace: bool) -> Option<Noted>
 }
 
 // Notes a step, with the ticket that its event drew. The pass has seen that one last.
-fn note_step(noted: &mut Option<Noted>, step: Step, ticket: u64)
+pub(crate) fn note_step(noted: &mut Option<Noted>, step: Step, ticket: u64)
     ensures { NotesStep step ticket noted.old noted.new }
 {
     let Some(list) = noted else {

@@ -1,3 +1,4 @@
+mod AtDesks
 mod Sent
 mod Taken
 mod Told

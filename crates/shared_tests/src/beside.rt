@@ -85,7 +85,7 @@ fn step_at_desk(rt: &impl Wait, locks: &Locks, ran: Ran, chooser: Meets<'_>) -> 
     requires { ran.home ≡ locks.now }
 {
     let mut chooser = chooser;
-    let (mut task, seats) = ran.parts();
+    let (mut task, seats, _) = ran.parts();
     let mut desk = locks.desk(rt, seats);
     let step = task.step(&mut desk, &mut chooser);
     drop(desk.back());

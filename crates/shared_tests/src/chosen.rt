@@ -46,7 +46,7 @@ fn completed(step: &Step) -> Option<u64> {
 fn step_at_desk(rt: &impl Wait, locks: &Locks, ran: Ran) -> Step
     requires { ran.home ≡ locks.now }
 {
-    let (mut task, seats) = ran.parts();
+    let (mut task, seats, _) = ran.parts();
     let mut desk = locks.desk(rt, seats);
     let step = task.step(&mut desk, &mut Newest);
     drop(desk.back());

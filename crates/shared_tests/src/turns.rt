@@ -1,10 +1,12 @@
 //! Tasks of shared objects that step in turn, each at its desk, on one thread.
 ghost use Rattle.std.specs.Prelude.{◌≡◌, [], ◌∷◌, IfOk, OnOk};
 ghost use Rattle.shared_objects.specs.Left.{HasClosed};
+ghost use Rattle.shared_objects.specs.Rans.{ran_key};
 ghost use Rattle.shared_objects.specs.Shared.{SharedHolds};
 ghost use Rattle.shared_tests.specs.StillOut.{AreStillOut};
 
-use shared_objects::{Closed, Ran, Shared};
+use shared_objects::laws::steps_keep_tasks;
+use shared_objects::{Closed, Locks, Ran, Shared};
 use std::alloc::{AllocError, Global};
 use std::collections::VecDeque;
 use std::sync::Wait;
@@ -23,6 +25,20 @@ fn take_all(alloc: Global, shared: &mut Shared) -> Result<VecDeque<Ran>, AllocEr
     Ok(out)
 }
 
+// Steps a task once, at its desk.
+fn step_at_desk<R: Wait>(rt: &R, locks: &Locks, ran: Ran) -> Ran
+    requires { ran.home ≡ locks.now }
+    ensures { ran_key result ≡ ran_key ran }
+{
+    let (mut task, seats, mut progress) = ran.parts();
+    let mut desk = locks.desk(rt, seats);
+    let step = desk.step(&mut task, &mut Oldest);
+    progress.goes_on(step, desk.seen());
+    let seats = desk.back();
+    steps_keep_tasks();
+    Ran::of(task, seats, progress)
+}
+
 // Steps a task once. It goes behind the others, or back where it has stopped.
 fn turn<R: Wait>(
     rt: &R,
@@ -33,8 +49,7 @@ fn turn<R: Wait>(
     requires { AreStillOut shared.old.told.value shared.old (ran ∷ out.old.items) }
     ensures { OnOk result (AreStillOut shared.old.told.value shared.new out.new.items) }
 {
-    let mut ran = ran;
-    let _ = ran.step(rt, shared.locks(), &mut Oldest);
+    let ran = step_at_desk(rt, shared.locks(), ran);
     if ran.stopped() {
         shared.put_task(ran);
         return Ok(());

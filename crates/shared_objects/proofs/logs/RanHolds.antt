@@ -16,7 +16,7 @@ use Rattle.shared_objects.specs.Desks.{DeskState, DeskServes, HasCalled, PassOn}
 use Rattle.shared_objects.specs.Holding.{DeskHolds, desk_of, stage_at}
 use Rattle.shared_objects.specs.Logs.{seen_by}
 use Rattle.shared_objects.specs.Noting.{IsBlank, NotesStep}
-use Rattle.shared_objects.specs.Rans.{IsNewDesk, IsOtherPass, RanHolds, RanKey, RanState, events_after, ran_key, stopped_after, TurnsWith}
+use Rattle.shared_objects.specs.Rans.{IsNewDesk, IsOtherPass, ProgressState, RanHolds, RanKey, RanState, StepsKeepTasks, events_after, ran_key, ran_of, stopped_after, TurnsWith}
 use Rattle.shared_objects.specs.declared.locks.Locks.{Locks}
 use Rattle.shared_objects.specs.declared.noted.Noted.{Noted}
 use Rattle.shared_objects.specs.declared.seats.TaskSeats.{TaskSeats}
@@ -133,3 +133,12 @@ module _ (ran : RanState) (holds : RanHolds ran) (task : TaskOf) (step : Step) (
       subst (λ e. RanHolds (record { task = task; seats = seats; first = ran.first; home = ran.home; events = e; stopped = stopped; noted = noted })) (sym events_is)
       (subst (λ s. RanHolds (record { task = task; seats = seats; first = ran.first; home = ran.home; events = events_after step ran.events; stopped = s; noted = noted })) (sym stopped_is)
       (step_holds ran holds task seats step turns_home_with kept same noted goes))
+
+-- the same of a task that stood at a desk, and is put together again
+pub steps_keep_tasks : StepsKeepTasks
+steps_keep_tasks ran task seats step progress holds turns desk same goes =
+    let was = sym goes.0 in (
+      subst (λ (p : ProgressState). RanHolds (ran_of task seats p)) was (step_holds ran holds task seats step turns desk same progress.noted goes.1),
+      subst (λ (p : ProgressState). ran_key (ran_of task seats p) ≡ ran_key ran) was
+          (ap (λ n. record { first = ran.first; home = ran.home; number = n }) (number_stays ran holds task seats step turns)),
+    )
