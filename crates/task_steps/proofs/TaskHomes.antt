@@ -70,7 +70,7 @@ duty_asks : (stage : Stage) (duty : Duty) → DutyFits stage duty → RequestFit
 duty_asks stage (Resizes pool min later) fits = fits
 duty_asks stage (Starts round later) fits = tt
 
-keeper_asks : (stage : Stage) (keeping : Keeping) → KeepingFits stage keeping → RequestFits stage (keeper_request keeping)
+pub keeper_asks : (stage : Stage) (keeping : Keeping) → KeepingFits stage keeping → RequestFits stage (keeper_request keeping)
 keeper_asks stage (Keeps []) fits = tt
 keeper_asks stage (Keeps (duty ∷ duties)) fits = duty_asks stage duty (All-head (DutyFits stage) duty duties fits)
 keeper_asks stage (Stops breach) fits = tt

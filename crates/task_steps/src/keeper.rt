@@ -3,9 +3,8 @@ ghost use Rattle.std.specs.Prelude.{◌≡◌, ℕ, List, Some, map, drop};
 ghost use Rattle.run_machine.specs.declared.event.Breach.TheVariants as Breach';
 ghost use Rattle.run_machine.specs.declared.event.TaskId.TheVariants as TaskId';
 ghost use Rattle.task_steps.specs.declared.step.Step.TheVariants as Step';
-ghost use Rattle.run_machine.specs.Requests.{Resize};
-ghost use Rattle.run_machine.specs.Tasks.{Duty as DutyState, Keeper as Keeping', Keeps, Resizes, Starts, later_of};
-ghost use Rattle.task_steps.specs.Homes.{DutyFits};
+ghost use Rattle.run_machine.specs.Requests.{NextRound, Resize};
+ghost use Rattle.run_machine.specs.Tasks.{Duty as DutyState, Keeper as Keeping', Keeps, Resizes, Starts, duty_request, later_of};
 ghost use Rattle.task_steps.specs.KeeperViews.{duty_of, keeping_of, IsDutyAt};
 ghost use Rattle.task_steps.specs.TaskSteps.{KeeperAsks, TaskDoes, HoldsTask};
 ghost use Rattle.task_steps.specs.Answers.{Ready};
@@ -83,7 +82,7 @@ fn resize<O: Objects>(objects: &mut O, pool: PoolId, min: u32) -> (Option<Breach
 
 // Starts the round of this number. It answers why the keeper cannot go on, where it cannot.
 fn start<O: Objects>(objects: &mut O, round: u32) -> (Option<Breach>, Step)
-    requires holds { O.holds objects.old }
+    requires ready { Ready O.Objects objects.old (NextRound round) }
     ensures does { (later : ℕ) → KeeperAsks O.Objects (Starts round later) objects.old result objects.new }
 {
     match objects.next_round() {
@@ -104,8 +103,7 @@ impl Duty {
 
     // Does it. It answers why the keeper cannot go on, where it cannot.
     fn attend<O: Objects>(self, objects: &mut O) -> (Option<Breach>, Step)
-        requires holds { O.holds objects.old }
-        requires fits { DutyFits (O.stage objects.old) (duty_of self) }
+        requires ready { Ready O.Objects objects.old (duty_request (duty_of self)) }
         ensures does { KeeperAsks O.Objects (duty_of self) objects.old result objects.new }
     {
         match self {

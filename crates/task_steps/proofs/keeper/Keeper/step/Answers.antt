@@ -1,26 +1,28 @@
 use Rattle.std.proofs.Common.{◌+◌, ◌∷◌, ◌∙◌, map, drop, sym, subst}
-use Rattle.std.proofs.lemmas.List.Elements.{All-head}
-use Rattle.run_machine.specs.Tasks.{Keeps, Keeper}
+use Rattle.run_machine.specs.Tasks.{Keeping, Keeps, Keeper, duty_request}
 use Rattle.task_steps.specs.Routed.{routing_setup}
-use Rattle.task_steps.specs.Stage.{Stage, Owes}
+use Rattle.task_steps.specs.Stage.{Stage, RequestFits, Owes}
 use Rattle.task_steps.specs.Turns.{Asks}
-use Rattle.task_steps.specs.Homes.{DutyFits, KeepingFits}
+use Rattle.task_steps.specs.Homes.{KeepingFits}
 use Rattle.task_steps.specs.KeeperViews.{duty_of, keeping_of}
+use Rattle.task_steps.proofs.TaskHomes.{keeper_asks}
 use Rattle.task_steps.proofs.KeeperLemmas.{has_next, attends, keeper_waits}
 use Rattle.task_steps.proofs.keeper.Keeper.step.Goals as goal
 
 -- src/keeper.rt
-pub attend-broken-requires-clause-fits : goal.attend-broken-requires-clause-fits
-attend-broken-requires-clause-fits g c =
+pub attend-broken-requires : goal.attend-broken-requires
+attend-broken-requires g c =
     let duties = c.self.inside.duties.items in
     let next = c.self.inside.next in
     let duty = c.in-Some-duty_at.duty in
     let stage = g.O.Objects.stage c.args.objects.now in
     let is = has_next duties c.deref.result.now next c.self.inside.broken c.args.self.now duty c.self.view_is c.in_default.is c.deref.ensures.value
     c.in-Some-duty_at.ensures in
-    let fits : KeepingFits stage (Keeps (duty_of duty ∷ map duty_of (drop (next + 1) duties))) = subst (KeepingFits stage) is c.requires.ready.1 in
-    subst (λ stage. DutyFits stage (duty_of duty)) (sym c.left.ensures.kept.1)
-    (All-head (DutyFits stage) (duty_of duty) (map duty_of (drop (next + 1) duties)) fits)
+    let whole : Keeping = Keeps (duty_of duty ∷ map duty_of (drop (next + 1) duties)) in
+    let fits : KeepingFits stage whole = subst (KeepingFits stage) is c.requires.ready.1 in
+    record {
+      ready = (c.left.ensures.kept.0, subst (λ stage. RequestFits stage (duty_request (duty_of duty))) (sym c.left.ensures.kept.1) (keeper_asks stage whole fits));
+    }
 
 pub returns : goal.returns
 returns g c =
