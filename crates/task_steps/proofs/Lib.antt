@@ -17,3 +17,4 @@ pub mod Attempting
 pub mod KeptLemmas
 pub mod Resting
 pub mod Named
+pub mod ByAnswer

@@ -12,5 +12,6 @@ pub mod Answers
 pub mod WriterViews
 pub mod RescuerViews
 pub mod TaskSteps
+pub mod ByAnswer
 pub mod TaskViews
 pub mod Named

@@ -12,6 +12,7 @@ mod step;
 mod submission;
 mod task;
 mod todo;
+pub mod turns;
 pub mod within;
 mod writer;
 
