@@ -19,13 +19,13 @@ use Rattle.task_steps.specs.declared.objects.Unmade.{Unmade}
 use Rattle.task_steps.specs.declared.objects.Unmade.TheVariants as unmade
 use Rattle.task_steps.specs.declared.step.Step.{Step}
 use Rattle.task_steps.specs.declared.step.Step.TheVariants.{Stepped}
-use Rattle.run_machine.specs.Scene.{Setup, tree_at}
+use Rattle.run_machine.specs.Scene.{Setup}
 use Rattle.run_machine.specs.Requests.{Request, Reply, Opening, TakeBio, Punt, Link, HadBio, Missed, Did, LinkedTo, Nothing, Spent}
 use Rattle.run_machine.specs.Submissions.{Want, Links, Ask, Doing, Drives, Submission, asks_at, submission_request, after_miss, submission_answered}
 use Rattle.task_steps.specs.Turns.{named_node, step_of}
 use Rattle.run_machine.specs.Kept.{Kept, KeptBio, holding_kept, opening_kept}
 use Rattle.task_steps.specs.SubmissionViews.{submission_of, want_of, unmade_kept, back_kept}
-use Rattle.task_steps.specs.Routed.{Routing, routing_setup}
+use Rattle.task_steps.specs.Routed.{Routing, device_tree, routing_setup}
 use Rattle.task_steps.specs.Stage.{RequestFits, Owes}
 
 -- a reply that is no look which found nothing
@@ -54,7 +54,7 @@ SubmissionReady words objects routing doing lists = Ready words objects (submiss
 -- what the driver of a device asks for first, whatever bio it has
 abbrev pub AsksFirst : Routing → TaskLists → DevId → Ask → Type 0
 AsksFirst routing lists dev ask =
-    (item : Item Pad) → item.bio.dev ≡ dev → asks_at (routing_setup routing) lists item (tree_at (routing_setup routing) dev) ≡ Drives item ask
+    (item : Item Pad) → item.bio.dev ≡ dev → asks_at (routing_setup routing) lists item (device_tree routing dev) ≡ Drives item ask
 
 -- a step of a submission over these objects, which hold together behind it too
 pub record SubmissionDoes {S : Type 0} (words : Ghosts S) (routing : Routing) (task : TaskId) (submission : Submission) (old : S) (next : Submission) (new : S) (step : Step) : Type 0 where
@@ -105,13 +105,17 @@ Attempted words task dev waits old new (Err back) =
 abbrev pub AttemptDoes : {S : Type 0} → Ghosts S → TaskId → DevId → Bool → S → Result (RealWant × Step) Unmade → S → Type 0
 AttemptDoes words task dev waits old made new = CallDoes words old (Attempted words task dev waits old new made) new
 
+-- the request that hands all bios of a device's set in these lists to its rescuer
+abbrev pub punt_request : DevId → TaskLists → Request
+punt_request dev lists = Punt dev (punted (Of dev) lists)
+
 -- the bios of a device's set went from these lists to its rescuer, or came back
 abbrev pub PuntedAll : {S : Type 0} → Ghosts S → TaskId → DevId → TaskLists → S → TaskLists → S → Result Step Unmade → Type 0
 PuntedAll words task dev lists old after new (Ok step) =
-    words.serves old (Punt dev (punted (Of dev) lists)) Did new × Owes (words.stage old) (Punt dev (punted (Of dev) lists)) Did × (after ≡ unpunted (Of dev) lists)
+    words.serves old (punt_request dev lists) Did new × Owes (words.stage old) (punt_request dev lists) Did × (after ≡ unpunted (Of dev) lists)
     × (step ≡ Stepped (record { task = task; what = what.Punt dev (min (length (punted (Of dev) lists)) (2 ^ 64 - 1)) }))
 PuntedAll words task dev lists old after new (Err back) =
-    IsSpent words.serves (Owes (words.stage old)) (Punt dev (punted (Of dev) lists)) old new × (after ≡ unpunted (Of dev) lists) × (unmade_kept back ≡ map KeptBio (punted (Of dev) lists))
+    IsSpent words.serves (Owes (words.stage old)) (punt_request dev lists) old new × (after ≡ unpunted (Of dev) lists) × (unmade_kept back ≡ map KeptBio (punted (Of dev) lists))
 
 -- a punt of these bios
 abbrev pub PuntDoes : {S : Type 0} → Ghosts S → TaskId → DevId → TaskLists → S → Result Step Unmade → TaskLists → S → Type 0

@@ -24,7 +24,7 @@ use Rattle.task_steps.specs.declared.routes.driver.Driver.TheVariants as driver
 use Rattle.task_steps.specs.declared.routes.driver.Manner.{Manner}
 use Rattle.task_steps.specs.declared.routes.driver.Manner.TheVariants as manner
 use Rattle.task_steps.specs.declared.routes.Route.{Route}
-use Rattle.run_machine.specs.Scene.{Setup, setup_of}
+use Rattle.run_machine.specs.Scene.{Setup, setup_of, tree_at}
 use Rattle.bioset_pools.specs.Sets.{waits_first}
 use Rattle.run_machine.specs.Submissions.{Doing, Drives, ToPush, ToCut, ToRecord, Takes, landed, asks_at, cut_at, leg_at, goes_on}
 use Rattle.task_steps.specs.Within.{IsWithinDevice, first_cut, is_handed_on}
@@ -40,6 +40,10 @@ places_at places writer = slice_index_or places writer 0
 -- what tasks know of it
 abbrev pub routing_setup : Routing → Setup
 routing_setup r = setup_of r.stack (places_at r.places)
+
+-- a device with all that is below it
+abbrev pub device_tree : Routing → DevId → Tree
+device_tree r dev = tree_at (routing_setup r) dev
 
 abbrev pub keeps : Shape → Bool
 keeps (Keeps sectors) = true
@@ -195,6 +199,10 @@ pub record IsManner (setup : Setup) (dev : DevId) (t : Tree) (manner : Manner) :
 abbrev pub sent : Cut → Item Pad → Item Pad
 sent cut front = record front { bio = handed cut front.bio }
 
+-- the front that a cut makes of a bio, in an element at hand and with the node at this place, where it goes
+abbrev pub cut_front : Cut → Item Pad → Item Pad → ℕ → Item Pad
+cut_front cut item hand node = sent cut (split_front item hand cut.sectors (Of item.bio.dev) node)
+
 -- The device cuts the bio: the first piece has a sector and fewer than the bio, and it and the rest lie within their devices.
 pub record IsCutAt (setup : Setup) (stack : Stack) (bio : Bio) (cut : Cut) : Type 0 where
   pub first : first_cut (tree stack bio.dev.0) bio.range ≡ Some cut
@@ -206,7 +214,7 @@ pub record IsCutAt (setup : Setup) (stack : Stack) (bio : Bio) (cut : Cut) : Typ
   -- how the submission goes on
   pub made : (lists : TaskLists) (item hand : Item Pad) (node : ℕ) → item.bio.dev ≡ bio.dev → item.bio.range ≡ bio.range
       → cut_at setup lists item hand node (tree stack bio.dev.0)
-      ≡ goes_on setup item.bio.dev (submitted (split_rest item cut.sectors) (submitted (sent cut (split_front item hand cut.sectors (Of item.bio.dev) node)) lists))
+      ≡ goes_on setup item.bio.dev (submitted (split_rest item cut.sectors) (submitted (cut_front cut item hand node) lists))
 
 -- a leg of a bio: what it becomes in the element that it gets, and it is within the member
 pub record IsLegAt (stack : Stack) (bio : Bio) (leg node : ℕ) (made : Bio × Pad) : Type 0 where

@@ -18,6 +18,8 @@ use Rattle.task_steps.specs.KeeperViews.{keeping_of}
 use Rattle.task_steps.specs.Routed.{Routing, routing_setup}
 use Rattle.task_steps.specs.Stage.{Owes}
 use Rattle.task_steps.specs.Turns.{Asks, Turns, step_of}
+use Rattle.task_steps.specs.WriterViews.{WriterState, writer_task}
+use Rattle.task_steps.specs.RescuerViews.{RescuerState, rescuer_task}
 
 -- objects that hold together, with a task that is one of theirs
 abbrev pub HoldsTask : {S : Type 0} → Ghosts S → S → TaskState → Type 0
@@ -36,6 +38,13 @@ pub record TaskTurns {S : Type 0} (words : Ghosts S) (setup : Setup) (task : Tas
 -- the same of a task by what its routes know of the devices
 abbrev pub TaskDoes : {S : Type 0} → Ghosts S → Routing → TaskState → S → TaskState → S → Step → Type 0
 TaskDoes words routing task old next new step = TaskTurns words (routing_setup routing) task old next new step
+
+-- a step of a writer, and of a rescuer
+abbrev pub WriterDoes : {S : Type 0} → Ghosts S → Routing → WriterState → S → WriterState → S → Step → Type 0
+WriterDoes words routing writer old next new step = TaskDoes words routing (writer_task writer) old (writer_task next) new step
+
+abbrev pub RescuerDoes : {S : Type 0} → Ghosts S → Routing → RescuerState → S → RescuerState → S → Step → Type 0
+RescuerDoes words routing rescuer old next new step = TaskDoes words routing (rescuer_task rescuer) old (rescuer_task next) new step
 
 -- a task that has nothing to look at any more has asked for what it asks for next, whatever is known of the devices
 pub record TaskAsks {S : Type 0} (words : Ghosts S) (task : TaskState) (old : S) (next : TaskState) (new : S) (step : Step) : Type 0 where

@@ -37,6 +37,10 @@ pub record WriterState : Type 0 where
 abbrev pub writer_task : WriterState → TaskState
 writer_task w = Writer w.number w.todo w.taken w.submission
 
+-- this is the first of the writes that it has still to begin
+abbrev pub BeginsWith : List Todo → Todo → Type 0
+BeginsWith todos todo = todos ≡ todo ∷ drop 1 todos
+
 -- what it has taken
 abbrev pub gathered_of : RealGathered → Gathered
 gathered_of taken.NoBio = NoBio

@@ -1,15 +1,14 @@
 //! Calls of the objects that steps of several kinds make.
 ghost use Rattle.std.specs.Prelude.{◌≡◌};
 ghost use Rattle.stack_base.specs.declared.ids.SetId.TheVariants.{Of};
-ghost use Rattle.bio_lists.specs.Punt.{punted};
 ghost use Rattle.task_steps.specs.declared.step.Step.TheVariants.{Blocked};
-ghost use Rattle.run_machine.specs.Requests.{TakeBio, Punt, Link as LinkOf};
+ghost use Rattle.run_machine.specs.Requests.{TakeBio, Link as LinkOf};
 ghost use Rattle.run_machine.specs.Submissions.{after_miss};
 ghost use Rattle.run_machine.specs.Events.{take_of, miss_of};
 ghost use Rattle.task_steps.specs.Views.{opening_of, IsAskAlone};
 ghost use Rattle.task_steps.specs.Turns.{named_node, step_by, idle_step};
 ghost use Rattle.task_steps.specs.SubmissionViews.{want_of, IsWantAlone, IsAttemptAlone};
-ghost use Rattle.task_steps.specs.Answers.{AttemptDoes, PuntDoes, OpeningDoes, Ready};
+ghost use Rattle.task_steps.specs.Answers.{punt_request, AttemptDoes, PuntDoes, OpeningDoes, Ready};
 
 use crate::objects::{Ask, Objects, Unmade};
 use crate::routes::Routes;
@@ -107,7 +106,7 @@ pub(crate) fn punt_all<O: Objects>(
     dev: DevId,
     lists: &mut TaskLists,
 ) -> Result<Step, Unmade>
-    requires ready { Ready O.Objects objects.old (Punt dev (punted (Of dev) lists.old)) }
+    requires ready { Ready O.Objects objects.old (punt_request dev lists.old) }
     ensures does { PuntDoes O.Objects task dev lists.old objects.old result lists.new objects.new }
 {
     let punted = lists.punt(SetId::Of(dev));

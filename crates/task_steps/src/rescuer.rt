@@ -3,7 +3,7 @@ ghost use Rattle.std.specs.Prelude.{◌≡◌};
 ghost use Rattle.run_machine.specs.Requests.{Pop};
 ghost use Rattle.run_machine.specs.Submissions.{Rests, rests};
 ghost use Rattle.task_steps.specs.RescuerViews.{rescuer_task};
-ghost use Rattle.task_steps.specs.TaskSteps.{TaskDoes, HoldsTask};
+ghost use Rattle.task_steps.specs.TaskSteps.{HoldsTask, RescuerDoes};
 ghost use Rattle.task_steps.specs.Answers.{Ready};
 
 use crate::calls::idle;
@@ -53,7 +53,7 @@ impl Rescuer {
         requires ready { Ready O.Objects objects.old (Pop self.old.dev) }
         requires routing { (O.stage objects.old).routing ≡ routes.now }
         requires rests { self.old.submission.doing ≡ Rests }
-        ensures does { TaskDoes O.Objects routes.now (rescuer_task self.old) objects.old (rescuer_task self.new) objects.new result }
+        ensures does { RescuerDoes O.Objects routes.now self.old objects.old self.new objects.new result }
     {
         let dev = self.dev;
         match objects.pop(dev) {
@@ -78,7 +78,7 @@ impl Rescuer {
     pub fn step<O: Objects>(&mut self, objects: &mut O, routes: &Routes) -> Step
         requires routing { (O.stage objects.old).routing ≡ routes.now }
         requires ready { HoldsTask O.Objects objects.old (rescuer_task self.old) }
-        ensures does { TaskDoes O.Objects routes.now (rescuer_task self.old) objects.old (rescuer_task self.new) objects.new result }
+        ensures does { RescuerDoes O.Objects routes.now self.old objects.old self.new objects.new result }
     {
         if self.submission.asks() {
             let task = TaskId::Rescuer(self.dev);

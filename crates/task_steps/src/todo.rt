@@ -1,5 +1,6 @@
 //! The writes that a writer has still to begin.
-ghost use Rattle.std.specs.Prelude.{◌≡◌, ◌≢◌, [], ◌∷◌, drop, MatchOption};
+ghost use Rattle.std.specs.Prelude.{◌≡◌, ◌≢◌, [], drop, MatchOption};
+ghost use Rattle.task_steps.specs.WriterViews.{BeginsWith};
 
 use layout_model::Write;
 use std::marker::Model;
@@ -52,7 +53,7 @@ impl Todos {
 
     /// The first one, if there is one.
     pub fn first(&self) -> Option<Todo>
-        ensures { MatchOption result (self.now ≡ []) (λ todo. self.now ≡ todo ∷ drop 1 self.now) }
+        ensures { MatchOption result (self.now ≡ []) (BeginsWith self.now) }
     {
         self.writes.get(self.begun).copied()
     }

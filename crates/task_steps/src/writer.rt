@@ -1,12 +1,12 @@
 //! Writers: each begins its writes one after the other, when their round has come, and submits the bio of each.
-ghost use Rattle.std.specs.Prelude.{◌≡◌, ◌≢◌, ◌∷◌, [], true, false, drop};
+ghost use Rattle.std.specs.Prelude.{◌≡◌, ◌≢◌, [], true, false};
 ghost use Rattle.stack_base.specs.declared.ids.SetId.TheVariants.{Fs};
 ghost use Rattle.run_machine.specs.Requests.{TakeBio, LookRound};
 ghost use Rattle.run_machine.specs.Submissions.{Rests, rests};
 ghost use Rattle.run_machine.specs.Tasks.{Todo as TodoState, NoBio};
 ghost use Rattle.run_machine.specs.Scene.{Setup};
-ghost use Rattle.task_steps.specs.WriterViews.{writer_task, tried, IsNextAlone, IsAttemptAtBioAlone, is_taken, writer_next};
-ghost use Rattle.task_steps.specs.TaskSteps.{TaskAsks, TaskDoes, HoldsTask, TaskTurns};
+ghost use Rattle.task_steps.specs.WriterViews.{writer_task, tried, IsNextAlone, BeginsWith, IsAttemptAtBioAlone, is_taken, writer_next};
+ghost use Rattle.task_steps.specs.TaskSteps.{TaskAsks, HoldsTask, TaskTurns, WriterDoes};
 ghost use Rattle.task_steps.specs.Answers.{Ready};
 
 pub(crate) mod begin;
@@ -73,7 +73,7 @@ impl Writer {
         requires todo { self.old.todo ≢ [] }
         requires none { self.old.taken ≡ NoBio }
         requires alone { IsNextAlone next }
-        ensures { (todo : TodoState) → self.old.todo ≡ todo ∷ drop 1 self.old.todo → writer_task self.new ≡ writer_next next self.old todo }
+        ensures { (todo : TodoState) → BeginsWith self.old.todo todo → writer_task self.new ≡ writer_next next self.old todo }
     {
         match next {
             Next::Begins => self.todo.advance(),
@@ -86,9 +86,9 @@ impl Writer {
         requires ready { HoldsTask O.Objects objects.old (writer_task self.old) }
         requires routing { (O.stage objects.old).routing ≡ routes.now }
         requires rests { self.old.submission.doing ≡ Rests }
-        requires first { self.old.todo ≡ todo.now ∷ drop 1 self.old.todo }
+        requires first { BeginsWith self.old.todo todo.now }
         requires some { is_taken self.old.taken ≡ true }
-        ensures does { TaskDoes O.Objects routes.now (writer_task self.old) objects.old (writer_task self.new) objects.new result }
+        ensures does { WriterDoes O.Objects routes.now self.old objects.old self.new objects.new result }
     {
         let taken = mem::replace(&mut self.taken, Gathered::NoBio);
         let (next, step) = go_on(
@@ -137,7 +137,7 @@ impl Writer {
     fn look<O: Objects>(&mut self, objects: &mut O, todo: &Todo) -> Step
         requires ready { Ready O.Objects objects.old LookRound }
         requires rests { self.old.submission.doing ≡ Rests }
-        requires first { self.old.todo ≡ todo.now ∷ drop 1 self.old.todo }
+        requires first { BeginsWith self.old.todo todo.now }
         requires none { is_taken self.old.taken ≡ false }
         ensures does { (setup : Setup) → TaskTurns O.Objects setup (writer_task self.old) objects.old (writer_task self.new) objects.new result }
     {
@@ -164,7 +164,7 @@ impl Writer {
     pub fn step<O: Objects>(&mut self, objects: &mut O, routes: &Routes) -> Step
         requires routing { (O.stage objects.old).routing ≡ routes.now }
         requires ready { HoldsTask O.Objects objects.old (writer_task self.old) }
-        ensures does { TaskDoes O.Objects routes.now (writer_task self.old) objects.old (writer_task self.new) objects.new result }
+        ensures does { WriterDoes O.Objects routes.now self.old objects.old self.new objects.new result }
     {
         if self.submission.asks() {
             let task = TaskId::Writer(self.number);

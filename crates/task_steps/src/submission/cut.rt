@@ -1,18 +1,15 @@
 //! A driver that cuts: with a bio for the first piece it splits, and without one it hands the bios of its set to their rescuer.
 ghost use Rattle.std.specs.Prelude.{◌≡◌, ◌<◌, ◌≤◌, ◌+◌, ◌-◌, ◌^◌, true};
-ghost use Rattle.stack_base.specs.declared.ids.SetId.TheVariants.{Of};
 ghost use Rattle.bio_records.specs.Items.{item_of, IsAlone};
-ghost use Rattle.bio_split.specs.Split.{split_front, split_rest};
-ghost use Rattle.bio_lists.specs.Punt.{punted};
-ghost use Rattle.run_machine.specs.Scene.{tree_at};
-ghost use Rattle.run_machine.specs.Requests.{Punt, Link as LinkOf, Chain};
+ghost use Rattle.bio_split.specs.Split.{split_rest};
+ghost use Rattle.run_machine.specs.Requests.{Link as LinkOf, Chain};
 ghost use Rattle.task_steps.specs.declared.submission.Doing.TheVariants as doing';
 ghost use Rattle.task_steps.specs.declared.submission.Want.TheVariants.{Punts, Links};
 ghost use Rattle.run_machine.specs.Submissions.{is_cut};
 ghost use Rattle.task_steps.specs.Within.{IsWithinDevice, ListsAreWithin};
-ghost use Rattle.task_steps.specs.Routed.{routing_setup, sent};
+ghost use Rattle.task_steps.specs.Routed.{cut_front, device_tree};
 ghost use Rattle.task_steps.specs.SubmissionViews.{cutting, IsDoingAlone};
-ghost use Rattle.task_steps.specs.Answers.{Ready, Does, AlwaysDoes};
+ghost use Rattle.task_steps.specs.Answers.{punt_request, Ready, Does, AlwaysDoes};
 
 use crate::calls::{open_node, punt_all};
 use crate::objects::{Ask, Objects};
@@ -34,7 +31,7 @@ pub(crate) fn punt_to_cut<O: Objects>(
     at: &mut Doing,
     lists: &mut TaskLists,
 ) -> Step
-    requires ready { Ready O.Objects objects.old (Punt (item_of bio).bio.dev (punted (Of (item_of bio).bio.dev) lists.old)) }
+    requires ready { Ready O.Objects objects.old (punt_request (item_of bio).bio.dev lists.old) }
     requires alone { IsAlone bio }
     requires rests { at.old ≡ doing'.Rests }
     ensures does { AlwaysDoes O.Objects task (cutting bio Punts) lists.old objects.old (at.new, result) lists.new objects.new }
@@ -56,7 +53,7 @@ fn cut_off(bio: &mut BioElement, cut: Cut, hand: BioElement, node: u32) -> BioEl
     requires fewer { cut.sectors < (item_of bio.old).bio.range.len }
     requires small { (item_of bio.old).bio.range.start + (item_of bio.old).bio.range.len ≤ 2 ^ 64 - 1 }
     requires alone { IsAlone bio.old × IsAlone hand }
-    ensures child { item_of result ≡ sent cut (split_front (item_of bio.old) (item_of hand) cut.sectors (Of (item_of bio.old).bio.dev) node) }
+    ensures child { item_of result ≡ cut_front cut (item_of bio.old) (item_of hand) node }
     ensures rest { item_of bio.new ≡ split_rest (item_of bio.old) cut.sectors }
     ensures alone { IsAlone bio.new × IsAlone result }
 {
@@ -82,7 +79,7 @@ pub(crate) fn chain<O: Objects>(
     requires alone { IsAlone bio × IsAlone hand }
     requires rests { at.old ≡ doing'.Rests }
     requires within { IsWithinDevice routes.now.stack (item_of bio).bio }
-    requires cut { is_cut (tree_at (routing_setup routes.now) (item_of bio).bio.dev) (item_of bio).bio.range ≡ true }
+    requires cut { is_cut (device_tree routes.now (item_of bio).bio.dev) (item_of bio).bio.range ≡ true }
     requires lists { ListsAreWithin routes.now.stack lists.old }
     ensures does { Does O.Objects routes.now task (cutting bio (Links hand)) lists.old objects.old (at.new, result) lists.new objects.new }
     ensures alone { IsDoingAlone at.new }

@@ -1,19 +1,16 @@
 //! A mirror's driver: it takes a record and opens a master, and then takes a bio of its set for each leg and submits it as a copy
 //! (`raid1_write_request`, `drivers/md/raid1.c`).
 ghost use Rattle.std.specs.Prelude.{◌≡◌, ◌<◌, ◌+◌, ◌-◌, true};
-ghost use Rattle.stack_base.specs.declared.ids.SetId.TheVariants.{Of};
 ghost use Rattle.bio_records.specs.Items.{item_of, IsAlone};
-ghost use Rattle.bio_lists.specs.Punt.{punted};
-ghost use Rattle.run_machine.specs.Scene.{tree_at};
-ghost use Rattle.run_machine.specs.Requests.{TakeSlip, Punt, Link as LinkOf, Master, Leg};
+ghost use Rattle.run_machine.specs.Requests.{TakeSlip, Link as LinkOf, Master, Leg};
 ghost use Rattle.run_machine.specs.Submissions.{legs_of, leg_at, copies};
 ghost use Rattle.task_steps.specs.declared.submission.Doing.TheVariants as doing';
 ghost use Rattle.task_steps.specs.declared.submission.DriverAsk.TheVariants.{ToRecord, ToMaster};
 ghost use Rattle.task_steps.specs.declared.submission.Want.TheVariants.{Punts, Links};
 ghost use Rattle.task_steps.specs.Within.{IsWithinDevice, ListsAreWithin};
-ghost use Rattle.task_steps.specs.Routed.{routing_setup};
+ghost use Rattle.task_steps.specs.Routed.{device_tree, routing_setup};
 ghost use Rattle.task_steps.specs.SubmissionViews.{asking, copying, submission_of, IsDoingAlone};
-ghost use Rattle.task_steps.specs.Answers.{Ready, Does, AlwaysDoes, SubmissionReady};
+ghost use Rattle.task_steps.specs.Answers.{punt_request, Ready, Does, AlwaysDoes, SubmissionReady};
 
 use crate::calls::{had, missed, open_node, punt_all};
 use crate::objects::{Ask, Objects};
@@ -136,7 +133,7 @@ pub(crate) fn copy_on(
 )
     requires rests { at.old ≡ doing'.Rests }
     requires bio { IsWithinDevice routes.now.stack run.bio }
-    requires legs { legs ≡ legs_of (tree_at (routing_setup routes.now) run.bio.dev) }
+    requires legs { legs ≡ legs_of (device_tree routes.now run.bio.dev) }
     requires lists { ListsAreWithin routes.now.stack lists.old }
     ensures submission { submission_of at.new lists.new ≡ copies (routing_setup routes.now) lists.old run.bio run.master run.leg }
     ensures alone { IsDoingAlone at.new }
@@ -167,7 +164,7 @@ pub(crate) fn punt_to_copy<O: Objects>(
     at: &mut Doing,
     lists: &mut TaskLists,
 ) -> Step
-    requires ready { Ready O.Objects objects.old (Punt run.bio.dev (punted (Of run.bio.dev) lists.old)) }
+    requires ready { Ready O.Objects objects.old (punt_request run.bio.dev lists.old) }
     requires rests { at.old ≡ doing'.Rests }
     ensures does { AlwaysDoes O.Objects task (copying run Punts) lists.old objects.old (at.new, result) lists.new objects.new }
     ensures alone { IsDoingAlone at.new }
@@ -195,8 +192,8 @@ pub(crate) fn punt_to_copy<O: Objects>(
 fn copy_of(routes: &Routes, bio: &Bio, leg: u32, node: u32, mut hand: BioElement) -> BioElement
     requires alone { IsAlone hand }
     requires within { IsWithinDevice routes.now.stack bio.now }
-    requires leg { leg < legs_of (tree_at (routing_setup routes.now) bio.now.dev) }
-    ensures copy { item_of result ≡ leg_at bio.now (item_of hand) leg node (tree_at (routing_setup routes.now) bio.now.dev) }
+    requires leg { leg < legs_of (device_tree routes.now bio.now.dev) }
+    ensures copy { item_of result ≡ leg_at bio.now (item_of hand) leg node (device_tree routes.now bio.now.dev) }
     ensures alone { IsAlone result }
     ensures within { IsWithinDevice routes.now.stack (item_of result).bio }
 {
@@ -219,7 +216,7 @@ pub(crate) fn leg<O: Objects>(
     requires alone { IsAlone hand }
     requires rests { at.old ≡ doing'.Rests }
     requires within { IsWithinDevice routes.now.stack run.bio }
-    requires leg { run.leg < legs_of (tree_at (routing_setup routes.now) run.bio.dev) }
+    requires leg { run.leg < legs_of (device_tree routes.now run.bio.dev) }
     requires lists { ListsAreWithin routes.now.stack lists.old }
     ensures does { Does O.Objects routes.now task (copying run (Links hand)) lists.old objects.old (at.new, result) lists.new objects.new }
     ensures alone { IsDoingAlone at.new }
