@@ -95,7 +95,7 @@ module _ (plain : Plain) (tasks : List TaskOf) (stream after : Lcg) where
   picks_chosen own event chosen = by_what event.what chosen
     where
       by_what : (w : What) → Chosen Chooses (Picks plain) own stream (Stepped (record event { what = w })) after → PicksByWord (run_state plain tasks) w stream after
-      by_what (what.Complete disk index status) (pending, place, chooses, picks) = (
+      by_what (what.Complete disk index status) (pending, (place, chooses, picks)) = (
         picks.1 ∙ chooses.0 ∙ ap (λ n. word stream % min n 64) picks.0
             ∙ ap (λ n. word stream % n) (least_of (length ((objects_of plain).disk disk.0).pending) (2 ^ 64 - 1) (omega arith)),
         chooses.1,
@@ -122,7 +122,7 @@ module _ (plain : Plain) (tasks : List TaskOf) (stream after : Lcg) where
   -- nobody takes a bio between two looks of one thread
   stayed : (own : DevId) → (after ≡ stream) ⊎ IsAsked Chooses (Picks plain own) stream None after → after ≡ stream
   stayed own (inl same) = same
-  stayed own (inr (pending, place, chooses, none)) = absurd none
+  stayed own (inr (pending, (place, chooses, none))) = absurd none
 
   stays_still : (task : TaskState) (step : Step) → IsStill step → ChosenBy task Chooses (Picks plain) stream step after → after ≡ stream
   stays_still (Writer number todo taken submission) step still chosen = chosen

@@ -49,3 +49,7 @@ PicksBy chosen (Some index) = index ≤ chosen
 -- so it is at each disk
 abbrev pub DeskPicks : DevId → ℕ → ℕ → Option ℕ → Type 0
 DeskPicks disk pending chosen picked = PicksBy chosen picked
+
+-- the look of a completion told that so many bios wait
+abbrev pub DeskFinds : DeskState → DeskState → DevId → ℕ → Type 0
+DeskFinds old new disk pending = (reply : Reply) × (completes : LooksAndCompletes old disk reply new) × (completes.count ≡ pending)

@@ -112,7 +112,7 @@ impl Plain {
 }
 
 impl Objects for Plain {
-    ghost use Rattle.task_core.specs.Plains.{stage_of, Holds, PlainServes, Picks};
+    ghost use Rattle.task_core.specs.Plains.{stage_of, Holds, PlainServes, Picks, Finds};
 
     ghost stage = { stage_of };
 
@@ -121,6 +121,8 @@ impl Objects for Plain {
     ghost serves = { PlainServes };
 
     ghost picks = { Picks };
+
+    ghost finds = { Finds };
 
     #[inline(always)] // as `Pool::take`
     fn take_bio(&mut self, set: SetId, waits: bool) -> Result<Taken<BioBody<Pad>>, Unmade> {

@@ -1,5 +1,5 @@
 -- What calls of the objects are handed and answer, without its boxes: as requests and replies.
-use Rattle.std.specs.Prelude.{◌≡◌, ◌⊎◌, ℕ, Option, None, Some, Result, Ok, Err}
+use Rattle.std.specs.Prelude.{◌≡◌, ◌⊎◌, ◌<◌, ℕ, Option, None, Some, Result, Ok, Err}
 use Rattle.elem_ledger.specs.declared.element.Element.{Element}
 use Rattle.mempool_core.specs.declared.Taken.{Taken}
 use Rattle.mempool_core.specs.declared.Taken.TheVariants as taken
@@ -18,7 +18,7 @@ use Rattle.task_steps.specs.declared.objects.Ask.{Ask}
 use Rattle.task_steps.specs.declared.objects.Ask.TheVariants as ask
 use Rattle.task_steps.specs.declared.objects.Unmade.{Unmade}
 use Rattle.task_steps.specs.declared.objects.Unmade.TheVariants as unmade
-use Rattle.task_steps.specs.Choosing.{IsAsked}
+use Rattle.task_steps.specs.Choosing.{IsAskedOf}
 use Rattle.run_machine.specs.Requests.{Reply, Opening, Write, Chain, Master, Leg, HadBio, HadVec, HadSlip, Missed, Did, Popped, Completed, LinkedTo, DroppedTo, OutIs, Nothing, Spent}
 
 abbrev pub vec_item : Element Vector → VectorItem
@@ -85,11 +85,16 @@ CompletedAlone (Ok None) = Unit {0}
 CompletedAlone (Ok (Some done)) = IsAlone done.1.el
 CompletedAlone (Err back) = Unit {0}
 
--- A chooser is asked where a bio was completed. Where none was, it stays, or it was asked for one that had gone before the disk was asked again.
-abbrev pub Choice : {C : Type 0} → (C → ℕ → ℕ → C → Type 0) → (ℕ → ℕ → Option ℕ → Type 0) → C → Reply → C → Type 0
-Choice chooses picks old (Completed index bio status) new = IsAsked chooses picks old (Some index) new
-Choice chooses picks old Nothing new = (new ≡ old) ⊎ IsAsked chooses picks old None new
-Choice chooses picks old reply new = Unit {0}
+-- the index of the bio that was completed, if one was
+abbrev pub completed_index : Reply → Option ℕ
+completed_index (Completed index bio status) = Some index
+completed_index reply = None
+
+-- The first look found so many bios waiting. Where it found none, there is nothing, and the chooser stays. Where it found some, the chooser was
+-- told how many and asked, whatever the reply is: a bio was completed, or all had gone when the disk was asked again, or there was no ticket.
+abbrev pub Choice : {C : Type 0} → (C → ℕ → ℕ → C → Type 0) → (ℕ → Type 0) → (ℕ → ℕ → Option ℕ → Type 0) → C → Reply → C → Type 0
+Choice chooses finds picks old reply new =
+    (pending : ℕ) × finds pending × (((pending ≡ 0) × (reply ≡ Nothing) × (new ≡ old)) ⊎ ((0 < pending) × IsAskedOf chooses picks pending old (completed_index reply) new))
 
 abbrev pub linked_reply : Result Link Unmade → Reply
 linked_reply (Ok answer) = LinkedTo (linked_of answer)

@@ -82,8 +82,9 @@ pub enum Unmade {
 ///
 /// What they tell of a call (`serves`) and what they owe for it are two clauses: the first is theirs to define, as the machine's relation or a seat's
 /// history, and the second is one definition for all. Which bio a disk completes is told by the chooser's own relation and by theirs (`chooses`,
-/// `picks`), so that a run by a stream of words can say which index each word gave. They may also tell that none was left when the disk was asked
-/// again, for disks that others use; the objects of one thread never do.
+/// `picks`), so that a run by a stream of words can say which index each word gave. How many bios wait, of which the chooser is told, is what the
+/// first look of a completion found (`finds`). They may also tell that none was left when the disk was asked again, for disks that others use; the
+/// objects of one thread never do.
 pub trait Objects {
     /// Which objects there are, and which ledger each pool has.
     ghost stage: { Self → Stage };
@@ -97,6 +98,9 @@ pub trait Objects {
     /// What becomes of a choice: in these objects, of the bios that wait in this disk, so many that a chooser is told of and the index that it
     /// chooses, the one at this index is completed, or none where others had taken them all by then.
     ghost picks: { Self → DevId' → ℕ → ℕ → Option ℕ → Type 0 };
+
+    /// What a completion finds: the objects before it and after it, the disk, and how many bios waited there at its first look.
+    ghost finds: { Self → Self → DevId' → ℕ → Type 0 };
 
     /// Takes a bio of a set. An attempt that does not wait is told also where it misses.
     fn take_bio(&mut self, set: SetId, waits: bool) -> Result<Taken<BioBody<Pad>>, Unmade>
@@ -178,7 +182,7 @@ pub trait Objects {
         ensures kept { holds self.new × (stage self.new ≡ stage self.old) };
 
     /// Completes the chosen one of the bios that wait in a disk, if one does, or the last one where there are fewer by then. Answers `None` where
-    /// none waits at the last look; the chooser is asked where one waited at the first.
+    /// none waits at the last look. The chooser is asked, once, exactly where one waited at the first, and is told how many did.
     fn complete<C: Chooser>(
         &mut self,
         disk: DevId,
@@ -188,7 +192,7 @@ pub trait Objects {
         requires fits { RequestFits (stage self.old) (Complete disk) }
         ensures serves { serves self.old (Complete disk) (completed_reply result) self.new }
         ensures owed { Owes (stage self.old) (Complete disk) (completed_reply result) }
-        ensures chosen { Choice C.chooses (picks self.old disk) chooser.old (completed_reply result) chooser.new }
+        ensures chosen { Choice C.chooses (finds self.old self.new disk) (picks self.old disk) chooser.old (completed_reply result) chooser.new }
         ensures alone { CompletedAlone result }
         ensures back { IfErr result (λ back. back ≡ unmade.Nothing) }
         ensures kept { holds self.new × (stage self.new ≡ stage self.old) };

@@ -103,7 +103,7 @@ impl<'a, R: Wait> Caller<'a, R> {
 }
 
 impl<'a, R: Wait> Objects for Caller<'a, R> {
-    ghost use Rattle.shared_objects.specs.Desks.{DeskPicks, DeskServes};
+    ghost use Rattle.shared_objects.specs.Desks.{DeskFinds, DeskPicks, DeskServes};
     ghost use Rattle.shared_objects.specs.Holding.{DeskHolds, desk_of, stage_at};
 
     ghost stage = { λ caller. stage_at caller.locks.now };
@@ -113,6 +113,8 @@ impl<'a, R: Wait> Objects for Caller<'a, R> {
     ghost serves = { λ old request reply new. DeskServes (desk_of old.seats.now) request reply (desk_of new.seats.now) × (new.locks.now ≡ old.locks.now) × (new.seats.ghost_name ≡ old.seats.ghost_name) };
 
     ghost picks = { λ caller. DeskPicks };
+
+    ghost finds = { λ old new. DeskFinds (desk_of old.seats.now) (desk_of new.seats.now) };
 
     #[tactic(auto, using(crate::proofs::asking::PoolReplies::take_named, crate::proofs::asking::PoolReplies::bios_waits, crate::proofs::asking::PoolReplies::set_is_pool, crate::proofs::asking::PoolReplies::bio_served, crate::proofs::asking::PoolReplies::bio_owed, crate::proofs::asking::PoolReplies::bio_clear, crate::proofs::asking::PoolReplies::back_none, crate::proofs::asking::PoolReplies::desk_numbered))]
     #[inline(never)] // of what is asked here the lock and the object have one arm, and callers have no copy of it

@@ -12,7 +12,7 @@ use std::sync::Wait;
 use task_steps::{Ask, Chooser, Objects, Unmade};
 
 impl<'a, R: Wait> Objects for Desk<'a, R> {
-    ghost use Rattle.shared_objects.specs.Desks.{DeskPicks, DeskServes};
+    ghost use Rattle.shared_objects.specs.Desks.{DeskFinds, DeskPicks, DeskServes};
     ghost use Rattle.shared_objects.specs.Holding.{DeskHolds, desk_of, stage_at};
 
     ghost stage = { λ desk. stage_at desk.locks.now };
@@ -22,6 +22,8 @@ impl<'a, R: Wait> Objects for Desk<'a, R> {
     ghost serves = { λ old request reply new. DeskServes (desk_of old.seats) request reply (desk_of new.seats) × (new.locks.now ≡ old.locks.now) };
 
     ghost picks = { λ desk. DeskPicks };
+
+    ghost finds = { λ old new. DeskFinds (desk_of old.seats) (desk_of new.seats) };
 
     fn take_bio(&mut self, set: SetId, waits: bool) -> Result<Taken<BioBody<Pad>>, Unmade> {
         let mut caller = Caller {

@@ -1,4 +1,4 @@
-use Rattle.std.proofs.Common.{◌-◌, ◌^◌, inl, ap, sym, refl, length, min, ◌∙◌}
+use Rattle.std.proofs.Common.{◌-◌, ◌^◌, inl, inr, ap, sym, refl, length, min, ◌∙◌, arith}
 use Rattle.bio_records.specs.Items.{item_of}
 use Rattle.model_disks.specs.Disks.{DiskState}
 use Rattle.task_core.proofs.own.PlainCalls.{waiting_in, nothing_waits, complete_served, complete_owed, complete_kept}
@@ -19,16 +19,20 @@ returns-clause-owed g c =
     complete_owed c.args.self.now c.requires.holds c.args.disk c.requires.fits c.place-at.result c.place-at.ensures c.index_mut.result.now c.index_mut.ensures.value c.choose-index.result (item_of c.complete.result.el)
     c.complete.result.status c.complete.new.self c.complete.ensures.completes
 
-pub returns-clause-chosen : goal.returns-clause-chosen
-returns-clause-chosen g c = (
+pub returns-then-pending-eq0-clause-chosen : goal.returns-then-pending-eq0-clause-chosen
+returns-then-pending-eq0-clause-chosen g c = (
   c.pending-pending.result,
-  c.choose-index.result,
-  c.choose-index.ensures.chooses,
-  (
-    c.pending-pending.ensures ∙ ap (λ (d : DiskState). min (length d.pending) (2 ^ 64 - 1)) (sym (waiting_in c.args.self.now c.requires.holds c.args.disk c.requires.fits c.place-at.result c.place-at.ensures c.index.result.now c.index.ensures)),
-    refl,
-  ),
+  c.pending-pending.ensures ∙ ap (λ (d : DiskState). min (length d.pending) (2 ^ 64 - 1)) (sym (waiting_in c.args.self.now c.requires.holds c.args.disk c.requires.fits c.place-at.result c.place-at.ensures c.index.result.now c.index.ensures)),
+  inl (c.if-pending-eq0.true, refl, refl),
 )
+
+pub returns-clause-chosen : goal.returns-clause-chosen
+returns-clause-chosen g c =
+    let found = c.pending-pending.ensures ∙ ap (λ (d : DiskState). min (length d.pending) (2 ^ 64 - 1)) (sym (waiting_in c.args.self.now c.requires.holds c.args.disk c.requires.fits c.place-at.result c.place-at.ensures c.index.result.now c.index.ensures)) in (
+      c.pending-pending.result,
+      found,
+      inr (omega (arith, c.if-pending-eq0.false), (c.choose-index.result, c.choose-index.ensures.chooses, (found, refl))),
+    )
 
 pub returns-clause-kept : goal.returns-clause-kept
 returns-clause-kept g c =
