@@ -1,7 +1,9 @@
 -- What the writes and the `resize` lines of a text are to the tasks and the tally, as these are opened.
-use Rattle.std.specs.Prelude.{◌≡◌, ◌+◌, ◌-◌, ◌^◌, ◌<◌, ◌++◌, ℕ, List, [], ◌∷◌, All, length, map, sum_by, slice_index_or}
+use Rattle.std.specs.Prelude.{◌≡◌, ◌+◌, ◌-◌, ◌^◌, ◌<◌, ◌++◌, ℕ, List, [], ◌∷◌, All, length, map, replicate, sum_by, slice_index_or}
 use Rattle.std.specs.List.{range_with_len}
+use Rattle.stack_base.specs.declared.ids.DevId.{DevId}
 use Rattle.stack_base.specs.declared.ids.PoolId.{PoolId}
+use Rattle.stack_base.specs.declared.ids.Status.TheVariants.{Ok as Well}
 use Rattle.stack_base.specs.declared.stack.Stack.{Stack}
 use Rattle.layout_model.specs.declared.write.Write.{Write}
 use Rattle.layout_model.specs.NeedCounts.{nodes}
@@ -16,6 +18,7 @@ use Rattle.run_machine.specs.Scene.{Setup}
 use Rattle.task_steps.specs.KeeperViews.{duty_of}
 use Rattle.task_steps.specs.Routed.{Routing, routing_setup}
 use Rattle.task_steps.specs.TaskViews.{TaskOf, task_of}
+use Rattle.run_machine.specs.Objects.{TallyState}
 use Rattle.run_machine.specs.Submissions.{rests}
 use Rattle.run_machine.specs.Tasks.{Todo, NoBio, Duty, Starts, TaskState, Writer}
 use Rattle.run_machine.specs.Opened.{share_of, nodes_of, writers_of, rescuers_of, completers_of, rounds_in, changes_at, duties_in, keepers}
@@ -68,13 +71,23 @@ device_tasks of_devices.Completers setup numbers = completers_of setup numbers
 abbrev pub device_tasks_in : DeviceTasks → Routing → Stack → List TaskState
 device_tasks_in which routing stack = device_tasks which (routing_setup routing) (range_with_len 0 (length stack.devices.items))
 
+-- the tasks that such a function has of one device were added to others
+abbrev pub AddsOfDevice : (Setup → List ℕ → List TaskState) → Routing → DevId → List Kind → List Kind → Type 0
+AddsOfDevice tasks_of routing dev old new = AddsTasks old (tasks_of (routing_setup routing) (dev.0 ∷ [])) new
+
 -- tasks with what they know of devices
 abbrev pub with_routing : Routing → List TaskState → List TaskOf
 with_routing routing tasks = map (λ task. record { routing = routing; state = task }) tasks
 
--- the changes of a round, where so many writes are left when it starts, and then its start
+-- the changes of a round, where so many writes are left when it starts; the same and then its start; and what is done between all rounds
+abbrev pub resizes_at : ℕ → ℕ → List Resize → List Duty
+resizes_at round later resizes = changes_at round later (map change_of resizes)
+
 abbrev pub duties_at : ℕ → ℕ → List Resize → List Duty
-duties_at round later resizes = changes_at round later (map change_of resizes) ++ Starts round later ∷ []
+duties_at round later resizes = resizes_at round later resizes ++ Starts round later ∷ []
+
+abbrev pub all_duties : List ℕ → List Resize → List Duty
+all_duties rounds resizes = duties_in rounds (map change_of resizes) (rounds_in rounds - 1)
 
 -- duties that were added to others
 abbrev pub AddsDuties : List real.Duty → List Duty → List real.Duty → Type 0
@@ -82,13 +95,17 @@ AddsDuties old duties new = map duty_of new ≡ map duty_of old ++ duties
 
 -- the keeper of the rounds, if there is something to do between them
 abbrev pub keepers_in : List ℕ → List Resize → List TaskState
-keepers_in rounds resizes = keepers (duties_in rounds (map change_of resizes) (rounds_in rounds - 1))
+keepers_in rounds resizes = keepers (all_duties rounds resizes)
 
 -- the tasks behind the writers
 abbrev pub others_in : Setup → Work → List TaskState
 others_in setup work =
     rescuers_of setup (range_with_len 0 setup.count)
     ++ (completers_of setup (range_with_len 0 setup.count) ++ keepers_in work.rounds.items work.resizes.items)
+
+-- the tally of so many writes of each round and so many of all, none of which is done
+abbrev pub new_tally : List ℕ → ℕ → TallyState
+new_tally counts writes = record { round = 0; left = counts; statuses = replicate writes Well }
 
 -- the reserves that pools get
 abbrev pub reserves_in : List Resize → List (PoolId × ℕ)

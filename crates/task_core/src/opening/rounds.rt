@@ -1,11 +1,9 @@
 //! The rounds of a text: how many writes each has, the tally, and what the keeper does between them.
-ghost use Rattle.std.specs.Prelude.{◌≡◌, ◌+◌, ◌-◌, ◌<◌, ◌≤◌, ◌^◌, [], ◌∷◌, IfOk, OnOk, fold, length, map, max, replicate, sum};
-ghost use Rattle.stack_base.specs.declared.ids.Status.TheVariants as status;
+ghost use Rattle.std.specs.Prelude.{◌≡◌, ◌+◌, ◌-◌, ◌<◌, ◌≤◌, ◌^◌, [], ◌∷◌, IfOk, OnOk, fold, length, map, max, sum};
 ghost use Rattle.task_steps.specs.KeeperViews.{duty_of};
 ghost use Rattle.task_core.specs.Plains.{tally_of};
-ghost use Rattle.run_machine.specs.Scenario.{change_of};
-ghost use Rattle.run_machine.specs.Opened.{left_in, rounds_in, changes_at, duties_in};
-ghost use Rattle.task_core.specs.opened.NewTasks.{duties_at, keepers_in, AddsDuties, AddsTasks};
+ghost use Rattle.run_machine.specs.Opened.{left_in, rounds_in};
+ghost use Rattle.task_core.specs.opened.NewTasks.{all_duties, duties_at, keepers_in, new_tally, resizes_at, AddsDuties, AddsTasks};
 
 use crate::plain::tally::Tally;
 use stack_base::Status;
@@ -46,7 +44,7 @@ pub fn open_tally(alloc: Global, left: Vec<u32>, writes: usize) -> Result<Tally,
     requires some { 0 < length left.items }
     requires few { length left.items ≤ 2 ^ 32 }
     requires unfinished { sum left.items < 2 ^ 32 }
-    ensures { IfOk result (λ tally. tally_of tally ≡ record { round = 0; left = left.items; statuses = replicate writes status.Ok }) }
+    ensures { IfOk result (λ tally. tally_of tally ≡ new_tally left.items writes) }
 {
     let statuses = vec![in alloc; Status::Ok; writes]?;
     Ok(Tally::new(left, statuses))
@@ -59,7 +57,7 @@ fn add_change(
     round: u32,
     later: u32,
 ) -> Result<(), AllocError>
-    ensures { OnOk result (AddsDuties duties.old.items (changes_at round later (change_of resize.now ∷ [])) duties.new.items) }
+    ensures { OnOk result (AddsDuties duties.old.items (resizes_at round later (resize.now ∷ [])) duties.new.items) }
 {
     if resize.round == round {
         duties.push(Duty::Resizes {
@@ -97,7 +95,7 @@ fn duties_of(
     requires few { length rounds.now < 2 ^ 32 }
     requires short { rounds_in rounds.now ≤ 2 ^ 32 }
     requires left { left.now ≡ left_in rounds.now }
-    ensures { IfOk result (λ duties. map duty_of duties.items ≡ duties_in rounds.now (map change_of resizes.now) (rounds_in rounds.now - 1)) }
+    ensures { IfOk result (λ duties. map duty_of duties.items ≡ all_duties rounds.now resizes.now) }
 {
     let mut duties = Vec::new(alloc);
     let mut later = rounds.len() as u32;

@@ -2,9 +2,8 @@
 ghost use Rattle.std.specs.Prelude.{◌≡◌, ◌<◌, [], ◌∷◌, ◌++◌, IfOk, OnOk, length};
 ghost use Rattle.stack_base.specs.Stack.{IsStack};
 ghost use Rattle.run_machine.specs.Opened.{rescuers_of, completers_of};
-ghost use Rattle.task_steps.specs.Routed.{routing_setup};
 ghost use Rattle.task_steps.specs.TaskViews.{task_of};
-ghost use Rattle.task_core.specs.opened.NewTasks.{device_tasks, device_tasks_in, shown_tasks, with_routing, AddsTasks};
+ghost use Rattle.task_core.specs.opened.NewTasks.{device_tasks, device_tasks_in, shown_tasks, with_routing, AddsOfDevice, AddsTasks};
 
 use crate::opening::objects::is_disk;
 use stack_base::{DevId, Stack};
@@ -24,7 +23,7 @@ pub enum DeviceTasks {
 // Adds the rescuer of a device's set, if it has one.
 fn add_rescuer(routes: &Routes, dev: DevId, kinds: &mut Vec<Kind>) -> Result<(), AllocError>
     requires { dev.0 < length routes.now.stack.devices.items }
-    ensures { OnOk result (AddsTasks kinds.old.items (rescuers_of (routing_setup routes.now) (dev.0 ∷ [])) kinds.new.items) }
+    ensures { OnOk result (AddsOfDevice rescuers_of routes.now dev kinds.old.items kinds.new.items) }
 {
     if routes.rescuer(dev) {
         kinds.push(Kind::Rescuer(Rescuer::new(dev)))?;
@@ -35,7 +34,7 @@ fn add_rescuer(routes: &Routes, dev: DevId, kinds: &mut Vec<Kind>) -> Result<(),
 // Adds the completer of a device, if it is a disk.
 fn add_completer(routes: &Routes, dev: DevId, kinds: &mut Vec<Kind>) -> Result<(), AllocError>
     requires { dev.0 < length routes.now.stack.devices.items }
-    ensures { OnOk result (AddsTasks kinds.old.items (completers_of (routing_setup routes.now) (dev.0 ∷ [])) kinds.new.items) }
+    ensures { OnOk result (AddsOfDevice completers_of routes.now dev kinds.old.items kinds.new.items) }
 {
     if is_disk(routes, dev) {
         kinds.push(Kind::Completer {
@@ -54,7 +53,7 @@ fn add_device_task(
     kinds: &mut Vec<Kind>,
 ) -> Result<(), AllocError>
     requires { dev.0 < length routes.now.stack.devices.items }
-    ensures { OnOk result (AddsTasks kinds.old.items (device_tasks which (routing_setup routes.now) (dev.0 ∷ [])) kinds.new.items) }
+    ensures { OnOk result (AddsOfDevice (device_tasks which) routes.now dev kinds.old.items kinds.new.items) }
 {
     match which {
         DeviceTasks::Rescuers => add_rescuer(routes, dev, kinds),
@@ -81,7 +80,7 @@ pub(crate) fn open_device_tasks(
 
 // Adds a task of this kind, which shares what all know of devices.
 fn add_task(kind: Kind, routes: &Arc<Routes>, tasks: &mut Vec<Task>) -> Result<(), AllocError>
-    ensures { OnOk result (tasks.new.items ≡ tasks.old.items ++ (record { routing = routes.now.value; state = task_of kind }) ∷ []) }
+    ensures { OnOk result (tasks.new.items ≡ tasks.old.items ++ with_routing routes.now.value (task_of kind ∷ [])) }
 {
     match routes.clone() {
         Ok(routes) => {
