@@ -1,5 +1,5 @@
 -- A plain core: what tasks know of a stack, the objects, and the tasks in their order; and the state of the machine that it is.
-use Rattle.std.specs.Prelude.{◌≡◌, ◌+◌, ◌<◌, ℕ, List, length, slice_get, slice_set, slice_index_or, All, Option, Some, Result, Ok, Err}
+use Rattle.std.specs.Prelude.{◌≡◌, ◌+◌, ◌*◌, ◌<◌, ℕ, List, length, slice_get, slice_set, slice_index_or, All, Option, Some, Result, Ok, Err}
 use Rattle.run_machine.specs.declared.event.TaskId.{TaskId}
 use Rattle.run_machine.specs.declared.event.TaskId.TheVariants as id
 use Rattle.run_machine.specs.declared.event.Event.{Event}
@@ -12,10 +12,9 @@ use Rattle.task_steps.specs.Routed.{Routing, routing_setup}
 use Rattle.task_steps.specs.Within.{TaskFits}
 use Rattle.run_machine.specs.declared.event.What.{What}
 use Rattle.plain_core.specs.declared.steps.task.Task.{Task}
-use Rattle.plain_core.specs.steps.Views.{task_of_plain}
-use Rattle.plain_core.specs.steps.Moves.{Submits, TaskMoves}
+use Rattle.plain_core.specs.steps.Moves.{Submits, PlainTaskMoves}
 use Rattle.plain_core.specs.objects.Ledgers.{ledger_of}
-use Rattle.plain_core.specs.objects.Plain.{CoreObjects, objects_of_core}
+use Rattle.plain_core.specs.objects.Plain.{CoreObjects, most_devices, objects_of_core}
 use Rattle.plain_core.specs.declared.fault.CoreFault.{CoreFault}
 use Rattle.plain_core.specs.declared.fault.CoreFault.TheVariants as fault
 
@@ -40,12 +39,16 @@ scene_of_core c = record {
   ledger = ledger_of;
 }
 
--- Where the place of a task is kept. Slots rise as the tasks of a core do: 8 writers, 32 rescuers, 32 completers and the keeper.
+-- Where the place of a task is kept. Slots rise as the tasks of a core do: writers, rescuers, completers and the keeper.
 abbrev pub slot_of : TaskId → ℕ
 slot_of (id.Writer number) = number
-slot_of (id.Rescuer dev) = 8 + dev.0
-slot_of (id.Completer disk) = 40 + disk.0
-slot_of id.Keeper = 72
+slot_of (id.Rescuer dev) = most_writers + dev.0
+slot_of (id.Completer disk) = most_writers + most_devices + disk.0
+slot_of id.Keeper = most_writers + 2 * most_devices
+
+-- how many there are: one for each writer, two for each device and the keeper's
+abbrev pub most_slots : ℕ
+most_slots = most_writers + 2 * most_devices + 1
 
 -- each task is found by its name
 abbrev pub AreFound : List ℕ → List TaskState → Type 0
@@ -87,7 +90,7 @@ Applies old event (Err fault.Memory) new = (new ≡ old) × IsEnabled (scene_of_
 -- the task at this place goes on, and all others stay
 abbrev pub StepsFrom : Routing → CoreObjects → List Task → ℕ → Option Task → What → Result (Unit {0}) CoreFault → CoreObjects → Option Task → List Task → Type 0
 StepsFrom r old tasks place (Some before) what result new (Some after) rest =
-    TaskMoves r old (task_of_plain before) what result new (task_of_plain after) × (rest ≡ slice_set tasks place after)
+    PlainTaskMoves r old before what result new after × (rest ≡ slice_set tasks place after)
 StepsFrom r old tasks place before what result new after rest = ⊥
 
 abbrev pub StepsAt : Routing → CoreObjects → List Task → ℕ → What → Result (Unit {0}) CoreFault → CoreObjects → List Task → Type 0

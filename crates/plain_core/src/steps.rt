@@ -2,7 +2,7 @@
 ghost use Rattle.std.specs.Prelude.{◌≡◌, ◌<◌};
 ghost use Rattle.task_steps.specs.Within.{TaskFits};
 ghost use Rattle.plain_core.specs.steps.Views.{task_of_plain, rescuer_of};
-ghost use Rattle.plain_core.specs.steps.Moves.{TaskMoves};
+ghost use Rattle.plain_core.specs.steps.Moves.{PlainTaskMoves, TaskMoves};
 
 pub(crate) mod asks;
 pub(crate) mod completer;
@@ -61,7 +61,7 @@ pub fn task_step(
 ) -> Result<(), CoreFault>
     requires stack { objects.old.stack ≡ routes.now.stack }
     requires fits { TaskFits routes.now.stack (task_of_plain task.old) }
-    ensures { TaskMoves routes.now objects.old (task_of_plain task.old) what.now result objects.new (task_of_plain task.new) }
+    ensures { PlainTaskMoves routes.now objects.old task.old what.now result objects.new task.new }
 {
     match task {
         Task::Writer(writer) => writer_step(routes, objects, writer, what),

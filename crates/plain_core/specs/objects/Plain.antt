@@ -1,5 +1,5 @@
 -- The objects as lists: pools by their numbers, the bios that wait for rescuers and the disks by devices, books by their writers.
-use Rattle.std.specs.Prelude.{◌≡◌, ◌<◌, ◌≤◌, ◌==◌, ℕ, Bool, true, List, [], length, slice_index_or, slice_set, Option, None, Some, Result, Ok, Err}
+use Rattle.std.specs.Prelude.{◌≡◌, ◌+◌, ◌*◌, ◌<◌, ◌≤◌, ◌==◌, ℕ, Bool, true, List, [], length, slice_index_or, slice_set, Option, None, Some, Result, Ok, Err}
 use Rattle.fail_script.specs.Script.{only_tail}
 use Rattle.stack_base.specs.declared.stack.Stack.{Stack}
 use Rattle.stack_base.specs.Tree.{size, tree}
@@ -31,6 +31,14 @@ pub record CoreObjects : Type 0 where
 abbrev pub core_objects : Stack → List PoolState → List (List (Item Pad)) → List (Option DiskState) → List BookState → TallyState → CoreObjects
 core_objects stack pools rescues disks books tally =
     record { stack = stack; pools = pools; rescues = rescues; disks = disks; books = books; tally = tally }
+
+-- a stack has up to 32 devices
+abbrev pub most_devices : ℕ
+most_devices = 32
+
+-- how many pools it has then: two for each device, and the two of the writers above it
+abbrev pub most_pools : ℕ
+most_pools = 2 * most_devices + 2
 
 -- a pool that no stack has
 abbrev pub no_core_pool : PoolState
@@ -87,7 +95,7 @@ HasSize sectors (Some disk) = length disk.image ≡ sectors
 -- There is a place for each pool and each device of the stack. Each disk has the size that the stack gives it, and the bios that wait for
 -- rescuers are within their devices.
 pub record HasPlacesForStack (stack : Stack) (pools : List PoolState) (rescues : List (List (Item Pad))) (disks : List (Option DiskState)) : Type 0 where
-  pub pool : 66 ≤ length pools
+  pub pool : most_pools ≤ length pools
   pub rescue : length stack.devices.items ≤ length rescues
   pub disk : (dev : ℕ) → dev < length stack.devices.items → keeps_data (tree stack dev) ≡ true
       → HasSize (size (tree stack dev)) (slice_index_or disks dev None)

@@ -3,7 +3,6 @@ use Rattle.std.specs.Prelude.{◌≡◌, ◌<◌, ◌≤◌, ◌++◌, if◌then
 use Rattle.std.specs.List.{range_with_len}
 use Rattle.fail_script.specs.Script.{Answers}
 use Rattle.stack_base.specs.declared.ids.PoolId.{PoolId}
-use Rattle.stack_base.specs.declared.ids.Status.TheVariants.{Ok as Well}
 use Rattle.stack_base.specs.declared.stack.Stack.{Stack}
 use Rattle.stack_base.specs.PoolId.{IsOfStack}
 use Rattle.stack_base.specs.Stack.{IsStack}
@@ -18,15 +17,15 @@ use Rattle.work_text.specs.declared.Resize.{Resize}
 use Rattle.work_text.specs.declared.Work.{Work}
 use Rattle.run_machine.specs.Events.{id_of, pool_of}
 use Rattle.run_machine.specs.Objects.{TallyState}
-use Rattle.run_machine.specs.Opened.{Scenario, objects, reserve_of, scene, script_at, start}
+use Rattle.run_machine.specs.Opened.{Scenario, most_writers, objects, reserve_of, scene, script_at, start}
 use Rattle.task_steps.specs.Routed.{places_at}
 use Rattle.run_machine.specs.Scenario.{change_of}
 use Rattle.run_machine.specs.Scene.{keeps_data}
 use Rattle.run_machine.specs.Tasks.{TaskState}
 use Rattle.plain_core.specs.declared.steps.task.Task.{Task}
-use Rattle.plain_core.specs.Cores.{CoreState, AreFound, scene_of_core, slot_of, state_of_core}
+use Rattle.plain_core.specs.Cores.{CoreState, most_slots, AreFound, scene_of_core, slot_of, state_of_core}
 use Rattle.plain_core.specs.objects.Ledgers.{ledger_of}
-use Rattle.plain_core.specs.objects.Plain.{CoreObjects, opened_disk}
+use Rattle.plain_core.specs.objects.Plain.{CoreObjects, most_pools, opened_disk}
 use Rattle.plain_core.specs.steps.Views.{task_of_plain}
 
 -- the scenario that these mean together
@@ -65,12 +64,20 @@ new_pool stack scripts number = opened (reserve_of stack (pool_of number)) (scri
 abbrev pub new_pools : Stack → List (PoolId × Answers) → ℕ → List PoolState
 new_pools stack scripts count = map (new_pool stack scripts) (range_with_len 0 count)
 
+-- all that a stack may have
+abbrev pub all_pools : Stack → List (PoolId × Answers) → List PoolState
+all_pools stack scripts = new_pools stack scripts most_pools
+
 -- of the first devices those that are disks: zeros, in which nothing waits
 abbrev pub new_disk : Stack → ℕ → Option DiskState
 new_disk stack dev = if keeps_data (tree stack dev) then Some (opened_disk stack dev) else None
 
 abbrev pub new_disks : Stack → ℕ → List (Option DiskState)
 new_disks stack count = map (new_disk stack) (range_with_len 0 count)
+
+-- of all devices
+abbrev pub all_disks : Stack → List (Option DiskState)
+all_disks stack = new_disks stack (length stack.devices.items)
 
 -- the books of the first writers, with so many places for each, at which no node is open
 abbrev pub new_book : List ℕ → ℕ → BookState
@@ -79,18 +86,18 @@ new_book places writer = record { writer = writer; nodes = replicate (places_at 
 abbrev pub new_books : List ℕ → ℕ → List BookState
 new_books places count = map (new_book places) (range_with_len 0 count)
 
--- the tally of so many writes of each round and so many of all, none of which is done
-abbrev pub new_tally : List ℕ → ℕ → TallyState
-new_tally counts writes = record { round = 0; left = counts; statuses = replicate writes Well }
+-- of all that a scenario may have
+abbrev pub all_books : List ℕ → List BookState
+all_books places = new_books places most_writers
 
 -- all objects of a stack, with the places of its routes and a tally, and those of a scenario
 abbrev pub new_core_objects : Stack → List (PoolId × Answers) → List ℕ → TallyState → CoreObjects
 new_core_objects stack scripts places tally = record {
   stack = stack;
-  pools = new_pools stack scripts 66;
+  pools = all_pools stack scripts;
   rescues = replicate (length stack.devices.items) [];
-  disks = new_disks stack (length stack.devices.items);
-  books = new_books places 8;
+  disks = all_disks stack;
+  books = all_books places;
   tally = tally;
 }
 
@@ -102,7 +109,7 @@ pub record AreTasksEntered (tasks : List TaskState) (places : List ℕ) (slot : 
   pub found : AreFound places tasks
   pub below : All (λ task. slot_of (id_of task) < slot) tasks
   pub few : length tasks ≤ slot
-  pub long : length places ≡ 73
+  pub long : length places ≡ most_slots
 
 -- the slot of a task
 abbrev pub task_slot : Task → ℕ

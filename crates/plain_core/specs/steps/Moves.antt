@@ -9,10 +9,11 @@ use Rattle.run_machine.specs.Tasks as task
 use Rattle.run_machine.specs.Tasks.{TaskState, request, answered, look_of}
 use Rattle.run_machine.specs.Runs.{IsLet}
 use Rattle.task_steps.specs.Routed.{Routing, routing_setup}
+use Rattle.plain_core.specs.declared.steps.task.Task.{Task}
 use Rattle.plain_core.specs.declared.steps.task.Writer.{Writer}
 use Rattle.plain_core.specs.objects.Ledgers.{ledger_of}
 use Rattle.plain_core.specs.objects.Plain.{CoreObjects, objects_of_core}
-use Rattle.plain_core.specs.steps.Views.{writer_of}
+use Rattle.plain_core.specs.steps.Views.{task_of_plain, writer_of}
 use Rattle.plain_core.specs.steps.Answers.{IsAnswer, Refuses, HasAnswer}
 use Rattle.plain_core.specs.steps.Submissions.{IsSubmitting}
 use Rattle.plain_core.specs.declared.fault.CoreFault.{CoreFault}
@@ -40,6 +41,13 @@ TaskMoves r old before what (Err fault.Memory) new after =
     × Submits before
     × IsLet ledger_of (objects_of_core old) before (look_of before)
     × HasAnswer old (request (routing_setup r) before) what
+
+-- the same of plain tasks, and of one that goes on so whatever is known of the devices
+abbrev pub PlainTaskMoves : Routing → CoreObjects → Task → What → Result (Unit {0}) CoreFault → CoreObjects → Task → Type 0
+PlainTaskMoves r old before what result new after = TaskMoves r old (task_of_plain before) what result new (task_of_plain after)
+
+abbrev pub AlwaysMoves : CoreObjects → TaskState → What → Result (Unit {0}) CoreFault → CoreObjects → TaskState → Type 0
+AlwaysMoves old before what result new after = (r : Routing) → TaskMoves r old before what result new after
 
 -- what the keeper's duty is answered with
 abbrev pub duty_reply : task.Duty → Reply

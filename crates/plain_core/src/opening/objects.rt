@@ -5,13 +5,15 @@ ghost use Rattle.stack_base.specs.Stack.{IsStack};
 ghost use Rattle.stack_base.specs.declared.ids.PoolId.{PoolId as Pools};
 ghost use Rattle.fail_script.specs.Script.{Answers};
 ghost use Rattle.run_machine.specs.Opened.{reserve_of};
-ghost use Rattle.plain_core.specs.opening.Opening.{new_books, new_disk, new_disks, new_pools, new_core_objects, new_tally};
+ghost use Rattle.task_core.specs.opened.NewTasks.{new_tally};
+ghost use Rattle.plain_core.specs.opening.Opening.{all_books, all_disks, all_pools, new_disk, new_core_objects};
 
 use crate::objects::Objects;
 use crate::objects::book::Book;
 use crate::objects::disk::Disk;
 use crate::objects::lists::Rescue;
 use crate::objects::pool::Pool;
+use crate::opening::{MOST_POOLS, MOST_WRITERS};
 use fail_script::Script;
 use stack_base::{DevId, PoolId, Stack};
 use std::alloc::{AllocError, Global};
@@ -44,10 +46,10 @@ fn open_pools(
 ) -> Result<Vec<Pool>, AllocError>
     requires stack { IsStack stack.now }
     requires scripts { All (λ (script : Pools × Answers). IsOfStack script.0) scripts.now }
-    ensures { IfOk result (λ pools. pools.items ≡ new_pools stack.now scripts.now 66) }
+    ensures { IfOk result (λ pools. pools.items ≡ all_pools stack.now scripts.now) }
 {
-    let mut pools = Vec::with_capacity(alloc, 66)?;
-    'opening: for number in 0..66 {
+    let mut pools = Vec::with_capacity(alloc, MOST_POOLS as usize)?;
+    'opening: for number in 0..MOST_POOLS {
         let script = script_of(alloc, scripts, number)?;
         pools.push(Pool::new(reserve_of(stack, pool_of(number)), script))?;
     }
@@ -94,7 +96,7 @@ fn open_disks(
 ) -> Result<Vec<Option<Disk>>, AllocError>
     requires same { routes.now.stack ≡ stack.now }
     requires stack { IsStack stack.now }
-    ensures { IfOk result (λ disks. disks.items ≡ new_disks stack.now (length stack.now.devices.items)) }
+    ensures { IfOk result (λ disks. disks.items ≡ all_disks stack.now) }
 {
     let mut disks = Vec::with_capacity(alloc, stack.devices.len())?;
     'opening: for number in 0..stack.devices.len() {
@@ -108,10 +110,10 @@ fn open_disks(
 /// # Errors
 /// Where there is no memory.
 pub fn open_books(alloc: Global, routes: &Routes) -> Result<Vec<Book>, AllocError>
-    ensures { IfOk result (λ books. books.items ≡ new_books routes.now.places 8) }
+    ensures { IfOk result (λ books. books.items ≡ all_books routes.now.places) }
 {
-    let mut books = Vec::with_capacity(alloc, 8)?;
-    'opening: for writer in 0..8 {
+    let mut books = Vec::with_capacity(alloc, MOST_WRITERS as usize)?;
+    'opening: for writer in 0..MOST_WRITERS {
         books.push(Book::open(alloc, writer, routes.places(writer))?)?;
     }
     Ok(books)

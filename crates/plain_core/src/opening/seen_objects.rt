@@ -4,11 +4,12 @@ ghost use Rattle.task_core.specs.opened.OfOne.{scenario_in, IsOpened};
 ghost use Rattle.run_machine.specs.Opened.{objects as objects_at};
 ghost use Rattle.task_core.specs.Plains.{stage_of, tally_of};
 ghost use Rattle.task_steps.specs.Stage.{is_pool};
-ghost use Rattle.plain_core.specs.opening.Opening.{new_disk, new_disks, new_pool, new_pools, core_objects_of};
+ghost use Rattle.plain_core.specs.opening.Opening.{all_disks, all_pools, new_disk, new_pool, core_objects_of};
 
 use crate::objects::Objects;
 use crate::objects::disk::Disk;
 use crate::objects::pool::Pool;
+use crate::opening::MOST_POOLS;
 use crate::opening::objects::{open_books, open_rescues};
 use fail_script::Script;
 use stack_base::{DevId, PoolId};
@@ -47,14 +48,14 @@ fn pool_seen(
     Ok(Pool::of(script, opened.objects.facts(pool)))
 }
 
-// All 66 pools that a stack may have, by their numbers, each as a run begins with it: full.
+// All pools that a stack may have, by their numbers, each as a run begins with it: full.
 fn pools_seen(alloc: Global, opened: &Opened, routes: &Routes) -> Result<Vec<Pool>, AllocError>
     requires opened { IsOpened opened.now }
     requires routes { routes.now ≡ (stage_of opened.now.objects).routing }
-    ensures { IfOk result (λ pools. pools.items ≡ new_pools (scenario_in opened.now).stack (scenario_in opened.now).scripts 66) }
+    ensures { IfOk result (λ pools. pools.items ≡ all_pools (scenario_in opened.now).stack (scenario_in opened.now).scripts) }
 {
-    let mut pools = Vec::with_capacity(alloc, 66)?;
-    'seeing: for number in 0..66 {
+    let mut pools = Vec::with_capacity(alloc, MOST_POOLS as usize)?;
+    'seeing: for number in 0..MOST_POOLS {
         pools.push(pool_seen(alloc, opened, routes, number)?)?;
     }
     Ok(pools)
@@ -87,7 +88,7 @@ fn disks_seen(
 ) -> Result<Vec<Option<Disk>>, AllocError>
     requires opened { IsOpened opened.now }
     requires routes { routes.now ≡ (stage_of opened.now.objects).routing }
-    ensures { IfOk result (λ disks. disks.items ≡ new_disks (scenario_in opened.now).stack (length (scenario_in opened.now).stack.devices.items)) }
+    ensures { IfOk result (λ disks. disks.items ≡ all_disks (scenario_in opened.now).stack) }
 {
     let mut disks = Vec::with_capacity(alloc, routes.count() as usize)?;
     'seeing: for number in 0..routes.count() {

@@ -3,6 +3,7 @@ ghost use Rattle.std.specs.Prelude.{◌≡◌, IfOk, All};
 ghost use Rattle.task_core.specs.opened.OfOne.{states};
 ghost use Rattle.run_machine.specs.Tasks.{Keeper as Keeping};
 ghost use Rattle.task_steps.specs.WriterViews.{writer_task};
+ghost use Rattle.plain_core.specs.Cores.{most_slots};
 ghost use Rattle.plain_core.specs.opening.Seen.{HasNotBegun, Rises};
 ghost use Rattle.plain_core.specs.steps.Views.{keeper_of, task_of_plain, writer_of};
 ghost use Rattle.plain_core.specs.opening.Opening.{IsEntering};
@@ -62,7 +63,7 @@ pub fn tasks_seen(
     tasks: &[opened::Task],
 ) -> Result<(Vec<Task>, Vec<u32>), AllocError>
     requires first { All HasNotBegun (states tasks.now) }
-    requires rising { Rises 0 (states tasks.now) 73 }
+    requires rising { Rises 0 (states tasks.now) most_slots }
     ensures { IfOk result (λ seen. IsEntering seen.0.items seen.1.items (states tasks.now)) }
 {
     let mut seen = Vec::with_capacity(alloc, tasks.len())?;

@@ -2,9 +2,8 @@
 ghost use Rattle.std.specs.Prelude.{◌≡◌, ℕ, ◌<◌, true, false, None};
 ghost use Rattle.plain_core.specs.steps.Views.{carried_of_plain, completer_of};
 ghost use Rattle.run_machine.specs.Tasks.{after_drop};
-ghost use Rattle.task_steps.specs.Routed.{Routing};
 ghost use Rattle.plain_core.specs.objects.Books.{ended_of_plain};
-ghost use Rattle.plain_core.specs.steps.Moves.{TaskMoves};
+ghost use Rattle.plain_core.specs.steps.Moves.{AlwaysMoves};
 ghost use Rattle.plain_core.specs.steps.Closing.{GivesFirst, PassesOn, ClosesOn, IsCarried};
 
 use crate::fault::CoreFault;
@@ -172,7 +171,7 @@ pub fn completer_step(
     completer: &mut Completer,
     what: &What,
 ) -> Result<(), CoreFault>
-    ensures { (r : Routing) → TaskMoves r objects.old (completer_of completer.old) what.now result objects.new (completer_of completer.new) }
+    ensures { AlwaysMoves objects.old (completer_of completer.old) what.now result objects.new (completer_of completer.new) }
 {
     carry(objects, completer.disk, &mut completer.carried, what)
 }

@@ -2,8 +2,7 @@
 ghost use Rattle.plain_core.specs.steps.Views.{keeper_of};
 ghost use Rattle.run_machine.specs.Tasks.{duty_request};
 ghost use Rattle.task_steps.specs.KeeperViews.{duty_of};
-ghost use Rattle.task_steps.specs.Routed.{Routing};
-ghost use Rattle.plain_core.specs.steps.Moves.{TaskMoves, duty_reply};
+ghost use Rattle.plain_core.specs.steps.Moves.{AlwaysMoves, duty_reply};
 ghost use Rattle.plain_core.specs.steps.Duties.{IsOfPool};
 ghost use Rattle.plain_core.specs.steps.Answers.{AnswersRequest};
 
@@ -29,7 +28,7 @@ fn keep(objects: &mut Objects, duty: Duty, what: &What) -> Result<(), CoreFault>
 /// # Errors
 /// `NotEnabled` where the event is no step of it, as while writes of its round are left. Then nothing is changed. It takes no memory.
 pub fn keeper_step(objects: &mut Objects, keeper: &mut Keeper, what: &What) -> Result<(), CoreFault>
-    ensures { (r : Routing) → TaskMoves r objects.old (keeper_of keeper.old) what.now result objects.new (keeper_of keeper.new) }
+    ensures { AlwaysMoves objects.old (keeper_of keeper.old) what.now result objects.new (keeper_of keeper.new) }
 {
     let Some(duty) = keeper.next() else {
         return Err(CoreFault::NotEnabled);
