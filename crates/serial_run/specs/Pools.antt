@@ -1,5 +1,6 @@
 -- The pools of devices, with their facts.
-use Rattle.std.specs.Prelude.{ℕ, List, [], ◌∷◌, map, drop}
+use Rattle.std.specs.Prelude.{◌≡◌, ◌+◌, ◌≤◌, ℕ, List, [], ◌∷◌, ◌++◌, length, map, drop, vec_capacity}
+use Rattle.std.specs.Global.{Vec}
 use Rattle.stack_base.specs.declared.ids.DevId.{DevId}
 use Rattle.stack_base.specs.declared.ids.PoolId.{PoolId}
 use Rattle.stack_base.specs.declared.ids.PoolId.TheVariants.{Bios, Records}
@@ -23,3 +24,14 @@ pools_by dev (Mirrored number sizes members) = Records dev ∷ Bios dev ∷ []
 -- the pools of the devices from this one on, by falling number
 abbrev pub falling_pools_from : ℕ → Stack → List PoolId
 falling_pools_from number stack = falling_from number (drop number stack.devices.items)
+
+abbrev pub falling_pools : Stack → List PoolId
+falling_pools stack = falling_pools_from 0 stack
+
+-- these pools, with their facts, were added to others
+abbrev pub AddsFacts : Objects → List PoolId → Vec (PoolId × Facts) → Vec (PoolId × Facts) → Type 0
+AddsFacts objects pools old new = new.items ≡ old.items ++ facts_in objects pools
+
+-- there is room for them
+abbrev pub HasRoomFor : List PoolId → Vec (PoolId × Facts) → Type 0
+HasRoomFor pools kept = length kept.items + length pools ≤ vec_capacity kept

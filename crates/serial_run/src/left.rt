@@ -1,12 +1,11 @@
 //! What a run leaves.
-ghost use Rattle.std.specs.Prelude.{◌≡◌, ◌+◌, ◌<◌, ◌≤◌, ◌++◌, [], ◌∷◌, IsTrue, length, vec_capacity};
+ghost use Rattle.std.specs.Prelude.{◌≡◌, ◌<◌, ◌≤◌, [], ◌∷◌, IsTrue, length, vec_capacity};
 ghost use Rattle.task_core.specs.Leaving.{IsReservedForRun, IsLeft};
 ghost use Rattle.task_core.specs.opened.OfOne.{AreOfOne};
 ghost use Rattle.task_core.specs.Plains.{objects_of, stage_of, Holds};
-ghost use Rattle.run_machine.specs.Scene.{tree_at};
-ghost use Rattle.task_steps.specs.Routed.{routing_setup};
+ghost use Rattle.task_steps.specs.Routed.{device_tree};
 ghost use Rattle.task_steps.specs.Stage.{is_pool};
-ghost use Rattle.serial_run.specs.Pools.{facts_in, pools_by, falling_pools_from};
+ghost use Rattle.serial_run.specs.Pools.{falling_pools, pools_by, AddsFacts, HasRoomFor};
 
 use mempool_core::Facts;
 use stack_base::{DevId, PoolId};
@@ -17,7 +16,7 @@ fn add(objects: &Plain, pool: PoolId, pools: &mut Vec<(PoolId, Facts)>)
     requires holds { Holds objects.now }
     requires pool { IsTrue (is_pool (stage_of objects.now) pool) }
     requires room { length pools.old.items < vec_capacity pools.old }
-    ensures added { pools.new.items ≡ pools.old.items ++ facts_in (objects_of objects.now) (pool ∷ []) }
+    ensures added { AddsFacts (objects_of objects.now) (pool ∷ []) pools.old pools.new }
     ensures room { vec_capacity pools.old ≤ vec_capacity pools.new }
 {
     pools.push((pool, objects.facts(pool))).unwrap();
@@ -28,8 +27,8 @@ fn add_of(objects: &Plain, routes: &Routes, dev: DevId, pools: &mut Vec<(PoolId,
     requires holds { Holds objects.now }
     requires routing { routes.now ≡ (stage_of objects.now).routing }
     requires device { dev.0 < length routes.now.stack.devices.items }
-    requires room { length pools.old.items + length (pools_by dev (tree_at (routing_setup routes.now) dev)) ≤ vec_capacity pools.old }
-    ensures added { pools.new.items ≡ pools.old.items ++ facts_in (objects_of objects.now) (pools_by dev (tree_at (routing_setup routes.now) dev)) }
+    requires room { HasRoomFor (pools_by dev (device_tree routes.now dev)) pools.old }
+    ensures added { AddsFacts (objects_of objects.now) (pools_by dev (device_tree routes.now dev)) pools.old pools.new }
     ensures room { vec_capacity pools.old ≤ vec_capacity pools.new }
 {
     match routes.manner(dev) {
@@ -46,8 +45,8 @@ fn add_of(objects: &Plain, routes: &Routes, dev: DevId, pools: &mut Vec<(PoolId,
 fn add_falling(objects: &Plain, routes: &Routes, pools: &mut Vec<(PoolId, Facts)>)
     requires holds { Holds objects.now }
     requires routing { routes.now ≡ (stage_of objects.now).routing }
-    requires room { length pools.old.items + length (falling_pools_from 0 routes.now.stack) ≤ vec_capacity pools.old }
-    ensures { pools.new.items ≡ pools.old.items ++ facts_in (objects_of objects.now) (falling_pools_from 0 routes.now.stack) }
+    requires room { HasRoomFor (falling_pools routes.now.stack) pools.old }
+    ensures { AddsFacts (objects_of objects.now) (falling_pools routes.now.stack) pools.old pools.new }
 {
     'adding: for number in (0..routes.count()).rev() {
         add_of(objects, routes, DevId(number), pools);
@@ -58,8 +57,8 @@ fn add_falling(objects: &Plain, routes: &Routes, pools: &mut Vec<(PoolId, Facts)
 fn add_all(objects: &Plain, tasks: &[Task], pools: &mut Vec<(PoolId, Facts)>)
     requires one { AreOfOne objects.now tasks.now }
     requires some { 1 ≤ length (stage_of objects.now).routing.stack.devices.items → 1 ≤ length tasks.now }
-    requires room { length pools.old.items + length (falling_pools_from 0 (stage_of objects.now).routing.stack) ≤ vec_capacity pools.old }
-    ensures { pools.new.items ≡ pools.old.items ++ facts_in (objects_of objects.now) (falling_pools_from 0 (stage_of objects.now).routing.stack) }
+    requires room { HasRoomFor (falling_pools (stage_of objects.now).routing.stack) pools.old }
+    ensures { AddsFacts (objects_of objects.now) (falling_pools (stage_of objects.now).routing.stack) pools.old pools.new }
 {
     match tasks.first() {
         Some(task) => add_falling(objects, task.routes(), pools),
