@@ -163,13 +163,13 @@ task_charge price (Keeper (Stops breach)) = 0
 abbrev pub entries_left : PoolState → ℕ
 entries_left pool = entries_of pool.script - pool.facts.pos
 
--- the pools of 32 devices and the two that writes begin with
-abbrev pub most_pools : ℕ
-most_pools = 66
+-- the numbers of pools lie below this: two for each of 32 devices, and the two that writes begin with
+abbrev pub pool_number_bound : ℕ
+pool_number_bound = 66
 
 abbrev pub charged : (Paid → ℕ) → (ℕ → Bool) → Scene → State → ℕ
 charged price was_master scene s =
-    total scene (charge price was_master scene.setup) s + cost price ScriptEntry * sum_at (λ number pool. entries_left pool) most_pools s.objects.pool
+    total scene (charge price was_master scene.setup) s + cost price ScriptEntry * sum_at (λ number pool. entries_left pool) pool_number_bound s.objects.pool
     + sum_at (λ place task. task_charge price task) scene.tasks s.task
 
 abbrev pub spent_charges : (Paid → ℕ) → Scene → State → ℕ

@@ -25,13 +25,14 @@ pools_by dev (Mirrored number sizes members) = Records dev ∷ Bios dev ∷ []
 abbrev pub falling_pools_from : ℕ → Stack → List PoolId
 falling_pools_from number stack = falling_from number (drop number stack.devices.items)
 
-abbrev pub falling_pools : Stack → List PoolId
-falling_pools stack = falling_pools_from 0 stack
+-- of all devices
+abbrev pub device_pools : Stack → List PoolId
+device_pools stack = falling_pools_from 0 stack
 
 -- these pools, with their facts, were added to others
 abbrev pub AddsFacts : Objects → List PoolId → Vec (PoolId × Facts) → Vec (PoolId × Facts) → Type 0
 AddsFacts objects pools old new = new.items ≡ old.items ++ facts_in objects pools
 
 -- there is room for them
-abbrev pub HasRoomFor : List PoolId → Vec (PoolId × Facts) → Type 0
-HasRoomFor pools kept = length kept.items + length pools ≤ vec_capacity kept
+abbrev pub HasRoomForFacts : List PoolId → Vec (PoolId × Facts) → Type 0
+HasRoomForFacts pools kept = length kept.items + length pools ≤ vec_capacity kept
