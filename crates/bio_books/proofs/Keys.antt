@@ -2,7 +2,7 @@
 use Rattle.std.proofs.Common.{◌≡◌, ℕ, zero, suc, ◌+◌, ◌<◌, ◌≤◌, List, [], ◌∷◌, ◌++◌, length, Option, None, Some, refl, sym, ◌∙◌, ap, arith}
 use Rattle.std.specs.Prelude.{slice_get, slice_set, eqb}
 use Rattle.std.proofs.lemmas.Bool.{eq-eqb, ne_eqb}
-use Rattle.bio_books.specs.Kept.{key_at, keyed, one_if, times, vacancy}
+use Rattle.bio_books.specs.Kept.{key_at, keyed, one_if, free_count, vacancy}
 
 -- a list as it is read at a place that was written, and at others
 pub get_written : {X : Type 0} (xs : List X) (place : ℕ) (x : X) → place < length xs → slice_get (slice_set xs place x) place ≡ Some x
@@ -71,16 +71,16 @@ none_keyed (None ∷ keys) none = none_keyed keys (λ place key e. none (suc pla
 none_keyed (Some key ∷ keys) none = absurd (none zero key refl)
 
 -- how often a place is free, with one more
-pub times_more : (free : List ℕ) (last place : ℕ) → times place (free ++ last ∷ []) ≡ times place free + one_if (eqb last place)
+pub times_more : (free : List ℕ) (last place : ℕ) → free_count place (free ++ last ∷ []) ≡ free_count place free + one_if (eqb last place)
 times_more [] last place = omega arith
 times_more (head ∷ free) last place = omega (arith, times_more free last place)
 
-pub times_itself : (free : List ℕ) (place : ℕ) → times place (free ++ place ∷ []) ≡ times place free + 1
-times_itself free place = times_more free place place ∙ ap (λ b. times place free + one_if b) (eq-eqb place place refl)
+pub times_itself : (free : List ℕ) (place : ℕ) → free_count place (free ++ place ∷ []) ≡ free_count place free + 1
+times_itself free place = times_more free place place ∙ ap (λ b. free_count place free + one_if b) (eq-eqb place place refl)
 
-pub times_other : (free : List ℕ) (last place : ℕ) → (place ≡ last → ⊥) → times place (free ++ last ∷ []) ≡ times place free
+pub times_other : (free : List ℕ) (last place : ℕ) → (place ≡ last → ⊥) → free_count place (free ++ last ∷ []) ≡ free_count place free
 times_other free last place differs =
-    times_more free last place ∙ ap (λ b. times place free + one_if b) (ne_eqb last place (λ e. differs (sym e))) ∙ omega arith
+    times_more free last place ∙ ap (λ b. free_count place free + one_if b) (ne_eqb last place (λ e. differs (sym e))) ∙ omega arith
 
 -- a place that is free once at least has no key, and is free once
 pub free_once : (slot : Option (Option ℕ)) (before : ℕ) → before + 1 ≡ vacancy slot → (slot ≡ Some None) × (before ≡ 0)

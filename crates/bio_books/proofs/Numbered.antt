@@ -3,7 +3,7 @@ use Rattle.std.proofs.Common.{◌≡◌, ℕ, zero, suc, ◌+◌, ◌^◌, ◌<�
 use Rattle.std.specs.Prelude.{slice_get, replicate}
 use Rattle.std.proofs.lemmas.Bool.{cases_eq}
 use Rattle.slab.specs.Slab.{Slab, slab_len}
-use Rattle.bio_books.specs.Kept.{IsPlaced, key_at, keyed, times, vacancy, look}
+use Rattle.bio_books.specs.Kept.{IsPlaced, key_at, keyed, free_count, vacancy, look}
 use Rattle.bio_books.proofs.Keys.{times_itself, times_other}
 
 -- a list with one more at its end
@@ -15,7 +15,7 @@ longer (head ∷ free) place = omega (arith, longer free place)
 pub record IsNumbered (keys : List (Option ℕ)) (free : List ℕ) (count : ℕ) : Type 0 where
   pub blank : keys ≡ replicate count None
   pub counted : length free ≡ count
-  pub vacant : (place : ℕ) → times place free ≡ vacancy (slice_get keys place)
+  pub vacant : (place : ℕ) → free_count place free ≡ vacancy (slice_get keys place)
 
 one_more : {X : Type 0} (x : X) (count : ℕ) → replicate count x ++ x ∷ [] ≡ replicate (suc count) x
 one_more x zero = refl
@@ -40,7 +40,7 @@ next_numbered keys free count before = let next : suc count ≡ count + 1 = omeg
   blank = ap (λ l. l ++ None ∷ []) before.blank ∙ one_more None count ∙ ap (λ n. replicate n None) next;
   counted = longer free count ∙ ap (λ n. n + 1) before.counted;
   vacant = λ place. elim (cases_eq place count) [
-    | inl same ↦ ap (λ p. times p (free ++ count ∷ [])) same ∙ times_itself free count
+    | inl same ↦ ap (λ p. free_count p (free ++ count ∷ [])) same ∙ times_itself free count
         ∙ ap (λ n. n + 1) (before.vacant count ∙ ap (λ l. vacancy (slice_get l count)) before.blank ∙ ap vacancy (get_none None count))
         ∙ sym (ap (λ p. vacancy (slice_get (keys ++ None ∷ []) p)) same ∙ ap (λ l. vacancy (slice_get (l ++ None ∷ []) count)) before.blank
         ∙ ap vacancy (get_last None count))

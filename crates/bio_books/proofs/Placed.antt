@@ -5,7 +5,7 @@ use Rattle.std.proofs.lemmas.Bool.{cases_eq}
 use Rattle.std.proofs.lemmas.List.{length-set, get_or-set_same, get_or-set_other}
 use Rattle.std.proofs.lemmas.List.Elements.{All-cons, All-nil}
 use Rattle.slab.specs.Slab.{Slab, get, slab_len, Updates}
-use Rattle.bio_books.specs.Kept.{IsPlaced, key_at, keyed, times, vacancy, look}
+use Rattle.bio_books.specs.Kept.{IsPlaced, key_at, keyed, free_count, vacancy, look}
 use Rattle.bio_books.proofs.Numbered.{longer}
 use Rattle.bio_books.proofs.Keys.{get_written, get_other, key_read, key_within, read_within, keyed_more, keyed_less, all_keyed, some_keyed, none_keyed, times_itself, times_other, free_once}
 use Rattle.bio_books.proofs.Slots.{shown, altered, read_look}
@@ -26,8 +26,8 @@ pub record Stepped {T : Type 0} (old new : Slab T) (keys : List (Option ℕ)) (f
 
 -- the last free place is in range and has no key
 pub last_free : {T : Type 0} (slots : Slab T) (keys : List (Option ℕ)) (free : List ℕ) (room place : ℕ)
-    → IsPlaced slots keys (free ++ place ∷ []) room → (slice_get keys place ≡ Some None) × (times place free ≡ 0)
-last_free slots keys free room place sound = free_once (slice_get keys place) (times place free) (sym (times_itself free place) ∙ sound.vacant place)
+    → IsPlaced slots keys (free ++ place ∷ []) room → (slice_get keys place ≡ Some None) × (free_count place free ≡ 0)
+last_free slots keys free room place sound = free_once (slice_get keys place) (free_count place free) (sym (times_itself free place) ∙ sound.vacant place)
 
 -- a value comes
 pub comes : {T : Type 0} (old new : Slab T) (keys : List (Option ℕ)) (free : List ℕ) (room place key : ℕ) (value : T)
@@ -51,7 +51,7 @@ comes {T} old new keys free room place key value sound absent updates counted ca
         counted = omega (arith, sound.counted, keyed_more keys place key here.0, length-set keys place (Some key), longer free place);
         named = omega (arith, sound.named, counted, keyed_more keys place key here.0);
         vacant = λ other. elim (cases_eq other place) [
-          | inl same ↦ ap (λ p. times p free) same ∙ here.1 ∙ sym (ap (λ p. vacancy (slice_get (slice_set keys place (Some key)) p)) same
+          | inl same ↦ ap (λ p. free_count p free) same ∙ here.1 ∙ sym (ap (λ p. vacancy (slice_get (slice_set keys place (Some key)) p)) same
               ∙ ap vacancy (get_written keys place (Some key) within))
           | inr differs ↦ sym (times_other free place other differs) ∙ sound.vacant other ∙ ap vacancy (sym (get_other keys place other (Some key) differs))
         ];
@@ -102,7 +102,7 @@ goes {T} old new keys free room place key sound found updates counted capacity =
         counted = omega (arith, sound.counted, keyed_less keys place key found, length-set keys place None, longer free place);
         named = omega (arith, sound.named, counted, keyed_less keys place key found);
         vacant = λ other. elim (cases_eq other place) [
-          | inl same ↦ ap (λ p. times p (free ++ place ∷ [])) same ∙ times_itself free place
+          | inl same ↦ ap (λ p. free_count p (free ++ place ∷ [])) same ∙ times_itself free place
               ∙ ap (λ n. n + 1) (sound.vacant place ∙ ap vacancy (key_read keys place key found))
               ∙ sym (ap (λ p. vacancy (slice_get (slice_set keys place None) p)) same ∙ ap vacancy (get_written keys place None within))
           | inr differs ↦ times_other free place other differs ∙ sound.vacant other ∙ ap vacancy (sym (get_other keys place other None differs))

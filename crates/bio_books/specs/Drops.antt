@@ -17,15 +17,15 @@ closed_of node = record { held = node.held; parent = parent_of node.role; write 
 
 -- what a call that tells a node of an end answers: the node waits for others, it closed and is to be told to its parent, it closed and
 -- was a top node, or it was not open, and the part comes back
-pub data Ended : Type 0 where
-  Left : Ended
-  Up : (node : Closed) → Ended
-  Top : (node : Closed) → Ended
-  Stray : (part : Option (Item Pad)) → Ended
+pub data DropOutcome : Type 0 where
+  Left : DropOutcome
+  Up : (node : Closed) → DropOutcome
+  Top : (node : Closed) → DropOutcome
+  Stray : (part : Option (Item Pad)) → DropOutcome
 
 -- an open node is told of an end: it waits for one less, and closes with its last (`bio_endio`, block/bio.c, which goes on only where
 -- `bio_remaining_done`)
-abbrev pub DropsNode : BookState → ℕ → Node → Status → Option (Item Pad) → Ended → BookState → Type 0
+abbrev pub DropsNode : BookState → ℕ → Node → Status → Option (Item Pad) → DropOutcome → BookState → Type 0
 DropsNode old place node status part Left new = (1 < node.count) × (new ≡ with_node old place (Some (lowered (told node status part))))
 DropsNode old place node status part (Up closed) new =
     (node.count ≡ 1) × IsSome (parent_of node.role) × (closed ≡ closed_of (told node status part)) × (new ≡ with_node old place None)
@@ -34,14 +34,14 @@ DropsNode old place node status part (Top closed) new =
 DropsNode old place node status part (Stray back) new = ⊥
 
 -- the same by what stands at the place: no node, and the part comes back
-abbrev pub DropsAt : BookState → ℕ → Option Node → Status → Option (Item Pad) → Ended → BookState → Type 0
+abbrev pub DropsAt : BookState → ℕ → Option Node → Status → Option (Item Pad) → DropOutcome → BookState → Type 0
 DropsAt old place (Some node) status part answer new = DropsNode old place node status part answer new
 DropsAt old place None status part (Stray back) new = (back ≡ part) × (new ≡ old)
 DropsAt old place None status part Left new = ⊥
 DropsAt old place None status part (Up closed) new = ⊥
 DropsAt old place None status part (Top closed) new = ⊥
 
-abbrev pub Drops : BookState → ℕ → Status → Option (Item Pad) → Ended → BookState → Type 0
+abbrev pub Drops : BookState → ℕ → Status → Option (Item Pad) → DropOutcome → BookState → Type 0
 Drops old place status part answer new = DropsAt old place (node_at old place) status part answer new
 
 -- no node of the book is open

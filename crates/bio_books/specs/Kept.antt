@@ -44,9 +44,9 @@ abbrev pub one_if : Bool → ℕ
 one_if true = 1
 one_if false = 0
 
-abbrev pub times : ℕ → List ℕ → ℕ
-times place [] = 0
-times place (other ∷ free) = one_if (other == place) + times place free
+abbrev pub free_count : ℕ → List ℕ → ℕ
+free_count place [] = 0
+free_count place (other ∷ free) = one_if (other == place) + free_count place free
 
 -- how the slab, the keys and the free places of a container hang together
 pub record IsPlaced {T : Type 0} (slots : Slab T) (keys : List (Option ℕ)) (free : List ℕ) (room : ℕ) : Type 0 where
@@ -59,7 +59,7 @@ pub record IsPlaced {T : Type 0} (slots : Slab T) (keys : List (Option ℕ)) (fr
   pub counted : keyed keys + length free ≡ length keys
   pub named : keyed keys ≡ slab_len slots
   -- the free places are those without a key, each once
-  pub vacant : (place : ℕ) → times place free ≡ vacancy (slice_get keys place)
+  pub vacant : (place : ℕ) → free_count place free ≡ vacancy (slice_get keys place)
   -- a key has a value, and no two places have one key
   pub taken : (place key : ℕ) → key_at keys place ≡ Some key → IsSome (get slots key)
   pub distinct : (place other key : ℕ) → key_at keys place ≡ Some key → key_at keys other ≡ Some key → place ≡ other

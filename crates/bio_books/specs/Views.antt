@@ -14,7 +14,7 @@ use Rattle.bio_books.specs.declared.book.Dropped.{Dropped}
 use Rattle.bio_books.specs.declared.book.Dropped.TheVariants as dropped
 use Rattle.bio_books.specs.Books.{VectorItem, SlipItem, Holding}
 use Rattle.bio_books.specs.Links.{Linked, Made, NoRoom, Stray}
-use Rattle.bio_books.specs.Drops.{Closed, Ended}
+use Rattle.bio_books.specs.Drops.{Closed, DropOutcome}
 use Rattle.bio_books.specs.Drops as ended
 
 abbrev pub bio_of : Option (Element (BioBody Pad)) → Option (Item Pad)
@@ -48,11 +48,11 @@ linked_of (link.Stray back) = Stray (holding_of back)
 abbrev pub closed_node_of : ClosedNode → Closed
 closed_node_of node = record { held = holding_of node.held; parent = node.parent; write = node.write; status = node.status }
 
-abbrev pub ended_of : Dropped → Ended
-ended_of dropped.Left = ended.Left
-ended_of (dropped.Up node) = ended.Up (closed_node_of node)
-ended_of (dropped.Top node) = ended.Top (closed_node_of node)
-ended_of (dropped.Stray part) = ended.Stray (bio_of part)
+abbrev pub drop_outcome_of : Dropped → DropOutcome
+drop_outcome_of dropped.Left = ended.Left
+drop_outcome_of (dropped.Up node) = ended.Up (closed_node_of node)
+drop_outcome_of (dropped.Top node) = ended.Top (closed_node_of node)
+drop_outcome_of (dropped.Stray part) = ended.Stray (bio_of part)
 
 -- each bio that is handed out is in no list
 abbrev pub IsLinkAlone : Link → Type 0

@@ -4,7 +4,7 @@ ghost use Rattle.bio_books.specs.Books.{node_at};
 ghost use Rattle.bio_records.specs.Items.{item_of, IsAlone};
 ghost use Rattle.bio_books.specs.Links.{Chains, Legs, Masters, Opens};
 ghost use Rattle.bio_books.specs.Drops.{Drops, IsEmpty};
-ghost use Rattle.bio_books.specs.Views.{bio_of, ended_of, linked_of, slip_item, vector_of, IsAlonePart, IsDroppedAlone, IsLinkAlone};
+ghost use Rattle.bio_books.specs.Views.{bio_of, drop_outcome_of, linked_of, slip_item, vector_of, IsAlonePart, IsDroppedAlone, IsLinkAlone};
 
 use crate::node::{Back, ClosedNode, Keep, Lower, Node, Raise};
 use crate::places::Places;
@@ -183,7 +183,7 @@ impl Book {
     #[inline(always)]
     pub fn drop_one(&mut self, node: u32, status: Status, part: Option<BioElement>) -> Dropped
         requires { IsAlonePart part }
-        ensures drops { Drops self.old node status (bio_of part) (ended_of result) self.new }
+        ensures drops { Drops self.old node status (bio_of part) (drop_outcome_of result) self.new }
         ensures alone { IsDroppedAlone result }
     {
         let waits = match self.nodes.get(node) {

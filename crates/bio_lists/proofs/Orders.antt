@@ -10,18 +10,18 @@ use Rattle.bio_records.specs.declared.tasks.TaskLists.{TaskLists}
 use Rattle.bio_records.specs.declared.body.BioBody.{BioBody}
 use Rattle.elem_ledger.specs.declared.element.Element.{Element}
 use Rattle.bio_records.specs.Items.{Item, item_of, IsAlone}
-use Rattle.bio_records.specs.Sorting.{is_same, is_lower}
+use Rattle.bio_records.specs.Sorting.{is_for_device, is_lower}
 use Rattle.bio_lists.specs.Submission.{order, GoesOn, NoneIsLost}
 
 pub none_is_lost : NoneIsLost
 none_is_lost dev lists which =
     let lower : List (Item Pad) = filter (is_lower dev) lists.list0 in
-    let same : List (Item Pad) = filter (is_same dev) lists.list0 in
+    let same : List (Item Pad) = filter (is_for_device dev) lists.list0 in
     omega (
       arith,
       sum_by-append (λ x. cond (which x) 1 0) lower (same ++ lists.list1),
       sum_by-append (λ x. cond (which x) 1 0) same lists.list1,
-      sum_by-filter_both (is_same dev) (is_lower dev) (λ x. refl) (λ x. cond (which x) 1 0) lists.list0,
+      sum_by-filter_both (is_for_device dev) (is_lower dev) (λ x. refl) (λ x. cond (which x) 1 0) lists.list0,
     )
 
 -- nothing joined of nothing
@@ -41,9 +41,9 @@ none_sorted p (x ∷ xs) others those = absurd (by_case p x xs (p x) refl others
 -- where nothing is in order, nothing waited
 pub none_waited : (served : DevId) (lists : TaskLists) → order served lists ≡ [] → (lists.list0 ≡ []) × (lists.list1 ≡ [])
 none_waited served lists none =
-    let outer = none_joined (filter (is_lower served) lists.list0) (filter (is_same served) lists.list0 ++ lists.list1) none in
-    let inner = none_joined (filter (is_same served) lists.list0) lists.list1 outer.1 in
-    (none_sorted (is_same served) lists.list0 outer.0 inner.0, inner.1)
+    let outer = none_joined (filter (is_lower served) lists.list0) (filter (is_for_device served) lists.list0 ++ lists.list1) none in
+    let inner = none_joined (filter (is_for_device served) lists.list0) lists.list1 outer.1 in
+    (none_sorted (is_for_device served) lists.list0 outer.0 inner.0, inner.1)
 
 -- what was taken off the order is served next
 pub goes_on : (served : DevId) (old : TaskLists) (ordered list0 left : List (Item Pad)) (answer : Option (Element (BioBody Pad)))

@@ -66,13 +66,13 @@ abbrev pub Detaches : {F : Type 0} → List (Item F) → ℕ → Option (Element
 Detaches old index taken new = MatchOption taken (StaysShort old index new) (λ element. IsDetached old index element new)
 
 -- an element of a list as a walk shows it: the padding, the bio and its own segments
-pub record Plain : Type 0 where
+pub record PlainBio : Type 0 where
   pub pad : Pad
   pub bio : Bio
   pub short : List Segment
 
-abbrev pub plain_of : Item Pad → Plain
+abbrev pub plain_of : Item Pad → PlainBio
 plain_of item = record { pad = item.pad; bio = item.bio; short = item.short }
 
-abbrev pub plain_body : BioBody Pad → Plain
+abbrev pub plain_body : BioBody Pad → PlainBio
 plain_body body = record { pad = (out-BioBody Pad body).pad; bio = (out-BioBody Pad body).bio; short = (out-BioBody Pad body).short.items }

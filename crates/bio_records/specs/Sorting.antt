@@ -7,16 +7,16 @@ use Rattle.bio_records.specs.declared.bio.Pad.{Pad}
 use Rattle.bio_records.specs.Items.{Item}
 
 -- it is for this device itself
-abbrev pub is_same : DevId → Item Pad → Bool
-is_same dev item = item.bio.dev.0 == dev.0
+abbrev pub is_for_device : DevId → Item Pad → Bool
+is_for_device dev item = item.bio.dev.0 == dev.0
 
 -- it is for another one, which stands below it
 abbrev pub is_lower : DevId → Item Pad → Bool
-is_lower dev item = not (is_same dev item)
+is_lower dev item = not (is_for_device dev item)
 
 -- bios put before others, as a driver of this device has submitted them: those for other devices, and then those for it, each in their order
 abbrev pub sorted : DevId → List (Item Pad) → List (Item Pad) → List (Item Pad)
-sorted dev bios others = filter (is_lower dev) bios ++ (filter (is_same dev) bios ++ others)
+sorted dev bios others = filter (is_lower dev) bios ++ (filter (is_for_device dev) bios ++ others)
 
 abbrev pub same_set : SetId → SetId → Bool
 same_set Fs Fs = true

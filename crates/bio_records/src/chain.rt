@@ -1,7 +1,7 @@
 //! Chains of elements, each in the box of the one before it.
 ghost use Rattle.std.specs.Prelude.{◌≡◌, ◌++◌, filter, ◌+◌, ◌<◌, [], ◌∷◌, length, reverse, remove, slice_get, min, ◌^◌, ◌-◌, None, Some};
 ghost use Rattle.bio_records.specs.Items.{items, in_order, item_of, joint_length, Detaches, IsAlone, PopsFirst};
-ghost use Rattle.bio_records.specs.Sorting.{is_lower, is_of, is_of_other, is_same, same_set, sorted};
+ghost use Rattle.bio_records.specs.Sorting.{is_lower, is_of, is_of_other, is_for_device, same_set, sorted};
 
 use crate::bio::Pad;
 use crate::body::BioBody;
@@ -73,7 +73,7 @@ pub fn part(
     mut same: Link<Pad>,
 ) -> (Link<Pad>, Link<Pad>)
     ensures lower { items result.0 ≡ reverse (filter (is_lower dev) (items from)) ++ items lower }
-    ensures same { items result.1 ≡ reverse (filter (is_same dev) (items from)) ++ items same }
+    ensures same { items result.1 ≡ reverse (filter (is_for_device dev) (items from)) ++ items same }
 {
     'parting: while let Some((mut body, share)) = from {
         if body.bio.dev == dev {

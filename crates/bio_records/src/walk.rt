@@ -16,9 +16,9 @@ pub struct Bios<'a> {
 
 impl<'a> Model for Bios<'a> {
     ghost use Rattle.std.specs.Prelude.{List, map};
-    ghost use Rattle.bio_records.specs.Items.{items, plain_of, Plain};
+    ghost use Rattle.bio_records.specs.Items.{items, plain_of, PlainBio};
 
-    ghost Value = { List Plain };
+    ghost Value = { List PlainBio };
 
     ghost view = { λ b. map plain_of (items b.rest.now) };
 }

@@ -63,7 +63,7 @@ fn source(rt: &(impl Abort + AllocGlobal), text: &str, number: u64) -> FailSourc
 }
 
 // The line on errors of a status.
-fn line_of(status: u8) -> &'static [u8] {
+fn fault_line(status: u8) -> &'static [u8] {
     match status {
         4 => READ_FAULT,
         5 => WRITE_FAULT,
@@ -100,7 +100,7 @@ fn outcome(
         &mut NoGate::new(),
     );
     let output = front_of(call.output.as_bytes(), out.held());
-    let line = front_of(line_of(exit.0), errors.held());
+    let line = front_of(fault_line(exit.0), errors.held());
     (exit.0, output, line)
 }
 

@@ -64,7 +64,7 @@ module _ (known : Known) (s : Scenario) (other : Stack) (one_scripts other_scrip
   same_objects = λ k. record {
     pool = λ number. opened (same_reserve known s.stack other one_scripts other_scripts a b (pool_of number) k) (script_at s.scripts number);
     rescue = (objects s).rescue;
-    disk = λ dev. disk.opened (at dev) (size (trees k dev)) (same_bads known s.stack other one_scripts other_scripts a b dev k);
+    disk = λ dev. disk.blank_disk (at dev) (size (trees k dev)) (same_bads known s.stack other one_scripts other_scripts a b dev k);
     book = λ writer. record { writer = writer; nodes = replicate (same_places writer k) None };
     tally = (objects s).tally;
   }

@@ -15,8 +15,8 @@ use Rattle.stack_base.specs.declared.stack.Device.{Device}
 use Rattle.stack_base.specs.declared.stack.Stack.{Stack}
 use Rattle.stack_base.specs.Tree.{Tree, Leaf, built, over, tree, tree_below}
 use Rattle.layout_model.specs.May.{bads_of, kind_bads}
-use Rattle.decl_text.specs.Accepting.{Means, bad_of, bad_ranges, shown, what_of}
-use Rattle.decl_text.specs.Known.{Declared, Known, grown}
+use Rattle.decl_text.specs.Accepting.{Means, bad_of, bad_ranges, shown, what_of_kind}
+use Rattle.decl_text.specs.Known.{Declared, Known, device_tree}
 use Rattle.decl_text.specs.declared.item.What.{What}
 use Rattle.decl_text.specs.declared.item.What.TheVariants as what
 use Rattle.decl_text.proofs.ShownTrees.{grown_over}
@@ -47,7 +47,7 @@ records_in (what.Stripe chunk) = 0
 records_in (what.Zoned chunk) = 0
 records_in (what.Limit longest chunk) = 0
 
-records_are : (kind : Kind) → records_of kind ≡ records_in (what_of kind)
+records_are : (kind : Kind) → records_of kind ≡ records_in (what_of_kind kind)
 records_are (Disk sectors bad) = refl
 records_are Linear = refl
 records_are (Stripe chunk) = refl
@@ -97,9 +97,9 @@ module _ (known : Known) (one other : Stack) (one_scripts other_scripts : List (
   same_built : (number : ℕ) (below : ℕ → Tree) → built number (slice_get one.devices.items number) below ≡ built number (slice_get other.devices.items number) below
   same_built number below =
       built_is number below (slice_get one.devices.items number)
-      ∙ same_of (λ (d : Device). over number d.kind (map (λ (m : DevId). below m.0) d.members.items)) (λ (d : Declared). grown number d.what (map below d.members)) (Leaf number 0)
+      ∙ same_of (λ (d : Device). over number d.kind (map (λ (m : DevId). below m.0) d.members.items)) (λ (d : Declared). device_tree number d.what (map below d.members)) (Leaf number 0)
       (λ d. sym (grown_over number d.kind (map (λ (m : DevId). below m.0) d.members.items))
-      ∙ ap (grown number (what_of d.kind)) (sym (map-map below (λ (m : DevId). m.0) d.members.items))) number
+      ∙ ap (device_tree number (what_of_kind d.kind)) (sym (map-map below (λ (m : DevId). m.0) d.members.items))) number
       ∙ sym (built_is number below (slice_get other.devices.items number))
 
   same_below : (bound number : ℕ) → tree_below bound one number ≡ tree_below bound other number

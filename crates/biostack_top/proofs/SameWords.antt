@@ -11,7 +11,7 @@ use Rattle.stack_base.specs.declared.stack.Kind.{Kind}
 use Rattle.stack_base.specs.declared.stack.Kind.TheVariants.{Disk, Linear, Stripe, Zoned, Limit, Mirror}
 use Rattle.stack_base.specs.declared.stack.Device.{Device}
 use Rattle.stack_base.specs.declared.stack.Stack.{Stack}
-use Rattle.decl_text.specs.Accepting.{Means, what_of}
+use Rattle.decl_text.specs.Accepting.{Means, what_of_kind}
 use Rattle.decl_text.specs.Known as declared
 use Rattle.decl_text.specs.Known.{Declared, Known}
 use Rattle.decl_text.specs.declared.item.What.{What as Does}
@@ -25,7 +25,7 @@ use Rattle.run_machine.specs.StatusWords.{status_word}
 use Rattle.trace_text.specs.Lines.{device_name, got_word, line_of_event, pool_word, task_word, what_words}
 use Rattle.biostack_top.proofs.SameStacks.{same_of}
 
-disk_told : (kind : Kind) → is_disk_kind kind ≡ declared.declares_disk (what_of kind)
+disk_told : (kind : Kind) → is_disk_kind kind ≡ declared.declares_disk (what_of_kind kind)
 disk_told (Disk sectors bad) = refl
 disk_told Linear = refl
 disk_told (Stripe chunk) = refl
@@ -33,7 +33,7 @@ disk_told (Zoned chunk) = refl
 disk_told (Limit longest chunk) = refl
 disk_told (Mirror records) = refl
 
-mirror_told : (kind : Kind) → is_mirror_kind kind ≡ declared.declares_mirror (what_of kind)
+mirror_told : (kind : Kind) → is_mirror_kind kind ≡ declared.declares_mirror (what_of_kind kind)
 mirror_told (Disk sectors bad) = refl
 mirror_told Linear = refl
 mirror_told (Stripe chunk) = refl
@@ -75,7 +75,7 @@ module _ (known : Known) (one other : Stack) (one_scripts other_scripts : List (
   same_line event = λ k. join_with_byte 32 (codes "event" ∷ same_task_word event.task k ∷ same_words event.what k)
 
   -- the other stack has what the one has
-  has_too : (suits : Kind → Bool) (told : Does → Bool) → ((kind : Kind) → suits kind ≡ told (what_of kind)) → (dev : DevId) → HasDevice suits one dev → HasDevice suits other dev
+  has_too : (suits : Kind → Bool) (told : Does → Bool) → ((kind : Kind) → suits kind ≡ told (what_of_kind kind)) → (dev : DevId) → HasDevice suits one dev → HasDevice suits other dev
   has_too suits told same dev has =
       sym (same_of known one other one_scripts other_scripts a b (λ (d : Device). suits d.kind) (λ (d : Declared). told d.what) false (λ d. same d.kind) dev.0) ∙ has
 

@@ -5,7 +5,7 @@ use Rattle.decl_text.specs.declared.accepted.Accepted.{Accepted}
 use Rattle.work_text.specs.declared.Work.{Work}
 use Rattle.task_core.specs.declared.ended.Ended.{Ended}
 use Rattle.run_machine.specs.declared.event.Event.{Event}
-use Rattle.run_machine.specs.Named.{Fits}
+use Rattle.run_machine.specs.Named.{FitsEvent}
 use Rattle.run_machine.specs.Scenario.{scenario_of}
 use Rattle.report_text.specs.CheckText.{steps_bound}
 use Rattle.report_text.specs.Report.{gen_text, report}
@@ -18,7 +18,7 @@ use Rattle.biostack_top.proofs.RunningLemmas.{every_run, is_told}
 
 module _ (text : List ℕ) (accepted : Accepted) (work : Work) (says : TextSays text accepted work) where
   pub tells_run : (maker : Maker) (events : List Event) (ended : Ended) → HasRun (scenario_of accepted work) maker events ended
-      → (trace : Bool) → (trace ≡ true → All Fits events)
+      → (trace : Bool) → (trace ≡ true → All FitsEvent events)
       → TellsRun maker trace text (traced trace accepted.stack events ++ report accepted.stack (told_of ended (steps_bound work.bound))) (all_well ended.statuses.items)
   tells_run maker events ended has trace fits = (
     accepted,

@@ -5,7 +5,7 @@ use Rattle.std.specs.String.{string_bytes}
 use Rattle.outside_io.specs.declared.sink.Sink.{Ghosts as SinkGhosts}
 use Rattle.biostack_words.specs.declared.order.Order.{Order}
 use Rattle.biostack_words.specs.declared.order.Order.TheVariants.{Workers}
-use Rattle.biostack_words.specs.Grammar.{meaning}
+use Rattle.biostack_words.specs.Grammar.{order_meant}
 use Rattle.bio_workers.specs.Gates.{Showing}
 use Rattle.biostack_top.specs.Ending.{EndsBy, HadRefusedText, IsToldTo, MayFollowRun, MeetsNoFault, OrderEndsBy, WorkersEndBy, exit_of}
 use Rattle.biostack_top.specs.Orders.{may_be_unwell}
@@ -14,7 +14,7 @@ use Rattle.biostack_top.specs.declared.ending.Ending.{Ending}
 
 -- the order that these words give
 abbrev pub given_order : List (String Global) → Option Order
-given_order words = meaning (map string_bytes words)
+given_order words = order_meant (map string_bytes words)
 
 -- A call with this order has this status: it ended by one of the causes, what the output holds is what goes with it, and
 -- so is what errors hold, a sink before the call and behind it.

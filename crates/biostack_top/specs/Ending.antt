@@ -16,7 +16,7 @@ use Rattle.run_machine.specs.declared.event.Event.{Event}
 use Rattle.work_text.specs.declared.Work.{Work}
 use Rattle.work_text.specs.Whole.{text_refusal}
 use Rattle.report_text.specs.Report.{Reported, gen_text, report, steps_line}
-use Rattle.run_machine.specs.Named.{Fits}
+use Rattle.run_machine.specs.Named.{FitsEvent}
 use Rattle.run_machine.specs.Scenario.{scenario_of}
 use Rattle.bio_workers.specs.Gates.{Showing}
 use Rattle.mirror_scrub.specs.Seen.{images_of}
@@ -30,7 +30,7 @@ use Rattle.biostack_words.specs.declared.order.Order.{Order}
 use Rattle.biostack_words.specs.declared.order.Order.TheVariants.{Run, Workers, Check, Layout, Gen, Replay, Scrub}
 use Rattle.biostack_top.specs.Input.{HasNoInput, IsGivenText, IsInput, limit, made_by}
 use Rattle.biostack_top.specs.LayoutText.{AreLaid}
-use Rattle.biostack_words.specs.Grammar.{meaning}
+use Rattle.biostack_words.specs.Grammar.{order_meant}
 use Rattle.biostack_top.specs.Orders.{is_alone}
 use Rattle.biostack_top.specs.Replaying.{TellsReplay, replay_refusal}
 use Rattle.biostack_top.specs.Running.{ByNumber, ByThreads, EveryRunOfTextIsAsClaimed, IsShownOf, IsRunTold, Maker, sectors}
@@ -77,7 +77,7 @@ all_well statuses = list_all (λ end. status_eq end no_error) statuses
 abbrev pub TellsRun : Maker → Bool → List ℕ → List ℕ → Bool → Type 0
 TellsRun maker trace text told well =
     (accepted : Accepted) × (work : Work) × (events : List Event) × (left : Reported)
-    × TextSays text accepted work × EveryRunOfTextIsAsClaimed accepted work × IsRunTold accepted work maker events left × (trace ≡ true → All Fits events)
+    × TextSays text accepted work × EveryRunOfTextIsAsClaimed accepted work × IsRunTold accepted work maker events left × (trace ≡ true → All FitsEvent events)
     × (told ≡ traced trace accepted.stack events ++ report accepted.stack left) × (well ≡ all_well left.statuses)
 
 -- What is written of a text, and whether all is well: the lines of a run, where there is a trace, and the report of what it left; the devices of
@@ -203,13 +203,13 @@ MayFollowRun trace exit = (exit ≡ 0) ⊎ (exit ≡ 1) ⊎ (exit ≡ 5) ⊎ ((e
 
 -- words end a call so: they give no order, or there was no memory to read them
 abbrev pub WordsEndBy : Ending → List (List ℕ) → Type 0
-WordsEndBy Usage words = meaning words ≡ None
+WordsEndBy Usage words = order_meant words ≡ None
 WordsEndBy Memory words = Unit {0}
 WordsEndBy ending words = ⊥
 
 -- they give this order, or end a call so
 abbrev pub IsOrderAsked : List (List ℕ) → Result Order Ending → Type 0
-IsOrderAsked words (Ok order) = meaning words ≡ Some order
+IsOrderAsked words (Ok order) = order_meant words ≡ Some order
 IsOrderAsked words (Err ending) = WordsEndBy ending words
 
 -- An order ends a call so, whose gate was shown this: one without threads shows it nothing.
@@ -222,7 +222,7 @@ AskedEndsBy ending order shown c =
 abbrev pub EndsBy : {S K : Type 0} → Ending → List (List ℕ) → Option Showing → CallStreams S K → Type 0
 EndsBy ending words shown c =
     (WordsEndBy ending words × SourceStays c.source × SinkStays c.out × (shown ≡ None))
-    ⊎ ((order : Order) × (meaning words ≡ Some order) × AskedEndsBy ending order shown c)
+    ⊎ ((order : Order) × (order_meant words ≡ Some order) × AskedEndsBy ending order shown c)
 
 -- errors got the line of an ending, or a front of it where they failed
 abbrev pub IsToldTo : {E : Type 0} → Ending → SinkStream E → Type 0

@@ -6,7 +6,7 @@ use Rattle.decl_text.specs.declared.accepted.Accepted.{Accepted}
 use Rattle.work_text.specs.Whole.{known_of_text}
 use Rattle.work_text.specs.declared.Work.{Work}
 use Rattle.run_machine.specs.declared.event.Event.{Event}
-use Rattle.run_machine.specs.Named.{Fits}
+use Rattle.run_machine.specs.Named.{FitsEvent}
 use Rattle.run_machine.specs.Runs.{State}
 use Rattle.report_text.specs.Report.{Reported}
 use Rattle.trace_text.specs.Laws.{IsEventRead}
@@ -21,7 +21,7 @@ use Rattle.biostack_top.specs.Running.{EndsAsTold, Maker}
 -- the line of each event of a run, by numbers that fit its fields, is read back as this event, and as no other
 abbrev pub TracesAreReadBack : Type 0
 TracesAreReadBack = (accepted : Accepted) (work : Work) (ledger : ℕ → LedgerId) (events : List Event) (state : State) (left : Reported)
-    → EndsAsTold accepted work ledger events state left → All Fits events → (event : Event) → Contains events event
+    → EndsAsTold accepted work ledger events state left → All FitsEvent events → (event : Event) → Contains events event
     → IsEventRead accepted.stack (line_of_event accepted.stack event) (Some event)
     × ((answer : Option Event) → IsEventRead accepted.stack (line_of_event accepted.stack event) answer → answer ≡ Some event)
 

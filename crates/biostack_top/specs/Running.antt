@@ -19,7 +19,7 @@ use Rattle.run_machine.specs.Runs.{State, IsRun, HasEnded}
 use Rattle.run_machine.specs.Scenario.{scenario_of}
 use Rattle.block_core.specs.Claim.{IsAsClaimed}
 use Rattle.block_core.specs.Scenarios.{IsNaming}
-use Rattle.run_machine.specs.Named.{Fits, IsEventOf}
+use Rattle.run_machine.specs.Named.{FitsEvent, IsEventOf}
 use Rattle.serial_run.specs.Schedule.{FollowsSchedule}
 use Rattle.bio_workers.specs.Gates.{IsOfClosed, Showing}
 use Rattle.run_merge.specs.Entries.{Entry, entries_in}
@@ -60,7 +60,7 @@ merged_in shown = without_tickets (sorted (all_of (entry_histories shown.names s
 abbrev pub Makes : Maker → (s : Scenario) (ledger : ℕ → LedgerId) (events : List Event) (state : State)
     → IsRun (scene s ledger) (start s) events state → Type 0
 Makes (ByNumber number) s ledger events state run =
-    ((after : Lcg) × FollowsSchedule (scene s ledger) (start s) (stream_of number) events state after) × All Fits events
+    ((after : Lcg) × FollowsSchedule (scene s ledger) (start s) (stream_of number) events state after) × All FitsEvent events
 Makes (ByThreads shown) s ledger events state run =
     IsShownOf s shown × (ledger ≡ ledger_in shown) × (entries_in (scene s ledger) (start s) events state run ≡ merged_in shown)
 

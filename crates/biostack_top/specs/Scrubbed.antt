@@ -3,7 +3,7 @@ use Rattle.std.specs.Prelude.{◌≡◌, ◌≢◌, ◌<◌, ℕ, true, List, le
 use Rattle.std.specs.Bool.{Decides}
 use Rattle.stack_base.specs.Tree.{size, tree}
 use Rattle.layout_model.specs.Laid.{IsLaid}
-use Rattle.layout_model.specs.Shown.{keeps_data, shown}
+use Rattle.layout_model.specs.Shown.{keeps_data, shown_sector}
 use Rattle.layout_model.specs.Way.{Place}
 use Rattle.model_disks.specs.Runs.{flag}
 use Rattle.run_machine.specs.Opened.{Scenario}
@@ -24,5 +24,5 @@ IsLaidAt s place sector = IsLaid s.stack s.writes s.rounds place.disk place.at s
 abbrev pub UnlikeWhereLaidDiffers : Type 0
 UnlikeWhereLaidDiffers = (s : Scenario) (images : Images) → IsScenario s → AreLaidImages s images
     → (mirror leg x : ℕ) → mirror < length s.stack.devices.items → leg < legs (tree s.stack mirror) → x < size (tree s.stack mirror)
-    → (one other : List ℕ) → IsLaidAt s (shown (mirror_member (tree s.stack mirror) leg) x) one → IsLaidAt s (shown (mirror_member (tree s.stack mirror) 0) x) other
+    → (one other : List ℕ) → IsLaidAt s (shown_sector (mirror_member (tree s.stack mirror) leg) x) one → IsLaidAt s (shown_sector (mirror_member (tree s.stack mirror) 0) x) other
     → Decides (flag (unlikes images (tree s.stack mirror) leg) x) (one ≢ other)

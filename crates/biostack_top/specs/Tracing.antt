@@ -7,7 +7,7 @@ use Rattle.outside_io.specs.declared.sink.Sink.{Ghosts as SinkGhosts}
 use Rattle.outside_io.specs.declared.source.Failed.{Failed}
 use Rattle.outside_io.specs.Saying.{Says, Writes}
 use Rattle.run_machine.specs.declared.event.Event.{Event}
-use Rattle.run_machine.specs.Named.{Fits}
+use Rattle.run_machine.specs.Named.{FitsEvent}
 use Rattle.trace_text.specs.Lines.{line_of_event}
 use Rattle.biostack_top.specs.Streams.{SinkStream}
 use Rattle.biostack_top.specs.declared.trace.Trace.{Trace}
@@ -37,7 +37,7 @@ IsTraceOf trace events kept = (is_some kept ≡ trace) × IfSome kept (λ list. 
 
 -- each event of what is kept of a run, where it is to have a trace, has numbers that fit its fields
 abbrev pub FitsKept : Option (Vec Event) → Type 0
-FitsKept kept = (trace : Bool) (events : List Event) → IsTraceOf trace events kept → trace ≡ true → All Fits events
+FitsKept kept = (trace : Bool) (events : List Event) → IsTraceOf trace events kept → trace ≡ true → All FitsEvent events
 
 -- the trace of what was kept of a run was written, or a front of it where the output failed
 abbrev pub WritesKept : {K : Type 0} → Option (Vec Event) → Stack → Result Unit Failed → SinkStream K → Type 0

@@ -4,7 +4,7 @@ ghost use Rattle.outside_io.specs.Saying.{Says, Writes};
 ghost use Rattle.task_core.specs.opened.OfOne.{IsOpened, scenario_in};
 ghost use Rattle.biostack_top.specs.Running.{WritesRun};
 ghost use Rattle.biostack_top.specs.Streams.{sink_stream};
-ghost use Rattle.run_machine.specs.Named.{Fits};
+ghost use Rattle.run_machine.specs.Named.{FitsEvent};
 ghost use Rattle.biostack_top.specs.Tracing.{FitsKept, WritesKept, event_line, event_lines};
 
 use arrayvec::ArrayVec;
@@ -24,13 +24,13 @@ pub(crate) struct Trace<'k, 's, K> {
 
 // The numbers of an event are such as its fields have.
 fn fits(event: Event)
-    ensures { Fits event }
+    ensures { FitsEvent event }
 {}
 
 // Tells the line of an event, with the byte 10 that ends it.
 fn write_line<K: Sink>(pen: &mut Pen, out: &mut K, stack: &Stack, event: &Event)
     ensures says { Says K.Sink out.old pen.old out.new pen.new (event_line stack.now event.now) }
-    ensures fits { Fits event.now }
+    ensures fits { FitsEvent event.now }
 {
     fits(*event);
     let mut line = ArrayVec::new();
@@ -98,7 +98,7 @@ pub(crate) fn run_traced<K: Sink>(
 // Tells the lines of events, in their order.
 fn write_lines<K: Sink>(pen: &mut Pen, out: &mut K, stack: &Stack, events: &[Event])
     ensures says { Says K.Sink out.old pen.old out.new pen.new (event_lines stack.now events.now) }
-    ensures fits { All Fits events.now }
+    ensures fits { All FitsEvent events.now }
 {
     'telling: for event in events {
         write_line(pen, out, stack, event);
@@ -108,7 +108,7 @@ fn write_lines<K: Sink>(pen: &mut Pen, out: &mut K, stack: &Stack, events: &[Eve
 // Writes the lines of events, in their order.
 fn write_events<K: Sink>(events: &[Event], stack: &Stack, out: &mut K) -> Result<(), Failed>
     ensures written { Writes K.Sink out.old out.new result (event_lines stack.now events.now) }
-    ensures fits { All Fits events.now }
+    ensures fits { All FitsEvent events.now }
 {
     let mut pen = Pen::new();
     write_lines(&mut pen, out, stack, events);

@@ -4,7 +4,7 @@ use Rattle.std.specs.Prelude.{if◌then◌else◌, nat_le, IfSome}
 use Rattle.std.specs.Option.{option_and_then, option_map}
 use Rattle.std.proofs.lemmas.Bool.Decides.{nat_tests}
 use Rattle.biostack_words.specs.Grammar as grammar
-use Rattle.biostack_words.specs.Grammar.{Word, command_named, given_by_words, meaning, order_by}
+use Rattle.biostack_words.specs.Grammar.{Word, command_named, given_by_words, order_meant, order_by}
 use Rattle.biostack_words.specs.Numbers.{as_workers, number_of, workers_of}
 use Rattle.biostack_words.specs.declared.command.Command.{Command}
 use Rattle.biostack_words.specs.declared.command.Command.TheVariants as command
@@ -57,12 +57,12 @@ few_by command.Scrub None None false false None = tt
 few_by command.Scrub (Some n) None false false None = mapped (λ number. Unit {0}) Scrub (λ number any. tt) (number_of n) (any_number (number_of n))
 few_by _ _ _ _ _ _ = tt
 
-few_meant : (words : List Word) → IfSome (meaning words) IsForFew
+few_meant : (words : List Word) → IfSome (order_meant words) IsForFew
 few_meant [] = tt
 few_meant (first ∷ rest) =
     followed IsForFew (λ c. option_and_then (grammar.order_of c) (given_by_words rest))
     (λ c. followed IsForFew (grammar.order_of c) (λ g. few_by c g.seed g.workers g.trace g.text g.number) (given_by_words rest))
     (command_named first)
 
-pub few_workers : (words : List Word) (n : ℕ) (trace : Bool) → meaning words ≡ Some (Workers n trace) → AreFew n
+pub few_workers : (words : List Word) (n : ℕ) (trace : Bool) → order_meant words ≡ Some (Workers n trace) → AreFew n
 few_workers words n trace means = subst (λ (o : Option Order). IfSome o IsForFew) means (few_meant words)

@@ -113,7 +113,7 @@ stops w word rest e = fails_first _ _ (fails_first _ _ e)
 abbrev pub is_two_dashes : Word → Bool
 is_two_dashes word = bytes_eq word (45 ∷ 45 ∷ [])
 
-pub record Plain (word : Word) : Type 0 where
+pub record PlainWord (word : Word) : Type 0 where
   pub dashes : is_two_dashes word ≡ false
   pub long : long_of word ≡ None
   pub short : short_of word ≡ None
@@ -125,7 +125,7 @@ pub record Long (word name : Word) (value : Option Word) : Type 0 where
 abbrev pub Met : Word → WordForm → Type 0
 Met word (option name value) = Long word name value
 Met word dashed = ⊥
-Met word plain = Plain word
+Met word plain = PlainWord word
 
 abbrev long_form : Bool → Bool → List ℕ → WordForm
 long_form t u rest = cond t (cond u (option (name_of rest) (value_behind_equals rest)) dashed) plain
@@ -134,7 +134,7 @@ pub met : (word : Word) → is_dashed word ≡ false → Met word (form_of_word 
 met [] e = record { dashes = refl; long = refl; short = refl }
 met (a ∷ []) e = go (a == 45) refl
   where
-    go : (t : Bool) → (a == 45) ≡ t → Plain (a ∷ [])
+    go : (t : Bool) → (a == 45) ≡ t → PlainWord (a ∷ [])
     go true t = record { dashes = rw t refl; long = rw t refl; short = rw t refl }
     go false t = record { dashes = rw t refl; long = rw t refl; short = rw t refl }
 met (a ∷ b ∷ []) e = go (a == 45) refl e

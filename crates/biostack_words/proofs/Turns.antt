@@ -6,7 +6,7 @@ use Rattle.clap.specs.Walk.{Held, Row, is_pending, after_step, long_word, plain_
 use Rattle.clap.specs.Kinds.{or_else}
 use Rattle.clap.specs.Faults.{settle_fault, turn_fault, use_fault, walk_fault, word_fault, long_fault, step_fault}
 use Rattle.biostack_words.specs.Grammar.{WordForm, Kind, Word, dashed, form_of_word, is_dashed, option, place, plain, seed, text, trace, workers}
-use Rattle.biostack_words.proofs.Parsing.{IsFlag, Long, Met, Named, Plain, Takes, ends, fails, fails_first, flag_one, holding, met, named, rule_for, rules, shape, standing, stops, unknown, valued_one}
+use Rattle.biostack_words.proofs.Parsing.{IsFlag, Long, Met, Named, PlainWord, Takes, ends, fails, fails_first, flag_one, holding, met, named, rule_for, rules, shape, standing, stops, unknown, valued_one}
 use Rattle.biostack_words.proofs.Uses.{neither}
 
 -- ---- a turn
@@ -35,14 +35,14 @@ module _ (rows : List Row) (pending : Option (Text × List Text)) (position : �
   long_walked name value is = rw (is.dashes, is.long) refl
 
   -- a word that is no option
-  pub plain_turn : (waiting : Waiting) → Plain word
+  pub plain_turn : (waiting : Waiting) → PlainWord word
       → turn_fault shape [] (standing rows pending waiting position) word
       ≡ step_fault shape position (plain_word rules waiting word (holding rows pending)).0 (plain_word rules waiting word (holding rows pending)).1
   plain_turn idle is = rw (is.dashes, is.long, is.short) refl
   plain_turn positional is = rw (is.dashes, is.long, is.short) refl
   plain_turn (for_option id) is = rw (is.dashes, is.long, is.short) refl
 
-  pub plain_walked : (waiting : Waiting) → Plain word
+  pub plain_walked : (waiting : Waiting) → PlainWord word
       → walked rules [] (standing rows pending waiting position) word
       ≡ after_step rules word (standing rows pending waiting position) (plain_word rules waiting word (holding rows pending)).0 (plain_word rules waiting word (holding rows pending)).1
   unfolding walked

@@ -9,7 +9,7 @@ use Rattle.clap.specs.Kinds.{Kinds}
 use Rattle.clap.specs.Faults.{entered_fault, fault_of, settle_fault, turn_fault, long_fault}
 use Rattle.biostack_words.specs.Grammar.{is as is_read, waits as waits_then, as_option, with_its_value, wrong, Reading, reading, value_reading, WordForm, Kind, Setting, Word, alone, as_flag, dashed, followed, form_of_word, has, are_once, is_dashed, option, place, plain, seed, settings_from, text, trace, with_value, workers}
 use Rattle.biostack_words.specs.Parser.{parser}
-use Rattle.biostack_words.proofs.Parsing.{IsFlag, Long, Met, Named, Plain, Takes, ends, fails, fails_then, flag_one, goes_on, holding, id_of, last, met, named, rows_for, rule_for, rules, shape, standing, stops, unknown, valued_one}
+use Rattle.biostack_words.proofs.Parsing.{IsFlag, Long, Met, Named, PlainWord, Takes, ends, fails, fails_then, flag_one, goes_on, holding, id_of, last, met, named, rows_for, rule_for, rules, shape, standing, stops, unknown, valued_one}
 use Rattle.biostack_words.proofs.Uses.{Fits, first_use, neither, second_use}
 use Rattle.biostack_words.proofs.Turns.{and_no, doomed, flag_fault, late_option, long_stops, long_turn, long_walked, plain_turn, plain_walked, value_of_flag, valued_fault, waits_fault}
 use Rattle.biostack_words.proofs.Standing.{Agrees, AgreesAt, IdleAgrees, Stands, WaitAgrees, again, at_end, both_refuse, flag_is_met, flag_is_not, flag_no_place, missing, one_setting, pending_again, pending_stands, place_is, place_moves, place_of, place_stays, takes_is_valued, takes_no_place, used_stands, valued_met, waits_met}
@@ -119,7 +119,7 @@ module _ (word : Word) (words : List Word) (clear : list_any is_dashed words ≡
   option_agrees name (Some value) is (unknown a b found) = subst AgreesBy (sym (ap (λ k. with_its_value k value) a)) (refused_option name (Some value) is (rw found refl))
 
   -- a word alone
-  place_agrees : Plain word → (b : Bool) → has place done ≡ b → AgreesBy (is_read (with_value place word))
+  place_agrees : PlainWord word → (b : Bool) → has place done ≡ b → AgreesBy (is_read (with_value place word))
   place_agrees is true there =
       refused_twice (with_value place word) done _ here word words there (stops here word words (rw (plain_turn rows pending (place_of done) word idle is, place_is done true there) refl))
   place_agrees is false there =
@@ -164,15 +164,15 @@ module _ (word : Word) (words : List Word) (clear : list_any is_dashed words ≡
   abbrev after_value : Walk
   after_value = standing (rows_for done) (Some (id_of kind, word ∷ [])) idle (place_of done)
 
-  value_passes : Plain word → turn_fault shape [] waiting word ≡ []
+  value_passes : PlainWord word → turn_fault shape [] waiting word ≡ []
   value_passes is = plain_turn (rows_for done) (Some (id_of kind, [])) (place_of done) word (for_option (id_of kind)) is
 
-  value_goes : Plain word → walked rules [] waiting word ≡ after_value
+  value_goes : PlainWord word → walked rules [] waiting word ≡ after_value
   value_goes is =
       plain_walked (rows_for done) (Some (id_of kind, [])) (place_of done) word (for_option (id_of kind)) is
       ∙ ap (λ (p : Held × Step). after_step rules word waiting p.0 p.1) (waits_word kind word (rows_for done) t)
 
-  value_agrees : Plain word → (b : Bool) → has kind done ≡ b
+  value_agrees : PlainWord word → (b : Bool) → has kind done ≡ b
       → Agrees done (option_map (λ more. with_value kind word ∷ more) (settings_from None words)) (ends waiting (word ∷ words)) (last waiting (word ∷ words)).held
   value_agrees is true there =
       refused_twice (with_value kind word) done _ waiting word words there

@@ -204,12 +204,12 @@ abbrev pub order_of : Command → Given → Option Order
 order_of command given = order_by command given.seed given.workers given.trace given.text given.number
 
 -- the order that the words give, where they give one
-abbrev pub meaning : List Word → Option Order
-meaning [] = None
-meaning (first ∷ rest) = option_and_then (λ command. option_and_then (order_of command) (given_by_words rest)) (command_named first)
+abbrev pub order_meant : List Word → Option Order
+order_meant [] = None
+order_meant (first ∷ rest) = option_and_then (λ command. option_and_then (order_of command) (given_by_words rest)) (command_named first)
 
 -- the words give this order, or none; or there was no memory
 abbrev pub ReadsWords : List Word → Result Order WordFault → Type 0
-ReadsWords words (Ok order) = meaning words ≡ Some order
-ReadsWords words (Err Refused) = meaning words ≡ None
+ReadsWords words (Ok order) = order_meant words ≡ Some order
+ReadsWords words (Err Refused) = order_meant words ≡ None
 ReadsWords words (Err Memory) = Unit {0}

@@ -4,7 +4,7 @@ use Rattle.elem_ledger.specs.Ledger.{LedgerId}
 use Rattle.stack_base.specs.declared.ids.PoolId.{PoolId}
 use Rattle.layout_model.specs.Bound.{all_elements, most_elements}
 use Rattle.bio_books.specs.Links.{Linked, Made, NoRoom, Stray}
-use Rattle.bio_books.specs.Drops.{Ended}
+use Rattle.bio_books.specs.Drops.{DropOutcome}
 use Rattle.bio_books.specs.Drops as end
 use Rattle.run_machine.specs.declared.event.Event.{Event}
 use Rattle.run_machine.specs.Scene.{Scene}
@@ -25,7 +25,7 @@ is_no_link (Made place) = false
 is_no_link (NoRoom back) = true
 is_no_link (Stray back) = true
 
-abbrev pub is_no_end : Ended → Bool
+abbrev pub is_no_end : DropOutcome → Bool
 is_no_end end.Left = false
 is_no_end (end.Up closed) = false
 is_no_end (end.Top closed) = false

@@ -41,8 +41,8 @@ begun_charge price (Mirrored number sizes members) r s =
 unfoldable pub run_charge : (Paid → ℕ) → Tree → ℕ → ℕ → ℕ
 run_charge price t r len = sum_by (λ s. begun_charge price t r s) (range_with_len r len)
 
-abbrev pub run_at : (Paid → ℕ) → Setup → Bio → ℕ
-run_at price setup bio = run_charge price (tree_at setup bio.dev) bio.range.start bio.range.len
+abbrev pub bio_run_charge : (Paid → ℕ) → Setup → Bio → ℕ
+bio_run_charge price setup bio = run_charge price (tree_at setup bio.dev) bio.range.start bio.range.len
 
 -- a bio of the set of a device below the limit may come to the rescuer of the set, whose own limit is that device: so it comes there once
 abbrev pub may_pop : (Paid → ℕ) → ℕ → ℕ → ℕ
@@ -53,8 +53,8 @@ abbrev pub end_charge : (Paid → ℕ) → Payer → ℕ
 end_charge price payer = price (EndsItself payer) + price (IsGiven payer)
 
 abbrev pub bio_charge : (Paid → ℕ) → Setup → Spot → Item Pad → ℕ
-bio_charge price setup (Lined limit) item = end_charge price (payer_at item.share.no) + may_pop price limit item.share.no + run_at price setup item.bio
-bio_charge price setup Rescued item = end_charge price (payer_at item.share.no) + price IsPopped + run_at price setup item.bio
+bio_charge price setup (Lined limit) item = end_charge price (payer_at item.share.no) + may_pop price limit item.share.no + bio_run_charge price setup item.bio
+bio_charge price setup Rescued item = end_charge price (payer_at item.share.no) + price IsPopped + bio_run_charge price setup item.bio
 bio_charge price setup Pending item = end_charge price (payer_at item.share.no) + price IsCompleted
 bio_charge price setup Brought item = end_charge price (payer_at item.share.no)
 

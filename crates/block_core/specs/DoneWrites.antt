@@ -10,12 +10,12 @@ use Rattle.run_machine.specs.declared.event.What.TheVariants as what
 use Rattle.run_machine.specs.Opened.{Scenario, scene, start}
 use Rattle.run_machine.specs.Runs.{State, Happens, IsRun, HasEnded}
 use Rattle.block_core.specs.Scenarios.{IsScenario, IsNaming}
-use Rattle.block_core.specs.Fragments.{completed, times, IsOfScenario}
+use Rattle.block_core.specs.Fragments.{completed, fragment_count, IsOfScenario}
 
 -- each fragment of the write with this number is among these, exactly once, and no other with its number
 pub record IsCompleted (s : Scenario) (write : ℕ) (fragments : List Fragment) : Type 0 where
-  pub each : (f : Fragment) → f.write ≡ write → IsOfScenario s f → times f fragments ≡ 1
-  pub only : (f : Fragment) → f.write ≡ write → 0 < times f fragments → IsOfScenario s f
+  pub each : (f : Fragment) → f.write ≡ write → IsOfScenario s f → fragment_count f fragments ≡ 1
+  pub only : (f : Fragment) → f.write ≡ write → 0 < fragment_count f fragments → IsOfScenario s f
 
 -- where an event that comes next tells a write done, all of the write was completed
 abbrev pub DoneIsCompleted : Type 0

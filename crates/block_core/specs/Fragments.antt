@@ -29,8 +29,8 @@ abbrev pub fragment_of : Bio → Fragment
 fragment_of bio = record { write = bio.write; offset = offset_of bio; len = bio.range.len; disk = bio.dev; at = bio.range.start }
 
 -- the fragments that a bio comes to from its device on
-abbrev pub fragments_of : Setup → Bio → List Fragment
-fragments_of setup bio = leaves (plan (tree_at setup bio.dev) bio.write (offset_of bio) bio.range.start bio.range.len)
+abbrev pub bio_fragments : Setup → Bio → List Fragment
+bio_fragments setup bio = leaves (plan (tree_at setup bio.dev) bio.write (offset_of bio) bio.range.start bio.range.len)
 
 -- those of one leg of a bio that a mirror copies
 abbrev pub leg_fragments : Tree → Bio → ℕ → List Fragment
@@ -45,8 +45,8 @@ todo_fragments setup todo = leaves (plan (tree_at setup todo.write.dev) todo.num
 -- What is still to come, where each fragment counts as `value` says: all of a bio in a submission or in a rescue list, the one that a pending bio
 -- is, all of the legs that are still to be made, and all of the writes that are still to begin. A bio that its disk is done with has none.
 abbrev pub bio_comes : Setup → (Fragment → ℕ) → Spot → Item Pad → ℕ
-bio_comes setup value (Lined limit) item = sum_by value (fragments_of setup item.bio)
-bio_comes setup value Rescued item = sum_by value (fragments_of setup item.bio)
+bio_comes setup value (Lined limit) item = sum_by value (bio_fragments setup item.bio)
+bio_comes setup value Rescued item = sum_by value (bio_fragments setup item.bio)
 bio_comes setup value Pending item = value (fragment_of item.bio)
 bio_comes setup value Brought item = 0
 
@@ -82,14 +82,14 @@ FragmentsAddUp = (s : Scenario) (ledger : ℕ → LedgerId) (events : List Event
     ≡ sum_by value (planned s)
 
 -- how often a fragment is among these
-abbrev pub is_same : Fragment → Fragment → Bool
-is_same f g = f.write == g.write && f.offset == g.offset && f.len == g.len && f.disk.0 == g.disk.0 && f.at == g.at
+abbrev pub equal_fragments : Fragment → Fragment → Bool
+equal_fragments f g = f.write == g.write && f.offset == g.offset && f.len == g.len && f.disk.0 == g.disk.0 && f.at == g.at
 
 abbrev pub is_it : Fragment → Fragment → ℕ
-is_it f g = if is_same f g then 1 else 0
+is_it f g = if equal_fragments f g then 1 else 0
 
-abbrev pub times : Fragment → List Fragment → ℕ
-times f fragments = sum_by (is_it f) fragments
+abbrev pub fragment_count : Fragment → List Fragment → ℕ
+fragment_count f fragments = sum_by (is_it f) fragments
 
 -- a fragment of one of the scenario's writes, as the layout has it
 abbrev pub IsOfScenario : Scenario → Fragment → Type 0
@@ -98,12 +98,12 @@ IsOfScenario s f = (todo : Todo) × Contains (todos s) todo × IsFragmentOf (tre
 -- no run completes a fragment twice, nor one that no write has
 abbrev pub NoneIsCompletedTwice : Type 0
 NoneIsCompletedTwice = (s : Scenario) (ledger : ℕ → LedgerId) (events : List Event) (state : State) → IsScenario s → IsNaming ledger
-    → (run : IsRun (scene s ledger) (start s) events state) (f : Fragment) → times f (completed (scene s ledger) (start s) events state run) ≤ 1
+    → (run : IsRun (scene s ledger) (start s) events state) (f : Fragment) → fragment_count f (completed (scene s ledger) (start s) events state run) ≤ 1
 
 abbrev pub NoOtherIsCompleted : Type 0
 NoOtherIsCompleted = (s : Scenario) (ledger : ℕ → LedgerId) (events : List Event) (state : State) → IsScenario s → IsNaming ledger
     → (run : IsRun (scene s ledger) (start s) events state) (f : Fragment)
-    → 0 < times f (completed (scene s ledger) (start s) events state run) → IsOfScenario s f
+    → 0 < fragment_count f (completed (scene s ledger) (start s) events state run) → IsOfScenario s f
 
 -- a task with nothing to submit, and no bio in any list or disk
 abbrev pub HasNone : TaskState → Type 0
@@ -121,7 +121,7 @@ pub record NothingComes (scene : Scene) (state : State) : Type 0 where
 abbrev pub EachIsCompletedOnce : Type 0
 EachIsCompletedOnce = (s : Scenario) (ledger : ℕ → LedgerId) (events : List Event) (state : State) → IsScenario s → IsNaming ledger
     → (run : IsRun (scene s ledger) (start s) events state) → NothingComes (scene s ledger) state → (f : Fragment) → IsOfScenario s f
-    → times f (completed (scene s ledger) (start s) events state run) ≡ 1
+    → fragment_count f (completed (scene s ledger) (start s) events state run) ≡ 1
 
 -- no element is out of any pool, and no writer has a write that is still to begin
 abbrev pub HasBegun : TaskState → Type 0

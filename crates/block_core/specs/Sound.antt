@@ -15,7 +15,7 @@ use Rattle.run_machine.specs.Runs.{State, IsRun}
 use Rattle.block_core.specs.Scenarios.{IsScenario, IsNaming}
 use Rattle.block_core.specs.Weights.{total, elements_of_pool, refs, count_of}
 use Rattle.block_core.specs.EachBio.{EachBio, EachCopied}
-use Rattle.block_core.specs.Fragments.{completed, to_come, is_it, times, IsOfScenario}
+use Rattle.block_core.specs.Fragments.{completed, to_come, is_it, fragment_count, IsOfScenario}
 use Rattle.block_core.specs.Hands.{HandsAreRight}
 use Rattle.block_core.specs.Images.{HasItsWord, held_after}
 use Rattle.block_core.specs.KeptEnds.{EndsAreKept}
@@ -55,8 +55,8 @@ pub record IsSound (s : Scenario) (ledger : ℕ → LedgerId) (events : List Eve
   pub waits : HasRescuers s.stack → NoneWaitsForItself (scene s ledger) state
   -- each fragment of each write was completed or is still to come, once, and no other; and each bio has the data of its place, one that a mirror copies too
   pub fragments : (f : Fragment) → IsOfScenario s f
-      → times f (completed (scene s ledger) (start s) events state run) + total (scene s ledger) (to_come (setup s) (is_it f)) state ≡ 1
-  pub others : (f : Fragment) → 0 < times f (completed (scene s ledger) (start s) events state run) + total (scene s ledger) (to_come (setup s) (is_it f)) state
+      → fragment_count f (completed (scene s ledger) (start s) events state run) + total (scene s ledger) (to_come (setup s) (is_it f)) state ≡ 1
+  pub others : (f : Fragment) → 0 < fragment_count f (completed (scene s ledger) (start s) events state run) + total (scene s ledger) (to_come (setup s) (is_it f)) state
       → IsOfScenario s f
   pub words : EachBio (λ item. HasItsWord s item.bio) (scene s ledger) state
   pub copied : EachCopied (λ bio master. HasItsWord s bio) (scene s ledger) state

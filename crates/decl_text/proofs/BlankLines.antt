@@ -3,7 +3,7 @@ use Rattle.std.proofs.Common.{◌≡◌, ℕ, true, false, List, [], ◌∷◌, 
 use Rattle.std.specs.List.{list_all, slice_split}
 use Rattle.std.proofs.lemmas.Bool.{and_parts}
 use Rattle.decl_text.specs.Text.{is_blank, is_text, words}
-use Rattle.decl_text.specs.Lines.{Says}
+use Rattle.decl_text.specs.Lines.{LineSays}
 use Rattle.decl_text.specs.Reading.{is_work_line}
 use Rattle.decl_text.specs.declared.stand.Stand.{Stand}
 use Rattle.decl_text.proofs.LineLemmas.{says_nothing}
@@ -25,7 +25,7 @@ blank_text (byte ∷ bytes) all =
     rw (parts.0, blank_text bytes parts.1) refl
 
 -- wherever it stands
-pub blank_says_nothing : (stand : Stand) (line : List ℕ) → list_all is_blank line ≡ true → Says stand line (Ok None)
+pub blank_says_nothing : (stand : Stand) (line : List ℕ) → list_all is_blank line ≡ true → LineSays stand line (Ok None)
 blank_says_nothing stand line all = says_nothing stand line [] (blank_text line all) (blank_words line all) refl
 
 -- so it is no work

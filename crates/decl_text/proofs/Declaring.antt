@@ -10,7 +10,7 @@ use Rattle.std.proofs.lemmas.Bool.{not-false}
 use Rattle.decl_text.specs.Text.{is_name, is_option, number_of}
 use Rattle.decl_text.specs.Words.{has_number, is_word, is_within}
 use Rattle.decl_text.specs.Commands.{command_of}
-use Rattle.decl_text.specs.Forms.{Form, form, others, fails, times, value_of, any_number, number_from, may, must, is_malformed, is_misnumbered, is_misplaced, is_misset}
+use Rattle.decl_text.specs.Forms.{Form, form, behind_places, fails, times, value_of, any_number, number_from, may, must, is_malformed, is_misnumbered, is_misplaced, is_misset}
 use Rattle.decl_text.specs.Items.{kind_of_bad, meaning, number, number_or, value_in, is_comment, malformed, misnumbered, begins_work, is_work, said}
 use Rattle.decl_text.specs.Read.{IsDeclaration}
 use Rattle.decl_text.specs.Stands.{may_stand, misplaced}
@@ -34,7 +34,7 @@ Declares (Some said) = IsDeclaration said
 -- a form whose words are all right, in parts
 pub record IsFormedBy (form : Form) (words : List (List ℕ)) : Type 0 where
   pub placed : list_any (λ (at : Place × List ℕ). is_misplaced at.0 at.1) (zip form.places words) ≡ false
-  pub set : list_any (is_misset (others form words)) form.settings ≡ false
+  pub set : list_any (is_misset (behind_places form words)) form.settings ≡ false
 
 pub formed_by : (form : Form) (words : List (List ℕ)) → is_malformed form words ≡ false → IsFormedBy form words
 formed_by form words fine = record { placed = others_not _ _ (first_not _ _ (first_not _ _ fine)); set = others_not _ _ fine }

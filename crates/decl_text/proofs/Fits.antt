@@ -20,9 +20,9 @@ use Rattle.std.proofs.Math.Logic.{∥∥₁_elim}
 use Rattle.decl_text.specs.Text.{words}
 use Rattle.decl_text.specs.Items.{said}
 use Rattle.decl_text.specs.Read.{IsFormed}
-use Rattle.decl_text.specs.Known.{Known, Declared, BadOf, nothing, after_line, declared, device_of, grown, declares_disk, number_in, sectors_of, tree_of, tree_over}
+use Rattle.decl_text.specs.Known.{Known, Declared, BadOf, nothing, after_line, declared, device_of, device_tree, declares_disk, number_in, sectors_of, tree_of, tree_over}
 use Rattle.decl_text.specs.Checks.{bad_shape, is_disk_device, is_one_too_many, name_taken, past_end, reserve_zero, reserves, too_large}
-use Rattle.decl_text.specs.Accepting.{IsDeclaredSo, Means, bad_of, loose_checks, reserves_or_two, shown, what_of}
+use Rattle.decl_text.specs.Accepting.{IsDeclaredSo, Means, bad_of, loose_checks, reserves_or_two, shown, what_of_kind}
 use Rattle.decl_text.specs.Fit.{HasReserves, IsFitBad, IsFitDevice, IsFitStack, IsReserve}
 use Rattle.decl_text.specs.Refusals.{check, first_found, known_after, line_reason, refusal, said_reason}
 use Rattle.decl_text.specs.declared.accepted.Accepted.{Accepted}
@@ -66,7 +66,7 @@ abbrev pub one_more : List Tree → Declared → List Tree
 one_more below device = below ++ tree_over below device ∷ []
 
 -- a disk has as many sectors as its line says
-disk_size : (number : ℕ) (does : What) (members : List Tree) → declares_disk does ≡ true → size (grown number does members) ≡ sectors_of does
+disk_size : (number : ℕ) (does : What) (members : List Tree) → declares_disk does ≡ true → size (device_tree number does members) ≡ sectors_of does
 disk_size number (what.Disk sectors) members is = refl
 disk_size number _ members is = cc
 
@@ -288,10 +288,10 @@ module _ (known : Known) (fit : IsFit known) (stack : Stack) (scripts : List (Po
   shown_at number device found =
       ap (λ (ds : List Declared). slice_get ds number) (sym means.devices) ∙ slice_get-map shown stack.devices.items number ∙ ap (option_map shown) found
 
-  bads_fit : (number : ℕ) (device : Device) (bad : Bad) → slice_get stack.devices.items number ≡ Some device → Contains (bad_of device.kind) bad → IsFitBad (sectors_of (what_of device.kind)) bad
+  bads_fit : (number : ℕ) (device : Device) (bad : Bad) → slice_get stack.devices.items number ≡ Some device → Contains (bad_of device.kind) bad → IsFitBad (sectors_of (what_of_kind device.kind)) bad
   bads_fit number device bad found there =
       let test : BadOf → Bool = λ of. of.disk == number in
-      let sectors = sectors_of (what_of device.kind) in
+      let sectors = sectors_of (what_of_kind device.kind) in
       let size_is : sectors_at known.devices number ≡ sectors = ap declared_sectors (shown_at number device found) in
       let all : All (λ (of : BadOf). IsFitBad (sectors_at known.devices of.disk) of.bad) known.bad =
       All-weaker (Contains known.bad) (λ (of : BadOf). IsFitBad (sectors_at known.devices of.disk) of.bad) fit.bad known.bad (All-contains_itself known.bad) in

@@ -10,7 +10,7 @@ use Rattle.decl_text.specs.Known.{Known}
 use Rattle.decl_text.specs.Stands.{may_stand, misplaced, stand_of}
 use Rattle.decl_text.specs.declared.stand.Stand.{Stand}
 use Rattle.decl_text.specs.Refusals.{first_found, line_checks}
-use Rattle.decl_text.specs.Lines.{CommandSays, Says, command_first, first_of}
+use Rattle.decl_text.specs.Lines.{CommandSays, LineSays, command_first, first_of}
 use Rattle.decl_text.specs.declared.reason.Reason.{Reason}
 use Rattle.decl_text.specs.declared.reason.Reason.TheVariants.{BadWord, BadNumber, NameTaken, NoSuchDevice, MemberTaken, BadShape, TooLarge, EmptyDevice, ReserveZero, NeedsRescuer, NotATop, PastEnd, Overlap, TooManySegments, NoSuchPool, TooLong, NotText, TooMuchWork}
 use Rattle.decl_text.specs.declared.command.Command.{Command}
@@ -58,7 +58,7 @@ same_found a b line same =
     ∙ ap (λ (s : Stand). by_checks (is_text line) (malformed (words line)) (misplaced s (words line)) (misnumbered (words line))) same
     ∙ sym (found_by b line (words line) refl)
 
-pub says_no_text : (stand : Stand) (line : List ℕ) → is_text line ≡ false → Says stand line (Err (Wrong NotText))
+pub says_no_text : (stand : Stand) (line : List ℕ) → is_text line ≡ false → LineSays stand line (Err (Wrong NotText))
 says_no_text stand line odd = λ known at. rw (found_by known line (words line) refl, odd) refl
 
 -- a line of text is as its words are
@@ -96,7 +96,7 @@ skipped_by : (comment : Bool) (word : List ℕ) (rest : List (List ℕ)) → is_
 skipped_by true word rest is first = is
 skipped_by false word rest is first = absurd (never_skipped (command_of word) first)
 
-pub says_nothing : (stand : Stand) (line : List ℕ) (all : List (List ℕ)) → is_text line ≡ true → words line ≡ all → command_first all ≡ first.Skipped → Says stand line (Ok None)
+pub says_nothing : (stand : Stand) (line : List ℕ) (all : List (List ℕ)) → is_text line ≡ true → words line ≡ all → command_first all ≡ first.Skipped → LineSays stand line (Ok None)
 says_nothing stand line [] text is skipped = λ known at. (told known line [] text is, rw is refl)
 says_nothing stand line (word ∷ rest) text is skipped =
     let comment = skipped_by (is_comment word) word rest refl skipped in
@@ -108,7 +108,7 @@ unknown_by true command is = absurd (let e : first.Skipped ≡ first.Unknown = i
 unknown_by false None is = (refl, refl)
 unknown_by false (Some command) is = absurd (command_unknown command is)
 
-pub says_unknown : (stand : Stand) (line : List ℕ) (all : List (List ℕ)) → is_text line ≡ true → words line ≡ all → command_first all ≡ first.Unknown → Says stand line (Err (Wrong BadWord))
+pub says_unknown : (stand : Stand) (line : List ℕ) (all : List (List ℕ)) → is_text line ≡ true → words line ≡ all → command_first all ≡ first.Unknown → LineSays stand line (Err (Wrong BadWord))
 says_unknown stand line [] text is unknown = absurd (skipped_unknown unknown)
 says_unknown stand line (word ∷ rest) text is unknown =
     let parts = unknown_by (is_comment word) (command_of word) unknown in
@@ -133,7 +133,7 @@ commanded stand line word rest command text is first_is =
     record { told = λ known at. rw (told known line (word ∷ rest) text is, parts.0, parts.1, at) refl; said = rw (is, parts.0, parts.1) refl }
 
 -- it may not stand there
-late_said : (stand : Stand) (line : List ℕ) (rest : List (List ℕ)) (command : Command) → Commanded stand line command rest → may_stand stand command ≡ false → Says stand line (Err (Wrong BadWord))
+late_said : (stand : Stand) (line : List ℕ) (rest : List (List ℕ)) (command : Command) → Commanded stand line command rest → may_stand stand command ≡ false → LineSays stand line (Err (Wrong BadWord))
 late_said stand line rest command c late = λ known at. rw (c.told known at, late, or-true) refl
 
 -- it may
@@ -142,11 +142,11 @@ told_there : (stand : Stand) (line : List ℕ) (rest : List (List ℕ)) (command
 told_there stand line rest command c stands known at = rw (c.told known at, stands, or-false) refl
 
 item_said : (stand : Stand) (line : List ℕ) (rest : List (List ℕ)) (command : Command) (item : Item) → Commanded stand line command rest → may_stand stand command ≡ true
-    → CommandSays command rest (Ok item) → Says stand line (Ok (Some item))
+    → CommandSays command rest (Ok item) → LineSays stand line (Ok (Some item))
 item_said stand line rest command item c stands says = λ known at. (rw (told_there stand line rest command c stands known at, says.0, says.1) refl, rw c.said says.2)
 
 fault_said : (stand : Stand) (line : List ℕ) (rest : List (List ℕ)) (command : Command) (fault : LineFault) → Commanded stand line command rest → may_stand stand command ≡ true
-    → CommandSays command rest (Err fault) → Says stand line (Err fault)
+    → CommandSays command rest (Err fault) → LineSays stand line (Err fault)
 fault_said stand line rest command (Wrong BadWord) c stands says = λ known at. rw (told_there stand line rest command c stands known at, says) refl
 fault_said stand line rest command (Wrong BadNumber) c stands says = λ known at. rw (told_there stand line rest command c stands known at, says.0, says.1) refl
 fault_said stand line rest command Memory c stands says = λ known at. tt
@@ -168,16 +168,16 @@ fault_said stand line rest command (Wrong NotText) c stands says = absurd says
 fault_said stand line rest command (Wrong TooMuchWork) c stands says = absurd says
 
 pub says_late : (stand : Stand) (line : List ℕ) (all : List (List ℕ)) (command : Command) → is_text line ≡ true → words line ≡ all → command_first all ≡ first.Command command
-    → may_stand stand command ≡ false → Says stand line (Err (Wrong BadWord))
+    → may_stand stand command ≡ false → LineSays stand line (Err (Wrong BadWord))
 says_late stand line [] command text is first_is late = absurd (skipped_command command first_is)
 says_late stand line (word ∷ rest) command text is first_is late = late_said stand line rest command (commanded stand line word rest command text is first_is) late
 
 pub says_item : (stand : Stand) (line : List ℕ) (all : List (List ℕ)) (command : Command) (item : Item) → is_text line ≡ true → words line ≡ all → command_first all ≡ first.Command command
-    → may_stand stand command ≡ true → CommandSays command (drop 1 all) (Ok item) → Says stand line (Ok (Some item))
+    → may_stand stand command ≡ true → CommandSays command (drop 1 all) (Ok item) → LineSays stand line (Ok (Some item))
 says_item stand line [] command item text is first_is stands says = absurd (skipped_command command first_is)
 says_item stand line (word ∷ rest) command item text is first_is stands says = item_said stand line rest command item (commanded stand line word rest command text is first_is) stands says
 
 pub says_fault : (stand : Stand) (line : List ℕ) (all : List (List ℕ)) (command : Command) (fault : LineFault) → is_text line ≡ true → words line ≡ all → command_first all ≡ first.Command command
-    → may_stand stand command ≡ true → CommandSays command (drop 1 all) (Err fault) → Says stand line (Err fault)
+    → may_stand stand command ≡ true → CommandSays command (drop 1 all) (Err fault) → LineSays stand line (Err fault)
 says_fault stand line [] command fault text is first_is stands says = absurd (skipped_command command first_is)
 says_fault stand line (word ∷ rest) command fault text is first_is stands says = fault_said stand line rest command fault (commanded stand line word rest command text is first_is) stands says

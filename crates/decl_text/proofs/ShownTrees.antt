@@ -12,8 +12,8 @@ use Rattle.stack_base.specs.declared.stack.Stack.{Stack}
 use Rattle.stack_base.specs.Tree.{Tree, Leaf, over_shape, over, tree}
 use Rattle.stack_base.proofs.Unfolded.{GoesDown, tree_going_down}
 use Rattle.stack_base.proofs.ListLemmas.{map_same}
-use Rattle.decl_text.specs.Known.{grown, tree_over, trees, tree_of}
-use Rattle.decl_text.specs.Accepting.{what_of, shown, shown_devices}
+use Rattle.decl_text.specs.Known.{device_tree, tree_over, trees, tree_of}
+use Rattle.decl_text.specs.Accepting.{what_of_kind, shown, shown_devices}
 
 -- the first of what is left, and the rest of it
 at_front : {A : Type 0} (n : ℕ) (xs : List A) (d : A) (ds : List A) → drop n xs ≡ d ∷ ds → (slice_get xs n ≡ Some d) × (drop (suc n) xs ≡ ds)
@@ -23,7 +23,7 @@ at_front (suc n) [] d ds e = cc
 at_front (suc n) (x ∷ xs) d ds e = at_front n xs d ds e
 
 -- a device is the same over its members, as it is declared
-pub grown_over : (number : ℕ) (kind : Kind) (members : List Tree) → grown number (what_of kind) members ≡ over number kind members
+pub grown_over : (number : ℕ) (kind : Kind) (members : List Tree) → device_tree number (what_of_kind kind) members ≡ over number kind members
 unfolding over_shape
 grown_over number (Disk sectors bad) members = refl
 grown_over number Linear members = refl
@@ -58,8 +58,8 @@ module _ (stack : Stack) (down : GoesDown stack) where
       let below : map (λ (m : DevId). at m.0) d.members.items ≡ map (λ (m : DevId). tree stack m.0) d.members.items =
       map_same (λ (m : DevId). at m.0) (λ (m : DevId). tree stack m.0) d.members.items
       (λ i m is. get_or-map-range_with_len (tree stack) 0 n m.0 m.0 (Leaf m.0 0) (down.below n d i m found is) (omega arith)) in
-      ap (λ k. grown k (what_of d.kind) (map at (map (λ (m : DevId). m.0) d.members.items))) number
-      ∙ ap (grown n (what_of d.kind)) (map-map at (λ (m : DevId). m.0) d.members.items ∙ below)
+      ap (λ k. device_tree k (what_of_kind d.kind) (map at (map (λ (m : DevId). m.0) d.members.items))) number
+      ∙ ap (device_tree n (what_of_kind d.kind)) (map-map at (λ (m : DevId). m.0) d.members.items ∙ below)
       ∙ grown_over n d.kind (map (λ (m : DevId). tree stack m.0) d.members.items)
       ∙ sym (tree_going_down stack down n d found)
 

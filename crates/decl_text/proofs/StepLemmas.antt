@@ -7,7 +7,7 @@ use Rattle.decl_text.specs.Text.{lines, words}
 use Rattle.decl_text.specs.Items.{said}
 use Rattle.decl_text.specs.Known.{nothing}
 use Rattle.decl_text.specs.Read.{AreDeclarations, IsDeclaration, Read}
-use Rattle.decl_text.specs.Reading.{IsRead, Formed, added, formed, formed_by, with_item, declarations, is_work_line, is_wrong, read_lines, right_lines}
+use Rattle.decl_text.specs.Reading.{IsReadDecl, Formed, added, formed, formed_by, with_item, declarations, is_work_line, is_wrong, read_lines, right_lines}
 use Rattle.decl_text.specs.Refusals.{first_found, line_checks, refused}
 use Rattle.decl_text.specs.Steps.{Begins, IsSoFar, whole}
 use Rattle.decl_text.specs.declared.decl.Numbered.{Numbered}
@@ -49,7 +49,7 @@ all_read read left all fine starts is =
 stopped : (text : List ℕ) (read : Read) (so_far : IsSoFar text read) → read_lines text ≡ so_far.passed → lines (drop read.rest text) ≡ drop (length (read_lines text)) (lines text)
 stopped text read so_far all = rw (all, so_far.cut) (sym (behind so_far.passed (lines (drop read.rest text))))
 
-pub ended : (text : List ℕ) (read : Read) → IsSoFar text read → Begins is_work_line (lines (drop read.rest text)) → IsRead text read
+pub ended : (text : List ℕ) (read : Read) → IsSoFar text read → Begins is_work_line (lines (drop read.rest text)) → IsReadDecl text read
 ended text read so_far starts = record {
   formed = all_read read (lines (drop read.rest text)) (formed 1 (declarations (lines text))) so_far.fine starts so_far.whole;
   within = so_far.within;
@@ -72,7 +72,7 @@ fault_read read line left reason all other found is =
 
 -- a line that is wrong ends the reading
 pub wrong_line : (text : List ℕ) (read : Read) (line : List ℕ) (left : List (List ℕ)) (reason : Reason) → IsSoFar text read → lines (drop read.rest text) ≡ line ∷ left
-    → is_work_line line ≡ false → first_found line_checks nothing line ≡ Some reason → IsRead text (record read { fault = Some (refused read.line reason) })
+    → is_work_line line ≡ false → first_found line_checks nothing line ≡ Some reason → IsReadDecl text (record read { fault = Some (refused read.line reason) })
 wrong_line text read line left reason so_far next other found = record {
   formed = fault_read read line left reason (formed 1 (declarations (lines text))) other found (subst (λ lines_left. whole read lines_left ≡ formed 1 (declarations (lines text))) next so_far.whole);
   within = so_far.within;
@@ -118,17 +118,17 @@ passed_line text read line item place so_far next other found says on within =
     }
 
 -- the same, where the reader of lines stands at this place
-pub at_end : (text : List ℕ) (read : Read) (at : ℕ) → at ≡ read.rest → lines (drop at text) ≡ [] → IsSoFar text read → IsRead text read × AreDeclarations read.items
+pub at_end : (text : List ℕ) (read : Read) (at : ℕ) → at ≡ read.rest → lines (drop at text) ≡ [] → IsSoFar text read → IsReadDecl text read × AreDeclarations read.items
 at_end text read at is none so_far =
     (ended text read so_far (subst (Begins is_work_line) (sym none ∙ ap (λ n. lines (drop n text)) is) tt), so_far.items)
 
 pub at_write : (text : List ℕ) (read : Read) (at : ℕ) (line : List ℕ) (left : List (List ℕ)) → at ≡ read.rest → lines (drop at text) ≡ line ∷ left → is_work_line line ≡ true → IsSoFar text read
-    → IsRead text read × AreDeclarations read.items
+    → IsReadDecl text read × AreDeclarations read.items
 at_write text read at line left is next write so_far =
     (ended text read so_far (subst (Begins is_work_line) (sym next ∙ ap (λ n. lines (drop n text)) is) write), so_far.items)
 
 pub at_wrong : (text : List ℕ) (read : Read) (at : ℕ) (line : List ℕ) (left : List (List ℕ)) (reason : Reason) → at ≡ read.rest → lines (drop at text) ≡ line ∷ left → is_work_line line ≡ false
-    → first_found line_checks nothing line ≡ Some reason → IsSoFar text read → IsRead text (record read { fault = Some (refused read.line reason) }) × AreDeclarations read.items
+    → first_found line_checks nothing line ≡ Some reason → IsSoFar text read → IsReadDecl text (record read { fault = Some (refused read.line reason) }) × AreDeclarations read.items
 at_wrong text read at line left reason is next other found so_far =
     (wrong_line text read line left reason so_far (ap (λ n. lines (drop n text)) (sym is) ∙ next) other found, so_far.items)
 

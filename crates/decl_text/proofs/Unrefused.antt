@@ -49,11 +49,11 @@ line_passes checks known line none = or_none (first_found line_checks known line
 
 module _ (checks : List (Check Item)) (Holds : Known → Type 0) where
   -- what each line keeps that is not refused
-  abbrev pub IsKept : Type 0
-  IsKept = (known : Known) (line : List ℕ) → line_reason checks known line ≡ None → Holds known → Holds (after_line known (said (words line)))
+  abbrev pub EachLineKeeps : Type 0
+  EachLineKeeps = (known : Known) (line : List ℕ) → line_reason checks known line ≡ None → Holds known → Holds (after_line known (said (words line)))
 
   -- it holds behind lines of which none is refused
-  pub kept_behind : IsKept → (known : Known) (number : ℕ) (left : List (List ℕ)) → refusal checks known number left ≡ None → Holds known → Holds (known_after known left)
+  pub kept_behind : EachLineKeeps → (known : Known) (number : ℕ) (left : List (List ℕ)) → refusal checks known number left ≡ None → Holds known → Holds (known_after known left)
   kept_behind keeps known number [] none here = here
   kept_behind keeps known number (line ∷ left) none here =
       let parts = none_refused checks known number line left none in

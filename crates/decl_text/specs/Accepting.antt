@@ -23,13 +23,13 @@ use Rattle.decl_text.specs.declared.item.What.{What}
 use Rattle.decl_text.specs.declared.item.Item.{Item}
 use Rattle.decl_text.specs.declared.item.What.TheVariants as what
 
-abbrev pub what_of : Kind → What
-what_of (kind.Disk sectors bad) = what.Disk sectors
-what_of kind.Linear = what.Linear
-what_of (kind.Stripe chunk) = what.Stripe chunk
-what_of (kind.Zoned chunk) = what.Zoned chunk
-what_of (kind.Limit longest chunk) = what.Limit longest chunk
-what_of (kind.Mirror records) = what.Mirror records
+abbrev pub what_of_kind : Kind → What
+what_of_kind (kind.Disk sectors bad) = what.Disk sectors
+what_of_kind kind.Linear = what.Linear
+what_of_kind (kind.Stripe chunk) = what.Stripe chunk
+what_of_kind (kind.Zoned chunk) = what.Zoned chunk
+what_of_kind (kind.Limit longest chunk) = what.Limit longest chunk
+what_of_kind (kind.Mirror records) = what.Mirror records
 
 abbrev pub bad_of : Kind → List Bad
 bad_of (kind.Disk sectors bad) = bad.items
@@ -43,7 +43,7 @@ bad_of (kind.Mirror records) = []
 abbrev pub shown : Device → Declared
 shown device = record {
   name = device.name.bytes;
-  what = what_of device.kind;
+  what = what_of_kind device.kind;
   members = map (λ m. m.0) device.members.items;
   reserve = device.reserve;
   rescuer = device.rescuer;

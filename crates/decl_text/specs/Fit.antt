@@ -6,7 +6,7 @@ use Rattle.stack_base.specs.declared.stack.Device.{Device}
 use Rattle.stack_base.specs.declared.stack.Stack.{Stack}
 use Rattle.decl_text.specs.Text.{is_name}
 use Rattle.decl_text.specs.Known.{Declared, sectors_of}
-use Rattle.decl_text.specs.Accepting.{bad_of, shown, what_of}
+use Rattle.decl_text.specs.Accepting.{bad_of, shown, what_of_kind}
 use Rattle.decl_text.specs.declared.item.What.{What}
 use Rattle.decl_text.specs.declared.item.What.TheVariants as what
 
@@ -42,4 +42,4 @@ pub record IsFitStack (stack : Stack) : Type 0 where
   pub names : (i j : ℕ) (one other : Device) → slice_get stack.devices.items i ≡ Some one → slice_get stack.devices.items j ≡ Some other
       → one.name.bytes ≡ other.name.bytes → i ≡ j
   pub bad : (number : ℕ) (device : Device) (bad : Bad) → slice_get stack.devices.items number ≡ Some device → Contains (bad_of device.kind) bad
-      → IsFitBad (sectors_of (what_of device.kind)) bad
+      → IsFitBad (sectors_of (what_of_kind device.kind)) bad

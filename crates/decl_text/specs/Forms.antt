@@ -39,8 +39,8 @@ abbrev pub fixed : List Place → Form
 fixed places = record { places = places; settings = []; members = false }
 
 -- a device over members, with options of its own besides those of every such device
-abbrev pub device : List Setting → Form
-device own = record {
+abbrev pub device_form : List Setting → Form
+device_form own = record {
   places = Name ∷ [];
   settings = may Reserve any_number ∷ may Rescuer (OneOf few.YesNo) ∷ own;
   members = true;
@@ -49,11 +49,11 @@ device own = record {
 abbrev pub form : Command → Form
 form Disk = fixed (Name ∷ any_number ∷ [])
 form Bad = fixed (Mention ∷ any_number ∷ number_from 1 ∷ OneOf few.Faults ∷ [])
-form Linear = device []
-form Stripe = device (must Chunk (number_from 1) ∷ [])
-form Zoned = device (must Chunk (number_from 1) ∷ [])
-form Limit = device (must Max (number_from 1) ∷ may Chunk any_number ∷ [])
-form Mirror = device (may Records any_number ∷ [])
+form Linear = device_form []
+form Stripe = device_form (must Chunk (number_from 1) ∷ [])
+form Zoned = device_form (must Chunk (number_from 1) ∷ [])
+form Limit = device_form (must Max (number_from 1) ∷ may Chunk any_number ∷ [])
+form Mirror = device_form (may Records any_number ∷ [])
 form Fs = record { places = []; settings = may Bios any_number ∷ may Vecs any_number ∷ []; members = false }
 form Script = fixed (Mention ∷ Pattern ∷ OneOf few.Tails ∷ [])
 form Memory = fixed (OneOf few.None ∷ [])
@@ -62,8 +62,8 @@ form Sync = fixed []
 form Resize = fixed (Mention ∷ any_number ∷ [])
 
 -- the words behind the places
-abbrev pub others : Form → List (List ℕ) → List (List ℕ)
-others form words = drop (length form.places) words
+abbrev pub behind_places : Form → List (List ℕ) → List (List ℕ)
+behind_places form words = drop (length form.places) words
 
 -- the value of an option of this key
 abbrev pub value_of : Key → List ℕ → Option (List ℕ)
@@ -105,11 +105,11 @@ abbrev pub is_malformed : Form → List (List ℕ) → Bool
 is_malformed form words =
     nat_lt (length words) (length form.places)
     || list_any (λ at. is_misplaced at.0 at.1) (zip form.places words)
-    || list_any (is_strange form) (others form words)
-    || list_any (is_misset (others form words)) form.settings
+    || list_any (is_strange form) (behind_places form words)
+    || list_any (is_misset (behind_places form words)) form.settings
 
 -- some number is wrong
 abbrev pub is_misnumbered : Form → List (List ℕ) → Bool
 is_misnumbered form words =
     list_any (λ at. not (has_number at.0 at.1)) (zip form.places words)
-    || list_any (is_missized (others form words)) form.settings
+    || list_any (is_missized (behind_places form words)) form.settings

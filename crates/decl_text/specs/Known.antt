@@ -77,23 +77,23 @@ number_in devices name = unwrap_or (device_of devices name) 0
 abbrev pub device_before : List ℕ → List Declared → List ℕ → Option ℕ
 device_before suffix devices word = position (λ device. bytes_eq (device.name ++ suffix) word) devices
 
-abbrev pub bios_of : ℕ → What → Option PoolId
-bios_of number (what.Disk sectors) = None
-bios_of number _ = Some (Bios (record { 0 = number }))
+abbrev pub bios_pool_of : ℕ → What → Option PoolId
+bios_pool_of number (what.Disk sectors) = None
+bios_pool_of number _ = Some (Bios (record { 0 = number }))
 
-abbrev pub records_of : ℕ → What → Option PoolId
-records_of number (what.Mirror records) = Some (Records (record { 0 = number }))
-records_of number _ = None
+abbrev pub records_pool_of : ℕ → What → Option PoolId
+records_pool_of number (what.Mirror records) = Some (Records (record { 0 = number }))
+records_pool_of number _ = None
 
 abbrev pub pool_if : (ℕ → What → Option PoolId) → List Declared → ℕ → Option PoolId
 pool_if pool devices number = option_and_then (λ device. pool number device.what) (slice_get devices number)
 
 -- the pool with the name NAME.bios of a device over members, and that with the name NAME.records of a mirror
 abbrev pub bios_named : List Declared → List ℕ → Option PoolId
-bios_named devices word = option_and_then (pool_if bios_of devices) (device_before (codes ".bios") devices word)
+bios_named devices word = option_and_then (pool_if bios_pool_of devices) (device_before (codes ".bios") devices word)
 
 abbrev pub records_named : List Declared → List ℕ → Option PoolId
-records_named devices word = option_and_then (pool_if records_of devices) (device_before (codes ".records") devices word)
+records_named devices word = option_and_then (pool_if records_pool_of devices) (device_before (codes ".records") devices word)
 
 -- the pool with this name: `fs.bios`, `fs.vecs`, or that of a device
 unfoldable pub pool_of : List Declared → List ℕ → Option PoolId
@@ -103,16 +103,16 @@ pool_of devices word =
     else option_or (bios_named devices word) (records_named devices word))
 
 -- a device with all that is below it, over the trees of all devices before it
-abbrev pub grown : ℕ → What → List Tree → Tree
-grown number (what.Disk sectors) members = Leaf number sectors
-grown number what.Linear members = over number kind.Linear members
-grown number (what.Stripe chunk) members = over number (kind.Stripe chunk) members
-grown number (what.Zoned chunk) members = over number (kind.Zoned chunk) members
-grown number (what.Limit longest chunk) members = over number (kind.Limit longest chunk) members
-grown number (what.Mirror records) members = over number (kind.Mirror 0) members
+abbrev pub device_tree : ℕ → What → List Tree → Tree
+device_tree number (what.Disk sectors) members = Leaf number sectors
+device_tree number what.Linear members = over number kind.Linear members
+device_tree number (what.Stripe chunk) members = over number (kind.Stripe chunk) members
+device_tree number (what.Zoned chunk) members = over number (kind.Zoned chunk) members
+device_tree number (what.Limit longest chunk) members = over number (kind.Limit longest chunk) members
+device_tree number (what.Mirror records) members = over number (kind.Mirror 0) members
 
 abbrev pub tree_over : List Tree → Declared → Tree
-tree_over trees device = grown (length trees) device.what (map (λ m. slice_index_or trees m (Leaf m 0)) device.members)
+tree_over trees device = device_tree (length trees) device.what (map (λ m. slice_index_or trees m (Leaf m 0)) device.members)
 
 -- the trees of the devices, in their order
 abbrev pub trees : List Declared → List Tree

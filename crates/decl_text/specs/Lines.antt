@@ -40,5 +40,5 @@ SaysBehind known line (Err (Wrong reason)) = first_found line_checks known line 
 SaysBehind known line (Err Memory) = Unit {0}
 
 -- so it does behind all by which it stands there
-abbrev pub Says : Stand → List ℕ → Result (Option Item) LineFault → Type 0
-Says stand line result = (known : Known) → stand_of known ≡ stand → SaysBehind known line result
+abbrev pub LineSays : Stand → List ℕ → Result (Option Item) LineFault → Type 0
+LineSays stand line result = (known : Known) → stand_of known ≡ stand → SaysBehind known line result

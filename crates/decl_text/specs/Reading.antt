@@ -64,7 +64,7 @@ AreOfLines items fault = (all : List (List ℕ)) × NonePass is_work_line all ×
 abbrev pub read_lines : List ℕ → List (List ℕ)
 read_lines text = right_lines (declarations (lines text))
 
-pub record IsRead (text : List ℕ) (read : Read) : Type 0 where
+pub record IsReadDecl (text : List ℕ) (read : Read) : Type 0 where
   pub formed : record { items = read.items; fault = read.fault } ≡ formed 1 (declarations (lines text))
   pub within : read.rest ≤ length text
   pub few : read.line ≤ read.rest + 1
@@ -74,7 +74,7 @@ pub record IsRead (text : List ℕ) (read : Read) : Type 0 where
 
 -- a text is refused for its length, or these are its declarations
 abbrev pub ReadsDecl : List ℕ → Result Read ReadFault → Type 0
-ReadsDecl text (Ok read) = (length text ≤ most_bytes) × IsRead text read
+ReadsDecl text (Ok read) = (length text ≤ most_bytes) × IsReadDecl text read
 ReadsDecl text (Err (Refused refusal)) = (most_bytes < length text) × (refusal ≡ refused 0 TooLong)
 ReadsDecl text (Err Memory) = Unit {0}
 

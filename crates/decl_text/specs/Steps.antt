@@ -3,7 +3,7 @@ use Rattle.std.specs.Prelude.{◌≡◌, ◌+◌, ◌≤◌, true, false, Bool, 
 use Rattle.std.specs.Option.{option_map, option_to_list}
 use Rattle.decl_text.specs.Text.{lines}
 use Rattle.decl_text.specs.Read.{AreDeclarations, Read}
-use Rattle.decl_text.specs.Reading.{Formed, IsRead, NonePass, added, formed, declarations, is_wrong, is_work_line}
+use Rattle.decl_text.specs.Reading.{Formed, IsReadDecl, NonePass, added, formed, declarations, is_wrong, is_work_line}
 use Rattle.decl_text.specs.declared.decl.DeclParts.{DeclParts}
 use Rattle.decl_text.specs.declared.item.Item.{Item}
 
@@ -44,4 +44,4 @@ pub record IsSoFar (text : List ℕ) (read : Read) : Type 0 where
 -- more declarations may follow, or all were read
 abbrev pub Goes : Bool → List ℕ → Read → Type 0
 Goes true text read = IsSoFar text read
-Goes false text read = IsRead text read × AreDeclarations read.items
+Goes false text read = IsReadDecl text read × AreDeclarations read.items

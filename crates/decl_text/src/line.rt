@@ -4,7 +4,7 @@ ghost use Rattle.std.specs.List.{list_all};
 ghost use Rattle.decl_text.specs.Text.{IsCutAtBlank, between_blanks, is_blank, is_some_text, is_text, words, words as words_in};
 ghost use Rattle.decl_text.specs.Forms.{is_malformed, is_misnumbered};
 ghost use Rattle.decl_text.specs.Items.{begins_work, is_comment, malformed, misnumbered, said};
-ghost use Rattle.decl_text.specs.Lines.{CommandSays, Says, command_first};
+ghost use Rattle.decl_text.specs.Lines.{CommandSays, LineSays, command_first};
 
 use crate::meaning::meaning;
 use crate::wrong::{is_malformed, is_misnumbered};
@@ -81,7 +81,7 @@ impl<'a> TextLine<'a> {
     /// Where it has a byte that no text has, a wrong word, or a wrong number, in this order, or where there is no memory. A first word
     /// that may not stand there is a wrong word.
     pub fn said(&self, alloc: Global, stand: Stand) -> Result<Option<Item<'a>>, LineFault>
-        ensures { Says stand self.now result }
+        ensures { LineSays stand self.now result }
     {
         read(alloc, stand, self.bytes, &self.words)
     }
@@ -250,7 +250,7 @@ fn read<'a>(
     words: &[Word<'a>],
 ) -> Result<Option<Item<'a>>, LineFault>
     requires { words.now ≡ words_in line.now }
-    ensures { Says stand line.now result }
+    ensures { LineSays stand line.now result }
 {
     if !is_text(line) {
         return Err(LineFault::Wrong(Reason::NotText));

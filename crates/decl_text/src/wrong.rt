@@ -3,7 +3,7 @@ ghost use Rattle.std.specs.Prelude.{◌≡◌, ◌&&◌, ◌||◌, not, zip, is_
 ghost use Rattle.std.specs.List.{list_any};
 ghost use Rattle.std.specs.Str.{bytes_eq};
 ghost use Rattle.decl_text.specs.Words.{has_number, is_word, key_word};
-ghost use Rattle.decl_text.specs.Forms.{fails, form, is_malformed, is_misnumbered, is_misplaced, is_misset, is_missized, is_setting, is_strange, others, times, value_of};
+ghost use Rattle.decl_text.specs.Forms.{fails, form, is_malformed, is_misnumbered, is_misplaced, is_misset, is_missized, is_setting, is_strange, behind_places, times, value_of};
 
 use crate::form::{Key, Place, Setting};
 use crate::{Command, Word};

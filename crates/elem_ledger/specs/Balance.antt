@@ -5,10 +5,10 @@ use Rattle.atomic_table.specs.Seated.{TableId}
 use Rattle.elem_ledger.specs.declared.balance.View.{View}
 use Rattle.elem_ledger.specs.declared.balance.View.TheVariants.{Keeper, Out, Spent}
 
-abbrev pub keepers : View → ℕ
-keepers (Keeper issued redeemed) = 1
-keepers Out = 0
-keepers Spent = 0
+abbrev pub keeper_count : View → ℕ
+keeper_count (Keeper issued redeemed) = 1
+keeper_count Out = 0
+keeper_count Spent = 0
 
 abbrev pub issued_by : View → ℕ
 issued_by (Keeper issued redeemed) = issued
@@ -33,11 +33,11 @@ one_more_redeemed view = Keeper (issued_by view) (redeemed_by view + 1)
 
 -- exactly one view is a keeper's, and the difference of its numbers is how many views are shares that are out
 pub record IsBalanced (s : State (Unit {0}) View) : Type 0 where
-  pub one_keeper : sum_by keepers s.views ≡ 1
+  pub one_keeper : sum_by keeper_count s.views ≡ 1
   pub balanced : sum_by issued_by s.views ≡ sum_by redeemed_by s.views + sum_by out_by s.views
 
 -- how a ledger keeps its table: its seat is the keeper's, and its total is the difference of the keeper's numbers
-pub record IsKept (table seat : TableId) (me : Me (Unit {0}) View) (total : ℕ) : Type 0 where
+pub record IsLedgerTable (table seat : TableId) (me : Me (Unit {0}) View) (total : ℕ) : Type 0 where
   pub seated : seat ≡ table
   pub word : table.words ≡ 1
   pub empty : me.1 ≡ []

@@ -21,13 +21,13 @@ pub struct Ledger {
 
 impl Model for Ledger {
     ghost use Rattle.elem_ledger.specs.Ledger.{Account};
-    ghost use Rattle.elem_ledger.specs.Balance.{IsKept};
+    ghost use Rattle.elem_ledger.specs.Balance.{IsLedgerTable};
 
     ghost Value = { Account };
 
     ghost view = { λ l. record { id = record { table = l.table.shared.table_id; no = l.no }; total = l.total } };
 
-    ghost invariant = { λ l. IsKept l.table.shared.table_id l.keeper.table_id l.keeper.me l.total };
+    ghost invariant = { λ l. IsLedgerTable l.table.shared.table_id l.keeper.table_id l.keeper.me l.total };
 }
 
 impl Ledger {

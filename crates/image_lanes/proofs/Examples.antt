@@ -1,6 +1,6 @@
 -- The definitions at small lists.
 use Rattle.std.proofs.Common.{◌≡◌, ◌-◌, ◌^◌, ◌++◌, [], ◌∷◌, ℕ, List, replicate, refl, false}
-use Rattle.image_lanes.specs.Lanes.{counting, sum_mod, is_same, sectors, unlike_of, unlike}
+use Rattle.image_lanes.specs.Lanes.{counting, sum_mod, equal_words, sectors, unlike_of, unlike}
 
 wraps : counting (2 ^ 64 - 2) 4 ≡ 18446744073709551614 ∷ 18446744073709551615 ∷ 0 ∷ 1 ∷ []
 unfolding counting
@@ -13,7 +13,7 @@ sum_wraps = refl
 no_words : sum_mod [] ≡ 0
 no_words = refl
 
-longer_is_other : is_same (1 ∷ []) (1 ∷ 0 ∷ []) ≡ false
+longer_is_other : equal_words (1 ∷ []) (1 ∷ 0 ∷ []) ≡ false
 longer_is_other = refl
 
 one_sector : List ℕ

@@ -7,12 +7,12 @@ use Rattle.std.proofs.lemmas.List.Sums.{sum_by_push}
 use Rattle.std.proofs.lemmas.Bool.Decides.{same_from_decides, Decides-eqb}
 use Rattle.std.proofs.lemmas.Slice.Eq.{slice_eq-Decides}
 use mir.Val.{bool_byte}
-use Rattle.image_lanes.specs.Lanes.{is_same, sectors, unlike_of}
+use Rattle.image_lanes.specs.Lanes.{equal_words, sectors, unlike_of}
 
 -- a test that tells whether two lists are one is the comparison
-pub tells_same : (r : Bool) (one other : List ℕ) → Decides r (one ≡ other) → r ≡ is_same one other
+pub tells_same : (r : Bool) (one other : List ℕ) → Decides r (one ≡ other) → r ≡ equal_words one other
 tells_same r one other decides =
-    same_from_decides r (is_same one other) decides (slice_eq-Decides Decides-eqb one other (is_same one other) refl)
+    same_from_decides r (equal_words one other) decides (slice_eq-Decides Decides-eqb one other (equal_words one other) refl)
 
 -- the sectors of two lists side by side, one more of them
 pairs_more : (n : ℕ) (one other : List ℕ)
@@ -27,12 +27,12 @@ pairs_more (suc n) one other =
 
 -- and whether it differs
 pub unlike_more : (n : ℕ) (one other : List ℕ)
-    → unlike_of (n + 1) one other ≡ unlike_of n one other + cond (not (is_same (take 64 (drop (64 * n) one)) (take 64 (drop (64 * n) other)))) 1 0
+    → unlike_of (n + 1) one other ≡ unlike_of n one other + cond (not (equal_words (take 64 (drop (64 * n) one)) (take 64 (drop (64 * n) other)))) 1 0
 unfolding unlike_of
 unlike_more n one other =
     let next : n + 1 ≡ suc n = omega arith in
     rw (next, pairs_more n one other)
-    (sum_by_push (λ pair. cond (not (is_same pair.0 pair.1)) 1 0) (zip (sectors n one) (sectors n other)) (take 64 (drop (64 * n) one), take 64 (drop (64 * n) other)))
+    (sum_by_push (λ pair. cond (not (equal_words pair.0 pair.1)) 1 0) (zip (sectors n one) (sectors n other)) (take 64 (drop (64 * n) one), take 64 (drop (64 * n) other)))
 
 -- a test, as a number
 pub byte_is : (r b : Bool) → r ≡ b → (bool_byte r ≡ cond b 1 0) × (bool_byte r ≤ 1)

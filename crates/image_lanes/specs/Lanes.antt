@@ -12,8 +12,8 @@ abbrev pub sum_mod : List ℕ → ℕ
 sum_mod words = sum words % 2 ^ 64
 
 -- whether two lists of words are one
-abbrev pub is_same : List ℕ → List ℕ → Bool
-is_same = pointwise (λ one other. one == other)
+abbrev pub equal_words : List ℕ → List ℕ → Bool
+equal_words = pointwise (λ one other. one == other)
 
 -- the first sectors of a list of words, each of 64
 unfoldable pub sectors : ℕ → List ℕ → List (List ℕ)
@@ -22,7 +22,7 @@ sectors (suc count) words = take 64 words ∷ sectors count (drop 64 words)
 
 -- how many of the first sectors differ
 unfoldable pub unlike_of : ℕ → List ℕ → List ℕ → ℕ
-unlike_of count one other = count_by (λ pair. not (is_same pair.0 pair.1)) (zip (sectors count one) (sectors count other))
+unlike_of count one other = count_by (λ pair. not (equal_words pair.0 pair.1)) (zip (sectors count one) (sectors count other))
 
 -- how many sectors differ
 abbrev pub unlike : List ℕ → List ℕ → ℕ
@@ -30,7 +30,7 @@ unlike one other = unlike_of (length one / 64) one other
 
 -- whether the sectors at a place differ
 abbrev pub sectors_differ : List ℕ → List ℕ → ℕ → Bool
-sectors_differ one other place = not (is_same (take 64 (drop (64 * place) one)) (take 64 (drop (64 * place) other)))
+sectors_differ one other place = not (equal_words (take 64 (drop (64 * place) one)) (take 64 (drop (64 * place) other)))
 
 -- the first place at or behind `from` at which sectors differ, or at which they do not, or how many there are where there is none
 pub record IsFirstSector (one other : List ℕ) (from : ℕ) (differing : Bool) (place : ℕ) : Type 0 where

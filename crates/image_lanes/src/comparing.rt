@@ -1,7 +1,7 @@
 //! Which words are the same.
 ghost use Rattle.std.specs.Prelude.{◌≡◌, ◌+◌, ◌*◌, ◌/◌, ◌%◌, ◌≤◌, not, length, drop, take};
 ghost use Rattle.std.specs.Bool.{Decides};
-ghost use Rattle.image_lanes.specs.Lanes.{is_same, unlike, IsFirstSector};
+ghost use Rattle.image_lanes.specs.Lanes.{equal_words, unlike, IsFirstSector};
 
 use crate::lanes::group;
 use std::simd::prelude::*;
@@ -35,7 +35,7 @@ pub fn same(a: &[u64], b: &[u64]) -> bool
 fn is_unlike(a: &[u64], b: &[u64], place: usize) -> bool
     requires a { 64 * place + 64 ≤ length a.now }
     requires b { 64 * place + 64 ≤ length b.now }
-    ensures { result ≡ not (is_same (take 64 (drop (64 * place) a.now)) (take 64 (drop (64 * place) b.now))) }
+    ensures { result ≡ not (equal_words (take 64 (drop (64 * place) a.now)) (take 64 (drop (64 * place) b.now))) }
 {
     let start = 64 * place;
     !same(&a[start..start + 64], &b[start..start + 64])

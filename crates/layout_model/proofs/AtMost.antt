@@ -8,7 +8,7 @@ use Rattle.stack_base.specs.Mapping.{slot, head}
 use Rattle.stack_base.specs.Cutting.{next}
 use Rattle.stack_base.specs.Tree.{Tree, Leaf, Split, Mirrored, weight}
 use Rattle.layout_model.specs.Need.{begun, needed, fragments_of}
-use Rattle.layout_model.specs.Sound.{Sound, Closed}
+use Rattle.layout_model.specs.Sound.{Sound, NothingBehindMembers}
 use Rattle.layout_model.proofs.RangeSums.{sum_le, term_le_sum, sum_of_one, sum_of_two}
 use Rattle.layout_model.proofs.Begun.{needed_piece, needed_more, needed_legs, fragments_of_disk, fragments_of_piece, fragments_of_more, fragments_of_legs}
 use Rattle.layout_model.proofs.PieceInduction.{by_pieces}
@@ -28,8 +28,8 @@ choice_le true n = omega arith
 choice_le false n = omega arith
 
 -- at one sector no more begins than the device weighs
-pub begun_le_weight : (t : Tree) (r s : ℕ) → Closed t → begun t r s ≤ weight t
-unfolding Closed begun weight
+pub begun_le_weight : (t : Tree) (r s : ℕ) → NothingBehindMembers t → begun t r s ≤ weight t
+unfolding NothingBehindMembers begun weight
 begun_le_weight (Leaf number sectors) r s closed = omega arith
 begun_le_weight (Split number kind sizes members) r s closed =
     let below = begun_le_weight (members (slot kind sizes s).member) (slot kind sizes (head kind sizes r s)).at (slot kind sizes s).at (closed.1 (slot kind sizes s).member) in
@@ -44,7 +44,7 @@ begun_le_weight (Mirrored number sizes members) r s closed =
     )
 
 -- a run needs no more than what its device weighs at each of its sectors
-pub needed_le_weight : (t : Tree) (r len : ℕ) → Closed t → needed t r len ≤ weight t * len
+pub needed_le_weight : (t : Tree) (r len : ℕ) → NothingBehindMembers t → needed t r len ≤ weight t * len
 unfolding needed
 needed_le_weight t r len closed = sum_le (begun t r) r len (weight t) (λ s. begun_le_weight t r s closed)
 

@@ -10,7 +10,7 @@ use Rattle.stack_base.specs.Tree.{Tree, Split}
 use Rattle.stack_base.proofs.Pieces.{piece_len}
 use Rattle.layout_model.specs.Way.{Fits, place}
 use Rattle.layout_model.specs.Need.{needed, fragments_of}
-use Rattle.layout_model.specs.Shown.{shown}
+use Rattle.layout_model.specs.Shown.{shown_sector}
 use Rattle.layout_model.proofs.Begun.{needed_piece, needed_more, fragments_of_piece, fragments_of_more}
 
 -- a run of no sectors has no fragments
@@ -62,12 +62,12 @@ module _ (number : ℕ) (kind : Kind) (sizes : List ℕ) (members : ℕ → Tree
   place_of_piece choices = ap (λ (to : Slot). place (members to.member) to.at choices) is.place
 
   -- each sector of the piece shows what its own sector there shows
-  pub shown_of_piece : (i : ℕ) → i < piece.len → shown (Split number kind sizes members) (start + i) ≡ shown (members piece.member) (piece.at + i)
-  unfolding shown
+  pub shown_of_piece : (i : ℕ) → i < piece.len → shown_sector (Split number kind sizes members) (start + i) ≡ shown_sector (members piece.member) (piece.at + i)
+  unfolding shown_sector
   shown_of_piece i lt =
       let ends = piece_len kind sizes start len piece cut is in
       let along = cut.along start (start + i) (omega arith) (omega (arith, lt, ends)) in
-      ap (λ (to : Slot). shown (members to.member) to.at)
+      ap (λ (to : Slot). shown_sector (members to.member) to.at)
       (along
       ∙ ap (λ (to : Slot). record { member = to.member; at = to.at + (start + i - start) }) is.place
       ∙ ap (λ n. record { member = piece.member; at = piece.at + n }) (omega arith))

@@ -16,7 +16,7 @@ use Rattle.stack_base.proofs.Unfolded.{size-tree}
 use Rattle.layout_model.specs.Way.{Fits, place}
 use Rattle.layout_model.specs.Need.{needed, fragments_of}
 use Rattle.layout_model.specs.Pieces.{IsFirstRun}
-use Rattle.layout_model.specs.Shown.{shown}
+use Rattle.layout_model.specs.Shown.{shown_sector}
 use Rattle.layout_model.proofs.Over.{can_cut}
 use Rattle.layout_model.proofs.Steps.{cut_piece}
 use Rattle.layout_model.proofs.ByShape.{cuts_is, member_is}
@@ -83,9 +83,9 @@ module _ (stack : Stack) (good : IsStack stack) (number : ℕ) (device : Device)
           ap (λ t. needed t piece.at piece.len) leg,
           needed_and_more number device.kind sizes members cut start len piece is goes_on,
         );
-        shows = λ i lt. ap (λ t. shown t (start + i)) whole
+        shows = λ i lt. ap (λ t. shown_sector t (start + i)) whole
             ∙ shown_of_piece number device.kind sizes members cut start len piece is i lt
-            ∙ ap (λ t. shown t (piece.at + i)) leg;
+            ∙ ap (λ t. shown_sector t (piece.at + i)) leg;
         leads = λ choices. ap (λ t. place t start choices) whole
             ∙ place_of_piece number device.kind sizes members cut start len piece is choices
             ∙ ap (λ t. place t piece.at choices) leg;

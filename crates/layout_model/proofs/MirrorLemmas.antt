@@ -13,7 +13,7 @@ use Rattle.stack_base.specs.Stack.{IsStack}
 use Rattle.stack_base.proofs.Smallest.{smallest_le}
 use Rattle.layout_model.specs.Way.{Fits, place}
 use Rattle.layout_model.specs.Need.{needed, fragments_of}
-use Rattle.layout_model.specs.Shown.{keeps_data, shown}
+use Rattle.layout_model.specs.Shown.{keeps_data, shown_sector}
 use Rattle.layout_model.proofs.RangeSums.{sum_next}
 use Rattle.layout_model.proofs.Begun.{needed_disk, needed_legs, fragments_of_disk, fragments_of_legs}
 use Rattle.layout_model.proofs.ByShape.{copies_is, keeps_is, member_is}
@@ -107,10 +107,10 @@ module _ (stack : Stack) (good : IsStack stack) (number : ℕ) (device : Device)
       ∙ ap (λ t. place t s choices) (member_is stack good number device found choice m at_choice)
 
   -- a mirror shows its first member
-  pub leg_shown : (s : ℕ) (m : DevId) → slice_get device.members.items 0 ≡ Some m → shown (tree stack number) s ≡ shown (tree stack m.0) s
-  unfolding shown
+  pub leg_shown : (s : ℕ) (m : DevId) → slice_get device.members.items 0 ≡ Some m → shown_sector (tree stack number) s ≡ shown_sector (tree stack m.0) s
+  unfolding shown_sector
   leg_shown s m at_first =
-      ap (λ t. shown t s) (copies_is stack good number device found copies) ∙ ap (λ t. shown t s) (member_is stack good number device found 0 m at_first)
+      ap (λ t. shown_sector t s) (copies_is stack good number device found copies) ∙ ap (λ t. shown_sector t s) (member_is stack good number device found 0 m at_first)
 
 module _ (stack : Stack) (good : IsStack stack) (number : ℕ) (device : Device) (found : slice_get stack.devices.items number ≡ Some device)
     (sectors : ℕ) (keeps : shape_of device.kind ≡ Keeps sectors) where
@@ -129,9 +129,9 @@ module _ (stack : Stack) (good : IsStack stack) (number : ℕ) (device : Device)
   disk_place s choices = ap (λ t. place t s choices) (keeps_is stack good number device found sectors keeps)
 
   -- and shows itself
-  pub disk_shown : (s : ℕ) → shown (tree stack number) s ≡ record { disk = number; at = s }
-  unfolding shown
-  disk_shown s = ap (λ t. shown t s) (keeps_is stack good number device found sectors keeps)
+  pub disk_shown : (s : ℕ) → shown_sector (tree stack number) s ≡ record { disk = number; at = s }
+  unfolding shown_sector
+  disk_shown s = ap (λ t. shown_sector t s) (keeps_is stack good number device found sectors keeps)
 
   -- it is a disk
   pub disk_is : keeps_data (tree stack number) ≡ true

@@ -9,7 +9,7 @@ use Rattle.stack_base.specs.declared.stack.Kind.TheVariants.{Disk, Linear, Strip
 use Rattle.stack_base.specs.Mapping.{Slot, slot, among, size_of, whole_chunks, zones, in_zones}
 use Rattle.stack_base.specs.Cutting.{CanCut}
 use Rattle.stack_base.proofs.Members.{among-in, among-behind}
-use Rattle.stack_base.proofs.Zones.{number, chunk_forward}
+use Rattle.stack_base.proofs.Zones.{chunk_rank, chunk_forward}
 
 abbrev member_of : Slot → ℕ
 member_of to = to.member
@@ -68,7 +68,7 @@ zoned_one chunk sizes s u some lt lu same =
     let member = ap member_of same in
     let place = chunk_parts chunk (in_zones (zones counts) (s / chunk)).at (in_zones (zones counts) (u / chunk)).at s u some (ap at_of same) in
     let numbers : s / chunk ≡ u / chunk =
-    sym here.numbered ∙ ap (λ m. number counts m (in_zones (zones counts) (s / chunk)).at) member ∙ ap (number counts (in_zones (zones counts) (u / chunk)).member) place.0 ∙ there.numbered in
+    sym here.numbered ∙ ap (λ m. chunk_rank counts m (in_zones (zones counts) (s / chunk)).at) member ∙ ap (chunk_rank counts (in_zones (zones counts) (u / chunk)).member) place.0 ∙ there.numbered in
     same_parts chunk s u numbers place.1
 
 limit_one : (longest chunk : ℕ) (sizes : List ℕ) (s u : ℕ) → slot (Limit longest chunk) sizes s ≡ slot (Limit longest chunk) sizes u → s ≡ u

@@ -12,7 +12,7 @@ use Rattle.stack_base.specs.Mapping.{size_of, slot}
 use Rattle.stack_base.specs.Tree.{Split, size, shape_of, member_at, tree}
 use Rattle.stack_base.specs.Stack.{HasShape, IsStack}
 use Rattle.stack_base.proofs.Smallest.{smallest_le}
-use Rattle.layout_model.specs.Shown.{IsShownMember, ShowsFirst, shown}
+use Rattle.layout_model.specs.Shown.{IsShownMember, ShowsFirst, shown_sector}
 use Rattle.layout_model.proofs.ByShape.{cuts_is, member_is}
 use Rattle.layout_model.proofs.Chosen.{leg_known}
 use Rattle.layout_model.proofs.MirrorLemmas.{leg_shown}
@@ -29,7 +29,7 @@ has_first (Mirror records) members shape shows = shape.0
 module _ (stack : Stack) (good : IsStack stack) (number : ℕ) (device : Device) (found : slice_get stack.devices.items number ≡ Some device) where
   -- a limit is as large as its member, and each of its sectors is that of the member
   limit_is : (longest chunk : ℕ) → device.kind ≡ Limit longest chunk → (m : DevId) → slice_get device.members.items 0 ≡ Some m → IsShownMember stack number m
-  unfolding shown slot size_of
+  unfolding shown_sector slot size_of
   limit_is longest chunk limits m at_first =
       let items = device.members.items in
       let size_at = λ (m : DevId). size (tree stack m.0) in
@@ -46,7 +46,7 @@ module _ (stack : Stack) (good : IsStack stack) (number : ℕ) (device : Device)
           smallest_le (map size_at items) 0 (omega (arith, within, length-map items size_at)),
           get_or-map size_at items 0 m 0 within ∙ ap size_at (get_or_from_slice_get items 0 m m at_first),
         );
-        shows = λ s. ap (λ t. shown t s) whole ∙ ap (λ t. shown t s) (member_is stack good number device found 0 m at_first);
+        shows = λ s. ap (λ t. shown_sector t s) whole ∙ ap (λ t. shown_sector t s) (member_is stack good number device found 0 m at_first);
       }
 
   -- and a mirror as its first

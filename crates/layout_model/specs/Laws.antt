@@ -82,7 +82,7 @@ FragmentsFollow = (t : Tree) (write offset r len : ℕ) (f : Fragment) → Sound
     → (j : ℕ) → j < f.len → place t (r + (is.from + j)) is.choices ≡ record { disk = f.disk.0; at = f.at + j }
 
 -- a way's heads are those of its steps, and it ends at its sector's place
-pub record IsTold (t : Tree) (r s : ℕ) (choices : List ℕ) : Type 0 where
+pub record IsWayTold (t : Tree) (r s : ℕ) (choices : List ℕ) : Type 0 where
   pub at_steps : heads t r s choices ≡ map (λ (step : Step). step.head) (way t r s choices)
   -- the last step, and those before it
   pub before : List Step
@@ -91,7 +91,7 @@ pub record IsTold (t : Tree) (r s : ℕ) (choices : List ℕ) : Type 0 where
   pub there : place t s choices ≡ record { disk = end.device; at = end.sector }
 
 abbrev pub WaysAreTold : Type 0
-WaysAreTold = (t : Tree) (r s : ℕ) (choices : List ℕ) → IsTold t r s choices
+WaysAreTold = (t : Tree) (r s : ℕ) (choices : List ℕ) → IsWayTold t r s choices
 
 -- a plan that may end well can end with nothing else
 abbrev pub OkIsAlone : Type 0

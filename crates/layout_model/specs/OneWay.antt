@@ -11,13 +11,13 @@ abbrev pub IsTop : Stack → ℕ → Type 0
 IsTop stack number = (device place : ℕ) → IsMember stack device place number → ⊥
 
 -- two writes to one device have no sector in common
-abbrev pub AreApart : Write → Write → Type 0
-AreApart a b = a.dev.0 ≡ b.dev.0 → (a.start + a.count ≤ b.start) ⊎ (b.start + b.count ≤ a.start)
+abbrev pub DoNotOverlap : Write → Write → Type 0
+DoNotOverlap a b = a.dev.0 ≡ b.dev.0 → (a.start + a.count ≤ b.start) ⊎ (b.start + b.count ≤ a.start)
 
 -- the writes are to devices that are no members, and two of one round are apart
 pub record AreApartByRounds (stack : Stack) (writes : List Write) (rounds : List ℕ) : Type 0 where
   pub tops : All (λ (write : Write). IsTop stack write.dev.0) writes
-  pub apart : (i j : ℕ) (a b : Write) → i < j → slice_get writes i ≡ Some a → slice_get writes j ≡ Some b → round_of rounds i ≡ round_of rounds j → AreApart a b
+  pub apart : (i j : ℕ) (a b : Write) → i < j → slice_get writes i ≡ Some a → slice_get writes j ≡ Some b → round_of rounds i ≡ round_of rounds j → DoNotOverlap a b
 
 -- two ways are one: of one write, from one sector of it, by the same choices and in one fragment
 pub record AreOneWay {stack : Stack} {a b : Write} {i j disk at : ℕ} (here : Reaches stack a i disk at) (there : Reaches stack b j disk at) : Type 0 where

@@ -6,7 +6,7 @@ use Rattle.stack_base.specs.Tree.{tree, size}
 use Rattle.layout_model.specs.declared.piece.FirstRun.{FirstRun}
 use Rattle.layout_model.specs.Way.{Fits, place}
 use Rattle.layout_model.specs.Need.{needed, fragments_of}
-use Rattle.layout_model.specs.Shown.{shown}
+use Rattle.layout_model.specs.Shown.{shown_sector}
 use Rattle.layout_model.specs.Plan.{frags}
 
 -- `to` is what the first piece of the run of len sectors from start on becomes in the member that it goes to
@@ -30,7 +30,7 @@ pub record IsFirstRun (stack : Stack) (dev start len : ℕ) (to : FirstRun) : Ty
       → needed (tree stack dev) start len
       ≡ needed (tree stack to.dev.0) to.at to.len + (1 + needed (tree stack dev) (start + to.len) (len - to.len))
   -- each sector of the piece shows what its own sector there shows
-  pub shows : (i : ℕ) → i < to.len → shown (tree stack dev) (start + i) ≡ shown (tree stack to.dev.0) (to.at + i)
+  pub shows : (i : ℕ) → i < to.len → shown_sector (tree stack dev) (start + i) ≡ shown_sector (tree stack to.dev.0) (to.at + i)
   -- the way of the first sector goes on there
   pub leads : (choices : List ℕ) → place (tree stack dev) start choices ≡ place (tree stack to.dev.0) to.at choices
   pub asks : (choices : List ℕ) → Fits (tree stack dev) start choices → Fits (tree stack to.dev.0) to.at choices

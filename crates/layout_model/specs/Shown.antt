@@ -10,10 +10,10 @@ use Rattle.layout_model.specs.Way.{Place}
 use Rattle.layout_model.specs.declared.piece.FirstRun.{FirstRun}
 
 -- the sector of a disk that sector s of a device shows
-unfoldable pub shown : Tree → ℕ → Place
-shown (Leaf number sectors) s = record { disk = number; at = s }
-shown (Split number kind sizes members) s = shown (members (slot kind sizes s).member) (slot kind sizes s).at
-shown (Mirrored number sizes members) s = shown (members 0) s
+unfoldable pub shown_sector : Tree → ℕ → Place
+shown_sector (Leaf number sectors) s = record { disk = number; at = s }
+shown_sector (Split number kind sizes members) s = shown_sector (members (slot kind sizes s).member) (slot kind sizes s).at
+shown_sector (Mirrored number sizes members) s = shown_sector (members 0) s
 
 -- whether a device keeps data itself, as a disk does
 abbrev pub keeps_data : Tree → Bool
@@ -37,7 +37,7 @@ pub record IsShownMember (stack : Stack) (dev : ℕ) (member : DevId) : Type 0 w
   pub known : member.0 < length stack.devices.items
   pub inside : size (tree stack dev) ≤ size (tree stack member.0)
   -- each sector of the device shows what that sector of the member shows
-  pub shows : (s : ℕ) → shown (tree stack dev) s ≡ shown (tree stack member.0) s
+  pub shows : (s : ℕ) → shown_sector (tree stack dev) s ≡ shown_sector (tree stack member.0) s
 
 -- the first sectors of a run, as many as show sectors of one disk that follow one another
 pub record IsStretch (stack : Stack) (dev start len : ℕ) (to : FirstRun) : Type 0 where
@@ -47,4 +47,4 @@ pub record IsStretch (stack : Stack) (dev start len : ℕ) (to : FirstRun) : Typ
   pub known : to.dev.0 < length stack.devices.items
   pub disk : keeps_data (tree stack to.dev.0) ≡ true
   pub inside : to.at + to.len ≤ size (tree stack to.dev.0)
-  pub shows : (i : ℕ) → i < to.len → shown (tree stack dev) (start + i) ≡ record { disk = to.dev.0; at = to.at + i }
+  pub shows : (i : ℕ) → i < to.len → shown_sector (tree stack dev) (start + i) ≡ record { disk = to.dev.0; at = to.at + i }

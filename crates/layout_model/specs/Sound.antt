@@ -11,7 +11,7 @@ Sound (Split number kind sizes members) = IsCut (head kind sizes) (next kind siz
 Sound (Mirrored number sizes members) = (1 ≤ length sizes) × ((k : ℕ) → Sound (members k))
 
 -- behind the members there is nothing
-unfoldable pub Closed : Tree → Type 0
-Closed (Leaf number sectors) = Unit {0}
-Closed (Split number kind sizes members) = ((k : ℕ) → length sizes ≤ k → members k ≡ Leaf number 0) × ((k : ℕ) → Closed (members k))
-Closed (Mirrored number sizes members) = ((k : ℕ) → length sizes ≤ k → members k ≡ Leaf number 0) × ((k : ℕ) → Closed (members k))
+unfoldable pub NothingBehindMembers : Tree → Type 0
+NothingBehindMembers (Leaf number sectors) = Unit {0}
+NothingBehindMembers (Split number kind sizes members) = ((k : ℕ) → length sizes ≤ k → members k ≡ Leaf number 0) × ((k : ℕ) → NothingBehindMembers (members k))
+NothingBehindMembers (Mirrored number sizes members) = ((k : ℕ) → length sizes ≤ k → members k ≡ Leaf number 0) × ((k : ℕ) → NothingBehindMembers (members k))

@@ -10,6 +10,6 @@ pub record LimitNumbers : Type 0 where
   pub sectors : ℕ
 
 -- they are those of a limit, with no more sectors than all disks may have
-pub record IsKept (limit : LimitNumbers) : Type 0 where
+pub record IsLimit (limit : LimitNumbers) : Type 0 where
   pub shape : HasShape (Limit limit.longest limit.chunk) 1
   pub small : limit.sectors ≤ 262144

@@ -18,13 +18,13 @@ pub struct Limit {
 }
 
 impl Model for Limit {
-    ghost use Rattle.limit_split.specs.Numbers.{LimitNumbers, IsKept};
+    ghost use Rattle.limit_split.specs.Numbers.{LimitNumbers, IsLimit};
 
     ghost Value = { LimitNumbers };
 
     ghost view = { λ l. record { longest = l.max; chunk = l.chunk; sectors = l.size } };
 
-    ghost invariant = { λ l. IsKept (record { longest = l.max; chunk = l.chunk; sectors = l.size }) };
+    ghost invariant = { λ l. IsLimit (record { longest = l.max; chunk = l.chunk; sectors = l.size }) };
 }
 
 impl Limit {

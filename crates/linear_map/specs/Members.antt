@@ -5,6 +5,6 @@ use Rattle.stack_base.specs.Mapping.{size_of}
 use Rattle.stack_base.specs.Stack.{HasShape}
 
 -- the sizes of its members, of which there are from 1 to 8, and how many sectors these have together
-pub record IsKept (sizes : List ℕ) (sectors : ℕ) : Type 0 where
+pub record IsLinear (sizes : List ℕ) (sectors : ℕ) : Type 0 where
   pub shape : HasShape Linear (length sizes)
   pub whole : sectors ≡ size_of Linear sizes

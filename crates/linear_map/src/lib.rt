@@ -20,13 +20,13 @@ pub struct Linear {
 
 impl Model for Linear {
     ghost use Rattle.std.specs.Prelude.{ℕ, List};
-    ghost use Rattle.linear_map.specs.Members.{IsKept};
+    ghost use Rattle.linear_map.specs.Members.{IsLinear};
 
     ghost Value = { List ℕ };
 
     ghost view = { λ l. l.sizes.items };
 
-    ghost invariant = { λ l. IsKept l.sizes.items l.sectors };
+    ghost invariant = { λ l. IsLinear l.sizes.items l.sectors };
 }
 
 impl Linear {

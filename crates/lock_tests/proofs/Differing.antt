@@ -3,11 +3,11 @@ use Rattle.std.proofs.Common.{◌≡◌, ℕ, ◌+◌, List, [], ◌∷◌, ◌+
 use Rattle.std.specs.Prelude.{if◌then◌else◌, Result, Ok, IfOk}
 use Rattle.std.proofs.lemmas.List.Sums.{sum_by-append, sum_by-cons}
 use Rattle.tick_clock.specs.declared.ticking.Ticket.{Ticket}
-use Rattle.tick_clock.specs.Tickets.{PassState, hit, times, AreApart}
+use Rattle.tick_clock.specs.Tickets.{PassState, hit, ticket_count, AreApart}
 use Rattle.lock_tests.specs.Drawing.{ticket_numbers, PassHasDrawn, times_in, Differ}
 
 -- tickets of a number are counted by their numbers
-by_numbers : (x : ℕ) (ts : List Ticket) → times x ts ≡ times_in x (ticket_numbers ts)
+by_numbers : (x : ℕ) (ts : List Ticket) → ticket_count x ts ≡ times_in x (ticket_numbers ts)
 by_numbers x [] = refl
 by_numbers x (t ∷ ts) = sum_by-cons (hit x) t ts ∙ ap (λ n. hit x t + n) (by_numbers x ts) ∙ sym (sum_by-cons (λ (n : ℕ). if eqb n x then 1 else 0) t.number (ticket_numbers ts))
 

@@ -21,8 +21,8 @@ abbrev asked : Call → ℕ
 asked call = call.asked
 
 -- the number's machine
-abbrev pub Adds : ℕ → ℕ → ℕ → ℕ → Type 0
-Adds before more total after = (after ≡ (before + more) % 2 ^ 64) × (total ≡ after)
+abbrev pub AddsNumber : ℕ → ℕ → ℕ → ℕ → Type 0
+AddsNumber before more total after = (after ≡ (before + more) % 2 ^ 64) × (total ≡ after)
 
 by_one : (ns : List ℕ) (call : Call) (calls : List Call) → count call.by ns ≡ 1 → asked_for (calls_by ns (call ∷ calls)) ≡ call.asked + asked_for (calls_by ns calls)
 by_one ns call calls h = ap (λ b. asked_for (cond b (call ∷ calls_by ns calls) (calls_by ns calls))) (lt-ltb 0 (count call.by ns) (omega arith)) ∙ sum_by-cons asked call (calls_by ns calls)
@@ -58,7 +58,7 @@ two_seats n m ne (call ∷ calls) =
     omega (arith, rest, by_none (n ∷ m ∷ []) call calls (omega arith), by_none (n ∷ []) call calls one, by_none (m ∷ []) call calls other)))
 
 -- the number is what all calls have asked for
-pub adds_up : (before after : ℕ) (calls : List Call) → before < 2 ^ 64 → Leads Adds before calls after → after ≡ (before + asked_for calls) % 2 ^ 64
+pub adds_up : (before after : ℕ) (calls : List Call) → before < 2 ^ 64 → Leads AddsNumber before calls after → after ≡ (before + asked_for calls) % 2 ^ 64
 adds_up before after [] h run = grind arith
 adds_up before after (call ∷ calls) h run =
     let next = adds_up run.0 after calls (omega arith) run.2 in
@@ -66,7 +66,7 @@ adds_up before after (call ∷ calls) h run =
     next ∙ ap (λ n. (n + asked_for calls) % 2 ^ 64) run.1.0 ∙ mod-add-mod (before + call.asked) (2 ^ 64) (asked_for calls) ∙ ap (λ n. n % 2 ^ 64) (omega arith)
 
 -- a seat that has called has asked for as much more
-pub one_call : (start : ℕ) (v w : Known Number ℕ ℕ) (more told : ℕ) → Calls Adds start v more told w → SeatHasAsked v w more
+pub one_call : (start : ℕ) (v w : Known Number ℕ ℕ) (more told : ℕ) → Calls AddsNumber start v more told w → SeatHasAsked v w more
 one_call start v w more told c = record {
   rank = ap (λ (k : Known Number ℕ ℕ). k.rank) c.seen;
   joined = ap (λ (k : Known Number ℕ ℕ). k.joined) c.seen;
@@ -93,9 +93,9 @@ module _ (key : Snapshot Number) where
 
   -- so the number becomes that
   pub added_up : (v0 w0 v w u : Known Number ℕ ℕ) (a b after : ℕ) → key.value.total ≡ 0 → v0 ≡ first → w0 ≡ second → own w0 ≡ [] → SeatHasAsked v0 v a → SeatHasAsked w0 w b → HasJoined v w u → own u ≡ u.seen
-      → Leads Adds key.value.total u.seen after → after ≡ (a + b) % 2 ^ 64
+      → Leads AddsNumber key.value.total u.seen after → after ≡ (a + b) % 2 ^ 64
   added_up v0 w0 v w u a b after zero_at is is' fresh mine theirs join whole run =
       let sums = all_asked v w u a b (subst (λ k. own k ≡ []) is' fresh) (subst (λ k. SeatHasAsked k v a) is mine) (subst (λ k. SeatHasAsked k w b) is' theirs) join whole in
-      let end = adds_up 0 after u.seen (omega arith) (subst (λ n. Leads Adds n u.seen after) zero_at run) in
+      let end = adds_up 0 after u.seen (omega arith) (subst (λ n. Leads AddsNumber n u.seen after) zero_at run) in
       let same : 0 + asked_for u.seen ≡ a + b = omega (arith, sums) in
       end ∙ ap (λ n. n % 2 ^ 64) same

@@ -11,17 +11,17 @@ pub record PoolState : Type 0 where
   pub script : Answers
   pub facts : Facts
 
-pub data Move : Type 0 where
+pub data PoolMove : Type 0 where
   -- a take has an element of ordinary memory
-  takes_ordinary : Move
+  takes_ordinary : PoolMove
   -- a take has a spare
-  takes_spare : Move
+  takes_spare : PoolMove
   -- a take has neither; whether it used up an entry of the script
-  misses : (used : Bool) → Move
+  misses : (used : Bool) → PoolMove
   -- an element is given back
-  gives : Move
+  gives : PoolMove
   -- the reserve is set to another number
-  resizes : (min : ℕ) → Move
+  resizes : (min : ℕ) → PoolMove
 
 -- a pool as it is opened
 abbrev pub opened : ℕ → Answers → PoolState
@@ -71,23 +71,23 @@ was_given pool = record pool {
 }
 
 -- after the reserve was set to another number: all of it lies in the pool
-abbrev pub resized : ℕ → PoolState → PoolState
-resized min pool = record pool { facts = record pool.facts { min = min; spares = min } }
+abbrev pub was_resized : ℕ → PoolState → PoolState
+was_resized min pool = record pool { facts = record pool.facts { min = min; spares = min } }
 
 -- after a move
-abbrev pub after_move : PoolState → Move → PoolState
+abbrev pub after_move : PoolState → PoolMove → PoolState
 after_move pool takes_ordinary = took_ordinary pool
 after_move pool takes_spare = took_spare pool
 after_move pool (misses used) = missed pool
 after_move pool gives = was_given pool
-after_move pool (resizes min) = resized min pool
+after_move pool (resizes min) = was_resized min pool
 
 -- one more element can be out
 abbrev pub HasRoom : PoolState → Type 0
 HasRoom pool = pool.facts.out < 2 ^ 64 - 1
 
 -- when a move can come
-abbrev pub CanMove : PoolState → Move → Type 0
+abbrev pub CanMove : PoolState → PoolMove → Type 0
 CanMove pool takes_ordinary = IsTrue (allows_at pool.script pool.facts.pos) × HasRoom pool
 CanMove pool takes_spare = (0 < pool.facts.spares) × HasRoom pool
 CanMove pool (misses used) =
@@ -96,6 +96,6 @@ CanMove pool gives = 0 < pool.facts.out
 CanMove pool (resizes min) = pool.facts.out ≡ 0
 
 -- a move leads from one state of a pool to another
-pub record Moves (old : PoolState) (move : Move) (new : PoolState) : Type 0 where
+pub record Moves (old : PoolState) (move : PoolMove) (new : PoolState) : Type 0 where
   pub can : CanMove old move
   pub after : new ≡ after_move old move

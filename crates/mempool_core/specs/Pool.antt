@@ -5,7 +5,7 @@ use Rattle.fail_script.specs.Script.{Answers, entries_of}
 use Rattle.elem_ledger.specs.Ledger.{LedgerId}
 use Rattle.mempool_core.specs.declared.Counts.{Counts}
 use Rattle.mempool_core.specs.Facts.{AddsUp}
-use Rattle.mempool_core.specs.Move.{PoolState, Move, Moves}
+use Rattle.mempool_core.specs.Move.{PoolState, PoolMove, Moves}
 
 -- a pool: the ledger that its elements are of, its state, and the most that its reserve may be
 pub record LedgerPool : Type 0 where
@@ -14,7 +14,7 @@ pub record LedgerPool : Type 0 where
   pub most : ℕ
 
 -- a move leads from one state of a pool to another; its elements stay of the same ledger, and its reserve may be as large as before
-pub record PoolMoves (old : LedgerPool) (move : Move) (new : LedgerPool) : Type 0 where
+pub record PoolMoves (old : LedgerPool) (move : PoolMove) (new : LedgerPool) : Type 0 where
   pub moves : Moves old.state move new.state
   pub ledger : new.ledger ≡ old.ledger
   pub most : new.most ≡ old.most
@@ -40,7 +40,7 @@ state_with script counts spares out = record {
 
 -- the pool adds up; so many of its bodies are laid aside, and the others are its spares; all are clear, and there is room for the
 -- reserve beside those laid aside, so that keeping a spare takes no memory
-pub record IsKept {P : Type 0} (is_clear : P → Type 0) (state : PoolState) (aside : ℕ) (bodies : Vec (Box P)) : Type 0 where
+pub record IsSoundPool {P : Type 0} (is_clear : P → Type 0) (state : PoolState) (aside : ℕ) (bodies : Vec (Box P)) : Type 0 where
   pub adds_up : AddsUp state.facts
   pub spares : state.facts.spares + aside ≡ vec_len bodies
   pub room : state.facts.min + aside ≤ vec_capacity bodies

@@ -114,7 +114,7 @@ impl<P: Fresh + Drop> Drop for Pool<P> {
 
 impl<P: Fresh + Drop> Model for Pool<P> {
     ghost use Rattle.std.specs.Prelude.{◌+◌, ◌-◌, vec_len};
-    ghost use Rattle.mempool_core.specs.Pool.{LedgerPool, state_with, IsKept};
+    ghost use Rattle.mempool_core.specs.Pool.{LedgerPool, state_with, IsSoundPool};
 
     ghost Value = { LedgerPool };
 
@@ -125,7 +125,7 @@ impl<P: Fresh + Drop> Model for Pool<P> {
     } };
 
     ghost invariant = { λ p.
-        IsKept P.is_clear (state_with p.script p.counts (vec_len p.bodies - p.counts.aside) p.ledger.total) p.counts.aside p.bodies };
+        IsSoundPool P.is_clear (state_with p.script p.counts (vec_len p.bodies - p.counts.aside) p.ledger.total) p.counts.aside p.bodies };
 }
 
 impl<P: Fresh + Drop> Pool<P> {

@@ -12,7 +12,7 @@ pub record MirrorState : Type 0 where
   pub size : ℕ
 
 -- it has from 1 to 8 members
-pub record IsKept (members : List DevId) : Type 0 where
+pub record IsMirror (members : List DevId) : Type 0 where
   pub some : 1 ≤ length members
   pub few : length members ≤ 8
 

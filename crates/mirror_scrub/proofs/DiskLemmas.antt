@@ -11,7 +11,7 @@ use Rattle.stack_base.specs.Stack.{HasShape, IsStack}
 use Rattle.stack_base.specs.Tree.{Shape, Keeps, Cuts, Copies, shape_of, size, tree}
 use Rattle.stack_base.proofs.Inside.{IsInside, kind_inside}
 use Rattle.stack_base.proofs.Unfolded.{size-tree}
-use Rattle.layout_model.specs.Shown.{keeps_data, shown}
+use Rattle.layout_model.specs.Shown.{keeps_data, shown_sector}
 use Rattle.layout_model.specs.Way.{Place}
 use Rattle.layout_model.proofs.ByShape.{cuts_is, member_is}
 use Rattle.layout_model.proofs.Chosen.{leg_known}
@@ -27,10 +27,10 @@ pub record IsOnDisk (stack : Stack) (place : Place) : Type 0 where
 
 module _ (stack : Stack) (good : IsStack stack) where
   module _ (number : ℕ) (device : Device) (found : slice_get stack.devices.items number ≡ Some device)
-      (below : (m : DevId) → m.0 < number → (y : ℕ) → y < size (tree stack m.0) → IsOnDisk stack (shown (tree stack m.0) y))
+      (below : (m : DevId) → m.0 < number → (y : ℕ) → y < size (tree stack m.0) → IsOnDisk stack (shown_sector (tree stack m.0) y))
       (x : ℕ) (inside : x < size (tree stack number)) where
-    by_shape : (shape : Shape) → shape_of device.kind ≡ shape → IsOnDisk stack (shown (tree stack number) x)
-    unfolding shown
+    by_shape : (shape : Shape) → shape_of device.kind ≡ shape → IsOnDisk stack (shown_sector (tree stack number) x)
+    unfolding shown_sector
     by_shape (Keeps sectors) keeps =
         subst (IsOnDisk stack) (sym (disk_shown stack good number device found sectors keeps x)) (record {
           known = slice_get_within stack.devices.items number device found;
@@ -50,12 +50,12 @@ module _ (stack : Stack) (good : IsStack stack) where
         let there = slice_get-get_or items to.member (record { 0 = 0 }) (omega (arith, in_member.0, count)) in
         let wide : get_or sizes to.member 0 ≡ size (tree stack m.0) =
         get_or-map size_at items to.member (record { 0 = 0 }) 0 (omega (arith, in_member.0, count)) in
-        let on_member : IsOnDisk stack (shown (tree stack m.0) to.at) =
+        let on_member : IsOnDisk stack (shown_sector (tree stack m.0) to.at) =
         below m ((good.each number device found).below to.member m there) to.at (omega (arith, in_member.1, wide)) in
         subst (IsOnDisk stack)
         (sym
-        (ap (λ t. shown t x) (cuts_is stack good number device found cuts)
-        ∙ ap (λ t. shown t to.at) (member_is stack good number device found to.member m there)))
+        (ap (λ t. shown_sector t x) (cuts_is stack good number device found cuts)
+        ∙ ap (λ t. shown_sector t to.at) (member_is stack good number device found to.member m there)))
         on_member
     by_shape Copies copies =
         let items = device.members.items in
@@ -67,7 +67,7 @@ module _ (stack : Stack) (good : IsStack stack) where
         (below m known.0 x (omega (arith, inside, known.2)))
 
   shown_below : (bound number : ℕ) → number < bound → number < length stack.devices.items → (x : ℕ) → x < size (tree stack number)
-      → IsOnDisk stack (shown (tree stack number) x)
+      → IsOnDisk stack (shown_sector (tree stack number) x)
   shown_below zero number lt within x inside = absurd (omega (arith, lt))
   shown_below (suc bound) number lt within x inside =
       let device = element stack.devices.items number within in
@@ -75,5 +75,5 @@ module _ (stack : Stack) (good : IsStack stack) where
       (λ m under y there. shown_below bound m.0 (omega (arith, under, lt)) (omega (arith, under, within)) y there) x inside (shape_of device.0.kind) refl
 
   -- each sector that a device shows is one of a disk
-  pub shown_on_disk : (number : ℕ) → number < length stack.devices.items → (x : ℕ) → x < size (tree stack number) → IsOnDisk stack (shown (tree stack number) x)
+  pub shown_on_disk : (number : ℕ) → number < length stack.devices.items → (x : ℕ) → x < size (tree stack number) → IsOnDisk stack (shown_sector (tree stack number) x)
   shown_on_disk number within x inside = shown_below (number + 1) number (omega arith) within x inside

@@ -7,14 +7,14 @@ use Rattle.stack_base.specs.Stack.{IsStack}
 use Rattle.stack_base.specs.Tree.{Tree, Leaf, Split, Mirrored, size, tree}
 use Rattle.stack_base.specs.declared.stack.Stack.{Stack}
 use Rattle.layout_model.proofs.Stacks.{element}
-use Rattle.layout_model.specs.Shown.{IsStretch, shown}
+use Rattle.layout_model.specs.Shown.{IsStretch, shown_sector}
 use Rattle.layout_model.specs.Way.{Place}
 use Rattle.layout_model.specs.declared.piece.FirstRun.{FirstRun}
 use Rattle.model_disks.specs.Disks.{DiskState}
 use Rattle.mirror_scrub.specs.Seen.{AreDisksOf, Images, held, seen}
 
-pub seen_shown : (images : Images) (t : Tree) (s : ℕ) → seen images t s ≡ images (shown t s).disk (shown t s).at
-unfolding seen shown
+pub seen_shown : (images : Images) (t : Tree) (s : ℕ) → seen images t s ≡ images (shown_sector t s).disk (shown_sector t s).at
+unfolding seen shown_sector
 seen_shown images (Leaf number sectors) s = refl
 seen_shown images (Split number kind sizes members) s = seen_shown images (members (slot kind sizes s).member) (slot kind sizes s).at
 seen_shown images (Mirrored number sizes members) s = seen_shown images (members 0) s

@@ -3,7 +3,7 @@ use Rattle.std.proofs.Common.{◌≡◌, ◌+◌, ◌*◌, ◌-◌, ◌/◌, ◌
 use Rattle.std.specs.List.{count_by, range_with_len}
 use Rattle.std.proofs.lemmas.List.{drop-take, length-take-le, take-take}
 use Rattle.std.proofs.lemmas.List.Sums.{sum_by-cons}
-use Rattle.image_lanes.specs.Lanes.{is_same, sectors_differ, unlike, IsFirstSector}
+use Rattle.image_lanes.specs.Lanes.{equal_words, sectors_differ, unlike, IsFirstSector}
 use Rattle.mirror_scrub.specs.declared.stretch.Stretch.{Stretch}
 use Rattle.mirror_scrub.specs.Stretches.{AreWordsFrom, IsFirstUpTo, differ_at}
 use Rattle.mirror_scrub.proofs.CountLemmas.{counts_along, unlike_counts}
@@ -38,8 +38,8 @@ words_are s place one other size inside here there is whole =
           let also_at : s.there + place + i ≡ s.there + (place + i) = omega arith in
           let first = sector_before one size i kept ∙ here i (omega (arith, kept, in_one)) ∙ ap (λ n. get_or s.one.now.image n []) at in
           let second = sector_before other size i kept ∙ there i (omega (arith, kept, in_other)) ∙ ap (λ n. get_or s.other.now.image n []) also_at in
-          ap (λ ws. not (is_same ws (take 64 (drop (64 * i) (take size other))))) first
-          ∙ ap (λ ws. not (is_same (get_or s.one.now.image (s.at + (place + i)) []) ws)) second;
+          ap (λ ws. not (equal_words ws (take 64 (drop (64 * i) (take size other))))) first
+          ∙ ap (λ ws. not (equal_words (get_or s.one.now.image (s.at + (place + i)) []) ws)) second;
     }
 
 -- one sector counts as one or as none

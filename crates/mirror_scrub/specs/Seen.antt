@@ -7,7 +7,7 @@ use Rattle.stack_base.specs.Tree.{Tree, Leaf, Split, Mirrored, size, tree}
 use Rattle.stack_base.specs.declared.ids.DevId.{DevId}
 use Rattle.stack_base.specs.declared.ids.Range.{Range}
 use Rattle.stack_base.specs.declared.stack.Stack.{Stack}
-use Rattle.image_lanes.specs.Lanes.{is_same}
+use Rattle.image_lanes.specs.Lanes.{equal_words}
 use Rattle.layout_model.specs.Shown.{keeps_data}
 use Rattle.model_disks.specs.Disks.{DiskState}
 use Rattle.model_disks.specs.Runs.{IsApart, IsNextRun, runs_from}
@@ -34,7 +34,7 @@ seen images (Mirrored number sizes members) s = seen images (members 0) s
 
 -- whether two devices show different words at sector s
 abbrev pub differs : Images → Tree → Tree → ℕ → Bool
-differs images one other s = not (is_same (seen images one s) (seen images other s))
+differs images one other s = not (equal_words (seen images one s) (seen images other s))
 
 -- and whether they do, for each of so many sectors from the first on
 unfoldable pub differing : Images → Tree → Tree → ℕ → List Bool

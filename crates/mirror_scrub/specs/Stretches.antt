@@ -2,7 +2,7 @@
 use Rattle.std.specs.Prelude.{◌≡◌, ◌+◌, ◌/◌, ◌%◌, ◌<◌, ◌≤◌, not, ℕ, Bool, true, false, List, [], Option, MatchOption, length, slice_index_or}
 use Rattle.stack_base.specs.Stack.{IsStack}
 use Rattle.stack_base.specs.Tree.{size, tree}
-use Rattle.image_lanes.specs.Lanes.{is_same, sectors_differ}
+use Rattle.image_lanes.specs.Lanes.{equal_words, sectors_differ}
 use Rattle.stack_base.specs.declared.ids.Range.{Range}
 use Rattle.model_disks.specs.Runs.{IsFirst}
 use Rattle.mirror_scrub.specs.declared.pair.Pair.{Pair}
@@ -36,7 +36,7 @@ pub record LiesInDisks (s : Stretch) : Type 0 where
 -- whether the words of the sectors at this place differ
 abbrev pub differ_at : Stretch → ℕ → Bool
 differ_at s place =
-    not (is_same (slice_index_or s.one.now.image (s.at + place) []) (slice_index_or s.other.now.image (s.there + place) []))
+    not (equal_words (slice_index_or s.one.now.image (s.at + place) []) (slice_index_or s.other.now.image (s.there + place) []))
 
 -- the words of the sectors of the stretch from a place on, as many on one disk as on the other
 pub record AreWordsFrom (s : Stretch) (place : ℕ) (one other : List ℕ) : Type 0 where

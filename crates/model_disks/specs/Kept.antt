@@ -21,7 +21,7 @@ abbrev pub IsWithin : ℕ → Item Pad → Type 0
 IsWithin sectors item = item.bio.range.start + item.bio.range.len ≤ sectors
 
 -- what holds at any time of the bad ranges of a disk of so many sectors and of the bios that wait in it
-pub record IsKept (sectors : ℕ) (bads : List Bad) (items : List (Item Pad)) : Type 0 where
+pub record IsSoundDisk (sectors : ℕ) (bads : List Bad) (items : List (Item Pad)) : Type 0 where
   pub size : sectors < 2 ^ 64
   pub bad : All (IsBadRange sectors) bads
   pub pending : All (IsWithin sectors) items

@@ -13,8 +13,8 @@ use Rattle.bio_records.specs.Items.{Item}
 use Rattle.model_disks.specs.Disks.{DiskState}
 
 -- a new disk: its sectors are zeros, and no bio waits
-abbrev pub opened : DevId → ℕ → List Bad → DiskState
-opened dev sectors bad = record { dev = dev; bad = bad; image = replicate sectors zero_sector; pending = [] }
+abbrev pub blank_disk : DevId → ℕ → List Bad → DiskState
+blank_disk dev sectors bad = record { dev = dev; bad = bad; image = replicate sectors zero_sector; pending = [] }
 
 -- a disk after one more bio was pushed
 abbrev pub pushed : Item Pad → DiskState → DiskState

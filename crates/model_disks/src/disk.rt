@@ -37,13 +37,13 @@ impl Drop for Disk {
 impl Model for Disk {
     ghost use Rattle.std.specs.Prelude.{length};
     ghost use Rattle.model_disks.specs.Disks.{DiskState};
-    ghost use Rattle.model_disks.specs.Kept.{IsKept};
+    ghost use Rattle.model_disks.specs.Kept.{IsSoundDisk};
 
     ghost Value = { DiskState };
 
     ghost view = { λ d. record { dev = d.dev; bad = d.bad.items; image = d.image; pending = d.pending } };
 
-    ghost invariant = { λ d. IsKept (length d.image) d.bad.items d.pending };
+    ghost invariant = { λ d. IsSoundDisk (length d.image) d.bad.items d.pending };
 }
 
 /// A bio that a disk is done with. It is not dropped by hand, as a disk is: callers take it apart, and a type with a drop of its own is taken
@@ -64,7 +64,7 @@ impl Disk {
     ghost use Rattle.stack_base.specs.Words.{is_written, zero_sector};
     ghost use Rattle.bio_records.specs.Items.{item_of, plain_of, IsAlone};
     ghost use Rattle.model_disks.specs.Disks.{IsBadRange, sum_of_words};
-    ghost use Rattle.model_disks.specs.Moves.{opened, pushed, Completes};
+    ghost use Rattle.model_disks.specs.Moves.{blank_disk, pushed, Completes};
     ghost use Rattle.model_disks.specs.Runs.{EndsInWord, IsApart, IsNextRun};
     ghost use Rattle.model_disks.specs.contracts.disk.Disk.{the_row};
 
@@ -76,7 +76,7 @@ impl Disk {
     /// Where there is no memory for the image, for the bad ranges or for the first bios that wait.
     pub fn open(alloc: Global, dev: DevId, sectors: u64, bad: &[Bad]) -> Result<Disk, AllocError>
         requires { All (IsBadRange sectors) bad.now }
-        ensures { IfOk result (λ disk. disk ≡ opened dev sectors bad.now) }
+        ensures { IfOk result (λ disk. disk ≡ blank_disk dev sectors bad.now) }
     {
         Ok(Disk {
             dev,

@@ -16,9 +16,9 @@ pub struct Waiting<'a> {
 
 impl<'a> Model for Waiting<'a> {
     ghost use Rattle.std.specs.Prelude.{◌++◌, List, map};
-    ghost use Rattle.bio_records.specs.Items.{item_of, plain_of, Plain};
+    ghost use Rattle.bio_records.specs.Items.{item_of, plain_of, PlainBio};
 
-    ghost Value = { List Plain };
+    ghost Value = { List PlainBio };
 
     ghost view = { λ w. map plain_of (map item_of w.window.now) ++ w.rest };
 }

@@ -14,7 +14,7 @@ use Rattle.seat_lock.specs.declared.view.View.{View}
 use Rattle.seat_lock.specs.History.{Leads}
 use Rattle.seat_lock.specs.Turning.{IsTurning}
 use Rattle.mempool_core.specs.Facts.{AddsUp}
-use Rattle.mempool_core.specs.Move.{Move}
+use Rattle.mempool_core.specs.Move.{PoolMove}
 use Rattle.mempool_core.specs.Pool.{LedgerPool, PoolMoves}
 use Rattle.mempool_core.proofs.MoveLemmas.{moves_keep_adds_up}
 use Rattle.run_machine.specs.declared.event.Got.{Got}
@@ -25,7 +25,7 @@ use Rattle.bio_records.specs.Rescue.{Rescue}
 use Rattle.model_disks.specs.Disks.{DiskState}
 use Rattle.task_core.specs.Plains.{Advances}
 use Rattle.task_core.specs.Resizing.{Resizes}
-use Rattle.object_things.specs.Stamps.{Held, MarkState, ThingState, Told, StepOf, Answers, thing_state}
+use Rattle.object_things.specs.Stamps.{Held, MarkState, ThingState, Told, StepOf, ThingAnswers, thing_state}
 use Rattle.object_things.specs.Histories.{Call}
 use Rattle.object_things.specs.Homes.{AddsUpAtHome, PoolAddsUp, ListAddsUp, DiskAddsUp, TallyAddsUp, punted_by_call, popped_by_call, pushes, completions, dones}
 use Rattle.object_things.specs.Pools.{PoolServes, PoolLooks, HasOne, Undone}
@@ -36,7 +36,7 @@ use Rattle.object_things.specs.Tallies.{TallyServes, TallyLooks}
 module _ {O : Type 0} (mark : Held O → MarkState) (serves : O → Request → Reply → O → Type 0) (looks : ThingState O → Request → Reply → ThingState O → Type 0) (adds_up : O → List Call → O → Type 0)
     (still : (object : O) → adds_up object [] object)
     (one : (old mid : ThingState O) (call : Call) (ticket : Option ℕ) (new : O) (rest : List Call) → StepOf serves looks old call.asked call.told.reply ticket mid → adds_up mid.object rest new → adds_up old.object (call ∷ rest) new) where
-  along : (old new : ThingState O) (history : List Call) → Leads (Answers serves looks) old history new → adds_up old.object history new.object
+  along : (old new : ThingState O) (history : List Call) → Leads (ThingAnswers serves looks) old history new → adds_up old.object history new.object
   along old new [] l = subst (λ (k : ThingState O). adds_up old.object [] k.object) l (still old.object)
   along old new (c ∷ cs) l = one old l.0 c c.told.drawn new.object cs l.1.step (along l.0 new cs l.2)
 
@@ -45,7 +45,7 @@ module _ {O : Type 0} (mark : Held O → MarkState) (serves : O → Request → 
   homes_tail (x ∷ xs) d = x
 
   at_home : (key : Snapshot (Held O)) (table : State (Held O) (View (Held O) Request Told)) (kept : Held O)
-      → (turning : IsTurning (λ held. thing_state held.object held.stamp) mark (Answers serves looks) key table) → table.homes ≡ some kept ∷ [] → adds_up key.value.object turning.log kept.object
+      → (turning : IsTurning (λ held. thing_state held.object held.stamp) mark (ThingAnswers serves looks) key table) → table.homes ≡ some kept ∷ [] → adds_up key.value.object turning.log kept.object
   at_home key table kept turning home = ⊎_elim
       (λ p. let same : p.0 ≡ kept = some-injective p.0 kept (ap (λ hs. homes_tail hs none) (sym p.1 ∙ home)) in
       subst (λ (k : Held O). adds_up key.value.object turning.log k.object) same
@@ -53,11 +53,11 @@ module _ {O : Type 0} (mark : Held O → MarkState) (serves : O → Request → 
       (λ p. absurd (some-ne-none kept (ap (λ hs. homes_tail hs (some kept)) (sym home ∙ p.0))))
       turning.place
 
-  pub adds_up_at_home : AddsUpAtHome mark (Answers serves looks) adds_up
+  pub adds_up_at_home : AddsUpAtHome mark (ThingAnswers serves looks) adds_up
   adds_up_at_home = record { along = along; at_home = at_home }
 
 -- pools
-moved : {old new : LedgerPool} {move : Move} (history : List Call) → PoolMoves old move new → PoolAddsUp old history new
+moved : {old new : LedgerPool} {move : PoolMove} (history : List Call) → PoolMoves old move new → PoolAddsUp old history new
 moved history moves = record { adds_up = moves_keep_adds_up moves.moves; ledger = moves.ledger; most = moves.most }
 
 then : {old mid new : LedgerPool} (first second both : List Call) → PoolAddsUp old first mid → PoolAddsUp mid second new → PoolAddsUp old both new

@@ -11,7 +11,7 @@ use Rattle.bio_records.specs.declared.bio.Pad.{Pad}
 use Rattle.bio_records.specs.Items.{Item}
 use Rattle.bio_books.specs.Books.{BookState, Node, SlipItem, node_at, top_node, child_node, master_node, leg_node, keeping, raised, lowered, told}
 use Rattle.bio_books.specs.Links.{Linked, Made, NoRoom, Stray, ChainsAt, MastersAt, LegsAt}
-use Rattle.bio_books.specs.Drops.{Ended, DropsAt}
+use Rattle.bio_books.specs.Drops.{DropOutcome, DropsAt}
 use Rattle.bio_books.specs.Drops as end
 use Rattle.run_machine.specs.Requests.{Request, Reply, Opening, Write, Chain, Master, Leg, Link, Drop, LinkedTo, DroppedTo, Spent}
 use Rattle.run_machine.specs.Objects.{Opened}
@@ -128,7 +128,7 @@ remains old new place was now at is = subst (Counts old 0 0) (sym is) (record {
   writer = refl;
 })
 
-dropped : (writer : ℕ) (old : BookState) (place : ℕ) (found : Option Node) (status : Status) (part : Option (Item Pad)) (ended : Ended) (new : BookState) → node_at old place ≡ found
+dropped : (writer : ℕ) (old : BookState) (place : ℕ) (found : Option Node) (status : Status) (part : Option (Item Pad)) (ended : DropOutcome) (new : BookState) → node_at old place ≡ found
     → DropsAt old place found status part ended new → Counts old 0 (closings (Drop writer place status part) (DroppedTo ended)) new
 dropped writer old place (Some node) status part end.Left new at s = remains old new place node (lowered (told node status part)) at s.1
 dropped writer old place (Some node) status part (end.Up closed) new at s = closes old new place node at s.3

@@ -15,7 +15,7 @@ use Rattle.object_things.specs.declared.book.BookAsk.{BookAsk}
 use Rattle.object_things.specs.declared.book.BookAsk.TheVariants as ask
 use Rattle.object_things.specs.declared.book.BookSaid.{BookSaid}
 use Rattle.object_things.specs.declared.book.BookSaid.TheVariants as said
-use Rattle.object_things.specs.Stamps.{Held, MarkState, mark_of, Told, ThingState, Answers, PassBy, FindsNone, stage_in, is_spent, StampState, thing_state}
+use Rattle.object_things.specs.Stamps.{Held, MarkState, mark_of, Told, ThingState, ThingAnswers, PassBy, FindsNone, stage_in, is_spent, StampState, thing_state}
 
 abbrev pub book_asked : BookAsk → Request
 book_asked (ask.Link writer asked) = Link writer (opening_of asked)
@@ -40,7 +40,7 @@ BookLooks old (Drop writer node status part) Spent new = FindsNone old new
 BookLooks old request reply new = ⊥
 
 abbrev pub BookAnswers : ThingState BookState → Request → Told → ThingState BookState → Type 0
-BookAnswers = Answers BookServes BookLooks
+BookAnswers = ThingAnswers BookServes BookLooks
 
 -- the same of a book with its stamp, which gave this reply
 abbrev pub BookReplies : BookState → StampState → Request → Replied BookSaid → BookState → StampState → Type 0

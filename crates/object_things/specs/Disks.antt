@@ -19,7 +19,7 @@ use Rattle.object_things.specs.declared.disk.DiskAsk.{DiskAsk}
 use Rattle.object_things.specs.declared.disk.DiskAsk.TheVariants as ask
 use Rattle.object_things.specs.declared.disk.DiskSaid.{DiskSaid}
 use Rattle.object_things.specs.declared.disk.DiskSaid.TheVariants as said
-use Rattle.object_things.specs.Stamps.{Held, MarkState, mark_of, Told, ThingState, Answers, PassBy, FindsNone, OnlyLooks, stage_in, is_spent, StampState, or_unmade, thing_state}
+use Rattle.object_things.specs.Stamps.{Held, MarkState, mark_of, Told, ThingState, ThingAnswers, PassBy, FindsNone, OnlyLooks, stage_in, is_spent, StampState, or_unmade, thing_state}
 
 -- a look at a disk asks to complete, too: it is told how many bios wait, and nothing is completed
 abbrev pub disk_asked : DiskAsk → Request
@@ -53,7 +53,7 @@ DiskLooks old (Complete disk) Spent new = FindsNone old new
 DiskLooks old request reply new = ⊥
 
 abbrev pub DiskAnswers : ThingState DiskState → Request → Told → ThingState DiskState → Type 0
-DiskAnswers = Answers DiskServes DiskLooks
+DiskAnswers = ThingAnswers DiskServes DiskLooks
 
 -- the same of a disk with its stamp, which gave this reply
 abbrev pub DiskReplies : DiskState → StampState → Request → Replied DiskSaid → DiskState → StampState → Type 0

@@ -15,7 +15,7 @@ use Rattle.object_things.specs.declared.list.ListAsk.{ListAsk}
 use Rattle.object_things.specs.declared.list.ListAsk.TheVariants as ask
 use Rattle.object_things.specs.declared.list.ListSaid.{ListSaid}
 use Rattle.object_things.specs.declared.list.ListSaid.TheVariants as said
-use Rattle.object_things.specs.Stamps.{Held, MarkState, mark_of, Told, ThingState, Answers, PassBy, FindsNone, OnlyLooks, stage_in, is_spent, StampState, or_unmade, thing_state}
+use Rattle.object_things.specs.Stamps.{Held, MarkState, mark_of, Told, ThingState, ThingAnswers, PassBy, FindsNone, OnlyLooks, stage_in, is_spent, StampState, or_unmade, thing_state}
 
 abbrev pub list_asked : ListAsk → Request
 list_asked (ask.Punt dev moved) = Punt dev moved
@@ -45,7 +45,7 @@ ListLooks old (Pop dev) Spent new = FindsNone old new
 ListLooks old request reply new = ⊥
 
 abbrev pub ListAnswers : ThingState Rescue → Request → Told → ThingState Rescue → Type 0
-ListAnswers = Answers ListServes ListLooks
+ListAnswers = ThingAnswers ListServes ListLooks
 
 -- the same of a list with its stamp, which gave this reply
 abbrev pub ListReplies : Rescue → StampState → Request → Replied ListSaid → Rescue → StampState → Type 0

@@ -27,7 +27,7 @@ use Rattle.object_things.specs.declared.pool.PoolAsk.{PoolAsk}
 use Rattle.object_things.specs.declared.pool.PoolAsk.TheVariants as ask
 use Rattle.object_things.specs.declared.pool.PoolSaid.{PoolSaid}
 use Rattle.object_things.specs.declared.pool.PoolSaid.TheVariants as said
-use Rattle.object_things.specs.Stamps.{Held, MarkState, mark_of, Told, ThingState, Answers, PassBy, FindsNone, stage_in, is_spent, StampState, or_unmade, thing_state}
+use Rattle.object_things.specs.Stamps.{Held, MarkState, mark_of, Told, ThingState, ThingAnswers, PassBy, FindsNone, stage_in, is_spent, StampState, or_unmade, thing_state}
 
 -- a pool of the stage: its elements are of the ledger that the stage has for its number, and its reserve may be as large
 pub record IsPoolOf (stage : Stage) (pool : LedgerPool) : Type 0 where
@@ -131,7 +131,7 @@ PoolLooks old (Resize pool min) Spent new = FindsNone old new
 PoolLooks old request reply new = ⊥
 
 abbrev pub PoolAnswers : ThingState LedgerPool → Request → Told → ThingState LedgerPool → Type 0
-PoolAnswers = Answers PoolServes PoolLooks
+PoolAnswers = ThingAnswers PoolServes PoolLooks
 
 -- the same of a pool with its stamp, which gave this reply
 abbrev pub PoolReplies : {P : Type 0} → LedgerPool → StampState → Request → Replied (PoolSaid P) → LedgerPool → StampState → Type 0

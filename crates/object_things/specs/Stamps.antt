@@ -105,7 +105,7 @@ module _ {O : Type 0} (serves : O → Request → Reply → O → Type 0) (looks
 
   -- The machine of a thing: what is served draws a ticket above all that the note had seen, and anything else is a look. The entry carries what was
   -- drawn, where the call is an event.
-  pub record Answers (old : ThingState O) (asked : Request) (told : Told) (new : ThingState O) : Type 0 where
+  pub record ThingAnswers (old : ThingState O) (asked : Request) (told : Told) (new : ThingState O) : Type 0 where
     pub note : told.note ≡ old.note
     pub drew : told.drew ≡ not old.spent
     pub step : StepOf old asked told.reply told.drawn new

@@ -2,7 +2,7 @@
 ghost use Rattle.std.specs.Prelude.{◌≡◌, ℕ, Some};
 ghost use Rattle.task_steps.specs.declared.objects.Unmade.TheVariants as unmade;
 ghost use Rattle.stack_base.specs.declared.ids.Status.{Status};
-ghost use Rattle.bio_books.specs.Views.{bio_of, ended_of, linked_of, IsAlonePart};
+ghost use Rattle.bio_books.specs.Views.{bio_of, drop_outcome_of, linked_of, IsAlonePart};
 ghost use Rattle.task_core.specs.ObjectsOf.{IsBookOf};
 ghost use Rattle.run_machine.specs.Events.{drop_of, link_of};
 ghost use Rattle.run_machine.specs.Requests.{Opening, Link as LinkOf, Drop as DropOf};
@@ -234,7 +234,7 @@ fn drop_one(
 // The ticket that the entry of a drop carries: none where the drop was refused.
 #[inline(always)] // as `serve`
 fn drop_ticket(dropped: &Dropped, number: u64) -> Option<u64>
-    ensures { (writer node : ℕ) (status : Status) → result ≡ carried (drop_of writer node status (ended_of dropped.now)) (Some number) }
+    ensures { (writer node : ℕ) (status : Status) → result ≡ carried (drop_of writer node status (drop_outcome_of dropped.now)) (Some number) }
 {
     match dropped {
         Dropped::Left | Dropped::Up(_) | Dropped::Top(_) => Some(number),

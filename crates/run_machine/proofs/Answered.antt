@@ -11,7 +11,7 @@ use Rattle.bio_records.specs.declared.bio.Pad.{Pad}
 use Rattle.bio_records.specs.Items.{Item}
 use Rattle.bio_books.specs.Books.{SlipItem, Node, BookState, node_at}
 use Rattle.bio_books.specs.Links.{Linked, Made, NoRoom, Stray, ChainsAt, MastersAt, LegsAt}
-use Rattle.bio_books.specs.Drops.{Ended, DropsAt}
+use Rattle.bio_books.specs.Drops.{DropOutcome, DropsAt}
 use Rattle.bio_books.specs.Drops as end
 use Rattle.run_machine.specs.declared.event.What.{What}
 use Rattle.run_machine.specs.declared.event.What.TheVariants as what
@@ -81,7 +81,7 @@ one_had old new other number Spare a b = a.1 ∙ sym b.1
 one_had old new other number got.Missed a b = absurd a
 
 -- a node that is told of an end closes or waits, as the event tells
-one_end : (old : BookState) (writer place : ℕ) (at : Option Node) (ending : Status) (part : Option (Item Pad)) (first second : Ended) (new other : BookState)
+one_end : (old : BookState) (writer place : ℕ) (at : Option Node) (ending : Status) (part : Option (Item Pad)) (first second : DropOutcome) (new other : BookState)
     → drop_of writer place ending first ≡ drop_of writer place ending second
     → DropsAt old place at ending part first new → DropsAt old place at ending part second other → first ≡ second
 -- the node waits for others
@@ -110,7 +110,7 @@ one_end old writer place None ending part end.Left second new other is a b = abs
 one_end old writer place None ending part (end.Up closed) second new other is a b = absurd a
 one_end old writer place None ending part (end.Top closed) second new other is a b = absurd a
 
-one_dropped : (old : BookState) (place : ℕ) (at : Option Node) (ending : Status) (part : Option (Item Pad)) (ended : Ended) (new other : BookState)
+one_dropped : (old : BookState) (place : ℕ) (at : Option Node) (ending : Status) (part : Option (Item Pad)) (ended : DropOutcome) (new other : BookState)
     → DropsAt old place at ending part ended new → DropsAt old place at ending part ended other → new ≡ other
 -- an open node waits for others, or closes
 one_dropped old place (Some node) ending part end.Left new other a b = a.1 ∙ sym b.1

@@ -9,7 +9,7 @@ use Rattle.run_machine.specs.Submissions.{rests}
 use Rattle.run_machine.specs.Tasks.{TaskState, Writer, Rescuer, Completer, Duty, NoBio, Empty}
 use Rattle.run_machine.specs.Events.{id_of}
 use Rattle.run_machine.specs.Opened.{Scenario, scene, start, tasks as opened_tasks, todos, todos_of, is_by, writers, duties, keepers, no_task, setup as setup_in, at as device_at}
-use Rattle.run_machine.specs.OneState.{AreApart, RunsLeadToOneState}
+use Rattle.run_machine.specs.OneState.{TaskNamesDiffer, RunsLeadToOneState}
 use Rattle.run_machine.proofs.OneState.{runs, same_replies, stay}
 
 -- names as numbers, where there are so many devices
@@ -110,7 +110,7 @@ module _ (s : Scenario) where
       (of_range count (8 + count) (λ dev. Completer (device_at dev) Empty) (λ d. refl) (is_disk (setup_in s)) 0 count))
       (of_keepers count (duties s))))
 
-  pub start_apart : (ledger : ℕ → LedgerId) → AreApart (scene s ledger) (start s)
+  pub start_apart : (ledger : ℕ → LedgerId) → TaskNamesDiffer (scene s ledger) (start s)
   start_apart ledger i j few less is = apart_in count 0 (8 + count + count + 1) (opened_tasks s) rise i j few less (ap (slot count) is)
 
 pub runs_lead_to_one_state : RunsLeadToOneState

@@ -24,7 +24,7 @@ abbrev pub objects_by : Setup → (PoolId → ℕ) → List (PoolId × Answers) 
 objects_by setup reserve scripts tally = record {
   pool = λ number. opened (reserve (pool_of number)) (script_at scripts number);
   rescue = λ dev. [];
-  disk = λ dev. disk.opened (at dev) (size (setup.tree dev)) [];
+  disk = λ dev. disk.blank_disk (at dev) (size (setup.tree dev)) [];
   book = λ writer. record { writer = writer; nodes = replicate (setup.places writer) None };
   tally = tally;
 }
@@ -81,7 +81,7 @@ module _ (setup : Setup) (reserve : PoolId → ℕ) (tally : TallyState) (s : Sc
     objects_are = λ k. record {
       pool = λ number. opened (is.reserve_is (pool_of number) k) (script_at s.scripts number);
       rescue = λ dev. [];
-      disk = λ dev. disk.opened (at dev) (size (is.tree_is dev k)) (is.bads_are dev k);
+      disk = λ dev. disk.blank_disk (at dev) (size (is.tree_is dev k)) (is.bads_are dev k);
       book = λ writer. record { writer = writer; nodes = replicate (is.places_are writer k) None };
       tally = is.tally_is k;
     }

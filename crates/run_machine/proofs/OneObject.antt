@@ -2,7 +2,7 @@
 use Rattle.std.proofs.Common.{◌≡◌, ◌==◌, ◌+◌, ◌<◌, ◌++◌, if◌then◌else◌, ℕ, Bool, true, false, ◌∷◌, length, Option, None, Some, refl, sym, ap, subst, ◌∙◌}
 use Rattle.std.specs.Prelude.{sum}
 use Rattle.elem_ledger.specs.Ledger.{LedgerId}
-use Rattle.mempool_core.specs.Move.{Move, takes_ordinary, takes_spare, misses, gives, resizes, CanMove, after_move}
+use Rattle.mempool_core.specs.Move.{PoolMove, takes_ordinary, takes_spare, misses, gives, resizes, CanMove, after_move}
 use Rattle.model_disks.specs.Moves.{pushed, Completes}
 use Rattle.bio_books.specs.Drops.{Drops}
 use Rattle.run_machine.specs.declared.event.Event.{Event}
@@ -13,15 +13,15 @@ use Rattle.run_machine.specs.Maps.{upd}
 use Rattle.run_machine.specs.Scene.{Scene}
 use Rattle.run_machine.specs.Requests.{Request, Reply, TakeBio, TakeVec, TakeSlip, GiveBio, GiveVec, GiveSlip, Punt, Pop, Push, Complete, Link, Drop, Done, Resize, NextRound, LookRound, LookLeft, HadBio, HadVec, HadSlip, Missed, Did, Popped, Completed, LinkedTo, DroppedTo, OutIs, Present, LeftOver, Nothing}
 use Rattle.run_machine.specs.Tasks.{TaskState, request, look_of, answered}
-use Rattle.run_machine.specs.Objects.{Objects, TallyState, PoolMoves, Has, Opened, Serves, done_one}
+use Rattle.run_machine.specs.Objects.{Objects, TallyState, MovesPool, Has, Opened, Serves, done_one}
 use Rattle.run_machine.specs.Events.{id_of, what_of}
 use Rattle.run_machine.specs.Runs.{State, IsLet, Steps}
 use Rattle.run_machine.specs.Laws.{Object, OfBook, OfNone, OfPool, OfRescuer, OfDisk, OfTally, with_object, object_of, AgreeAt, AgreeAtLook, OneObjectDecides, with_step}
 use Rattle.run_machine.proofs.Frames.{upd_same, upd_own}
 
 -- a pool that is alike makes the same move
-moves_too : (old new other : Objects) (number : ℕ) (move : Move) → old.pool number ≡ other.pool number
-    → PoolMoves old number move new → PoolMoves other number move (with_object other new (OfPool number))
+moves_too : (old new other : Objects) (number : ℕ) (move : PoolMove) → old.pool number ≡ other.pool number
+    → MovesPool old number move new → MovesPool other number move (with_object other new (OfPool number))
 moves_too old new other number move same moves =
     let at : new.pool number ≡ after_move (other.pool number) move =
     ap (λ o. o.pool number) moves.1 ∙ upd_same old.pool number _ ∙ ap (λ p. after_move p move) same in

@@ -15,7 +15,7 @@ use Rattle.run_machine.specs.Events.{id_of}
 use Rattle.run_machine.specs.declared.event.TaskId.TheVariants as id
 use Rattle.stack_base.specs.declared.ids.DevId.{DevId}
 use Rattle.run_machine.specs.Runs.{State, Steps, Happens, IsRun}
-use Rattle.run_machine.specs.OneState.{AreApart, replies, EventsLeadToOneState}
+use Rattle.run_machine.specs.OneState.{TaskNamesDiffer, replies, EventsLeadToOneState}
 use Rattle.run_machine.proofs.Frames.{upd_same, upd_other}
 use Rattle.run_machine.proofs.Answered.{one_reply, one_served}
 
@@ -71,7 +71,7 @@ reply_at : (scene : Scene) (old new other : State) (place again : ℕ) (event : 
 reply_at scene old new other place again event is a =
     subst (λ at. (b : Steps scene old at event other) → a.reply ≡ b.reply) is (reply_one scene old new other place event a)
 
-pub one : (scene : Scene) (old new other : State) (event : Event) → AreApart scene old → Happens scene old event new → Happens scene old event other → new ≡ other
+pub one : (scene : Scene) (old new other : State) (event : Event) → TaskNamesDiffer scene old → Happens scene old event new → Happens scene old event other → new ≡ other
 one scene old new other event apart (place, a) (again, b) =
     let same = apart again place b.here a.here (sym b.by ∙ a.by) in
     steps_one scene old new other place event a (subst (λ at. Steps scene old at event other) same b)
@@ -93,17 +93,17 @@ names scene old new place event a at = by_test (at == place) refl
         ∙ id_stays scene.setup (old.task place) a.reply ∙ ap (λ i. id_of (old.task i)) (sym e)
     by_test false is = ap (λ f. id_of (f at)) a.goes_on ∙ ap id_of (upd_other old.task place _ at (not_here at place is))
 
-stays_apart : (scene : Scene) (old new : State) (event : Event) → AreApart scene old → Happens scene old event new → AreApart scene new
+stays_apart : (scene : Scene) (old new : State) (event : Event) → TaskNamesDiffer scene old → Happens scene old event new → TaskNamesDiffer scene new
 stays_apart scene old new event apart (place, a) = λ i j here there is.
     apart i j here there (sym (names scene old new place event a i) ∙ is ∙ names scene old new place event a j)
 
-pub runs : (scene : Scene) (old new other : State) (events : List Event) → AreApart scene old → IsRun scene old events new → IsRun scene old events other → new ≡ other
+pub runs : (scene : Scene) (old new other : State) (events : List Event) → TaskNamesDiffer scene old → IsRun scene old events new → IsRun scene old events other → new ≡ other
 runs scene old new other [] apart a b = a ∙ sym b
 runs scene old new other (event ∷ events) apart (next, first, rest) (again, second, others) =
     let same = one scene old again next event apart second first in
     runs scene next new other events (stays_apart scene old next event apart first) rest (subst (λ state. IsRun scene state events other) same others)
 
-pub same_replies : (scene : Scene) (old new other : State) (events : List Event) → AreApart scene old
+pub same_replies : (scene : Scene) (old new other : State) (events : List Event) → TaskNamesDiffer scene old
     → (run : IsRun scene old events new) (again : IsRun scene old events other) → replies scene old events new run ≡ replies scene old events other again
 same_replies scene old new other [] apart run again = refl
 same_replies scene old new other (event ∷ events) apart (next, (place, a), rest) (following, (at, b), others) =
@@ -114,8 +114,8 @@ same_replies scene old new other (event ∷ events) apart (next, (place, a), res
     (same_replies scene next new other events (stays_apart scene old next event apart (place, a)) rest) others in
     λ k. first k ∷ later k
 
-pub stay : (scene : Scene) (old new : State) (events : List Event) → AreApart scene old → IsRun scene old events new → AreApart scene new
-stay scene old new [] apart run = subst (AreApart scene) (sym run) apart
+pub stay : (scene : Scene) (old new : State) (events : List Event) → TaskNamesDiffer scene old → IsRun scene old events new → TaskNamesDiffer scene new
+stay scene old new [] apart run = subst (TaskNamesDiffer scene) (sym run) apart
 stay scene old new (event ∷ events) apart (next, first, rest) = stay scene next new events (stays_apart scene old next event apart first) rest
 
 pub events_lead_to_one_state : EventsLeadToOneState

@@ -58,7 +58,7 @@ abbrev pub change : Resized → Change
 change submission = record { round = submission.round; pool = submission.pool; min = submission.min }
 
 -- No line of the text is refused, and they say this scenario.
-pub record Says (text : List ℕ) (s : Scenario) : Type 0 where
+pub record SaysScenario (text : List ℕ) (s : Scenario) : Type 0 where
   pub right : text_refusal text ≡ None
   pub means : Means (known_of_text text) s.stack s.scripts
   pub writes : map written s.writes ≡ (known_of_text text).writes

@@ -2,7 +2,7 @@
 use Rattle.std.proofs.Common.{◌≡◌, ◌==◌, ℕ, Bool, true, false, List, [], ◌∷◌, Some, refl, sym, subst, IsTrue, nat_lt}
 use Rattle.std.proofs.lemmas.Bool.{eqb-true, ltb-true}
 use Rattle.stack_base.proofs.ListLemmas.{Each}
-use Rattle.mempool_core.specs.Move.{Move, PoolState, after_move}
+use Rattle.mempool_core.specs.Move.{PoolMove, PoolState, after_move}
 use Rattle.bio_records.specs.declared.bio.Pad.{Pad}
 use Rattle.bio_records.specs.Items.{Item}
 use Rattle.model_disks.specs.Disks.{DiskState}
@@ -68,7 +68,7 @@ turns_run scene old (turn ∷ turns) (event ∷ events) are =
     (behind scene.setup old turn, (turn.place, does_step scene old turn event are.0), turns_run scene (behind scene.setup old turn) turns events are.1)
 
 -- the turns of each kind
-abbrev pub takes : ℕ → Reply → ℕ → Move → Turn
+abbrev pub takes : ℕ → Reply → ℕ → PoolMove → Turn
 takes place reply number move = record {
   place = place;
   reply = reply;

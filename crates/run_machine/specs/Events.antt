@@ -5,7 +5,7 @@ use Rattle.stack_base.specs.declared.ids.PoolId.TheVariants.{FsBios, FsVecs, Bio
 use Rattle.stack_base.specs.declared.ids.Status.{Status}
 use Rattle.bioset_pools.specs.Sets.{bios_of}
 use Rattle.bio_books.specs.Links.{Linked, Made, NoRoom, Stray}
-use Rattle.bio_books.specs.Drops.{Ended}
+use Rattle.bio_books.specs.Drops.{DropOutcome}
 use Rattle.bio_books.specs.Drops as end
 use Rattle.run_machine.specs.declared.event.TaskId.{TaskId}
 use Rattle.run_machine.specs.declared.event.TaskId.TheVariants as id
@@ -46,7 +46,7 @@ link_of writer opening (Made node) = Some (what.Link writer (how_of opening) nod
 link_of writer opening (NoRoom back) = None
 link_of writer opening (Stray back) = None
 
-abbrev pub drop_of : ℕ → ℕ → Status → Ended → Option What
+abbrev pub drop_of : ℕ → ℕ → Status → DropOutcome → Option What
 drop_of writer node status end.Left = Some (what.Drop writer node status left.Left)
 drop_of writer node status (end.Up closed) = Some (what.Drop writer node status left.Up)
 drop_of writer node status (end.Top closed) = Some (what.Drop writer node status left.Top)

@@ -101,6 +101,6 @@ FitsWhat (what.Resize pool min) = min < 2 ^ 32
 FitsWhat (what.Round round) = round < 2 ^ 32
 
 -- an event whose numbers are such as its fields have
-pub record Fits (event : Event) : Type 0 where
+pub record FitsEvent (event : Event) : Type 0 where
   pub task : FitsTask event.task
   pub what : FitsWhat event.what

@@ -4,7 +4,7 @@ use Rattle.stack_base.specs.declared.ids.PoolId.TheVariants.{FsVecs, Records}
 use Rattle.stack_base.specs.declared.ids.Status.{Status}
 use Rattle.stack_base.specs.PoolId.{pool_number}
 use Rattle.elem_ledger.specs.Ledger.{LedgerId}
-use Rattle.mempool_core.specs.Move.{PoolState, Move, takes_ordinary, takes_spare, misses, gives, resizes, CanMove, after_move}
+use Rattle.mempool_core.specs.Move.{PoolState, PoolMove, takes_ordinary, takes_spare, misses, gives, resizes, CanMove, after_move}
 use Rattle.bio_records.specs.declared.bio.Pad.{Pad}
 use Rattle.bio_records.specs.Items.{Item}
 use Rattle.bio_records.specs.Clear.{no_bio}
@@ -35,14 +35,14 @@ pub record Objects : Type 0 where
   pub tally : TallyState
 
 -- a pool makes a move
-abbrev pub PoolMoves : Objects → ℕ → Move → Objects → Type 0
-PoolMoves old number move new =
+abbrev pub MovesPool : Objects → ℕ → PoolMove → Objects → Type 0
+MovesPool old number move new =
     CanMove (old.pool number) move × (new ≡ record old { pool = upd old.pool number (after_move (old.pool number) move) })
 
 -- a take that had an element, from ordinary memory or from the spares (`mempool_alloc`, mm/mempool.c)
 abbrev pub Has : Objects → ℕ → Got → Objects → Type 0
-Has old number Ordinary new = PoolMoves old number takes_ordinary new
-Has old number Spare new = PoolMoves old number takes_spare new
+Has old number Ordinary new = MovesPool old number takes_ordinary new
+Has old number Spare new = MovesPool old number takes_spare new
 Has old number got.Missed new = ⊥
 
 -- elements as pools hand them out
@@ -74,16 +74,16 @@ abbrev pub Serves : (ℕ → LedgerId) → Objects → Request → Reply → Obj
 -- takes (`mempool_alloc`, mm/mempool.c): an element with an empty body, or a miss
 Serves ledger old (TakeBio set waits) (HadBio got bio) new =
     Has old (pool_number (bios_of set)) got new × (bio ≡ clear_bio (ledger (pool_number (bios_of set))))
-Serves ledger old (TakeBio set waits) (Missed used) new = PoolMoves old (pool_number (bios_of set)) (misses used) new
+Serves ledger old (TakeBio set waits) (Missed used) new = MovesPool old (pool_number (bios_of set)) (misses used) new
 Serves ledger old TakeVec (HadVec got vector) new = Has old (pool_number FsVecs) got new × (vector ≡ clear_vector (ledger (pool_number FsVecs)))
-Serves ledger old TakeVec (Missed used) new = PoolMoves old (pool_number FsVecs) (misses used) new
+Serves ledger old TakeVec (Missed used) new = MovesPool old (pool_number FsVecs) (misses used) new
 Serves ledger old (TakeSlip dev) (HadSlip got slip) new =
     Has old (pool_number (Records dev)) got new × (slip ≡ clear_slip (ledger (pool_number (Records dev))))
-Serves ledger old (TakeSlip dev) (Missed used) new = PoolMoves old (pool_number (Records dev)) (misses used) new
+Serves ledger old (TakeSlip dev) (Missed used) new = MovesPool old (pool_number (Records dev)) (misses used) new
 -- gives (`mempool_free`): an element goes to the pool that its share is of
-Serves ledger old (GiveBio bio) Did new = PoolMoves old bio.share.no gives new
-Serves ledger old (GiveVec vector) Did new = PoolMoves old vector.share.no gives new
-Serves ledger old (GiveSlip slip) Did new = PoolMoves old slip.share.no gives new
+Serves ledger old (GiveBio bio) Did new = MovesPool old bio.share.no gives new
+Serves ledger old (GiveVec vector) Did new = MovesPool old vector.share.no gives new
+Serves ledger old (GiveSlip slip) Did new = MovesPool old slip.share.no gives new
 -- the list of a rescuer (`punt_bios_to_rescuer` and `bio_alloc_rescue`, block/bio.c)
 Serves ledger old (Punt dev moved) Did new = new ≡ record old { rescue = upd old.rescue dev.0 (old.rescue dev.0 ++ moved) }
 Serves ledger old (Pop dev) (Popped bio) new =

@@ -184,7 +184,7 @@ abbrev pub objects : Scenario → Objects
 objects s = record {
   pool = λ number. opened (reserve_of s.stack (pool_of number)) (script_at s.scripts number);
   rescue = λ dev. [];
-  disk = λ dev. disk.opened (at dev) (size (tree s.stack dev)) (bads_of s.stack dev);
+  disk = λ dev. disk.blank_disk (at dev) (size (tree s.stack dev)) (bads_of s.stack dev);
   book = λ writer. record { writer = writer; nodes = replicate (places_of s writer) None };
   tally = tally_in s.rounds s.writes;
 }

@@ -7,7 +7,7 @@ use Rattle.stack_base.specs.declared.ids.Status.{Status}
 use Rattle.bio_records.specs.declared.bio.Pad.{Pad}
 use Rattle.bio_records.specs.Items.{Item}
 use Rattle.bio_books.specs.Books.{VectorItem, SlipItem}
-use Rattle.bio_books.specs.Drops.{Ended}
+use Rattle.bio_books.specs.Drops.{DropOutcome}
 use Rattle.bio_books.specs.Links.{Linked}
 use Rattle.run_machine.specs.declared.event.Got.{Got}
 
@@ -55,7 +55,7 @@ pub data Reply : Type 0 where
   Popped : Item Pad → Reply
   Completed : (index : ℕ) → Item Pad → Status → Reply
   LinkedTo : Linked → Reply
-  DroppedTo : Ended → Reply
+  DroppedTo : DropOutcome → Reply
   -- how many elements were out of the pool that was to be resized; it was, where there was none
   OutIs : (out : ℕ) → Reply
   Present : (round : ℕ) → Reply

@@ -158,30 +158,30 @@ submission_request setup (Copies bio master leg Punts) lists = Punt bio.dev (pun
 submission_request setup (Copies bio master leg (Links hand)) lists = Link bio.writer (Leg master)
 
 -- a link that was refused, where the named node is this one, and these elements were at hand besides
-abbrev pub refused : Setup → ℕ → ℕ → List Kept → Linked → Doing
-refused setup writer node besides (Made place) = Rests
-refused setup writer node besides (NoRoom back) = Breaks (breach.NoRoom writer (setup.places writer)) (besides ++ holding_kept back)
-refused setup writer node besides (Stray back) = Breaks (breach.Stray writer node) (besides ++ holding_kept back)
+abbrev pub link_refused : Setup → ℕ → ℕ → List Kept → Linked → Doing
+link_refused setup writer node besides (Made place) = Rests
+link_refused setup writer node besides (NoRoom back) = Breaks (breach.NoRoom writer (setup.places writer)) (besides ++ holding_kept back)
+link_refused setup writer node besides (Stray back) = Breaks (breach.Stray writer node) (besides ++ holding_kept back)
 
 abbrev pub after_chain : Setup → TaskLists → Item Pad → Item Pad → Linked → Submission
 after_chain setup lists bio hand (Made node) = cut_at setup lists bio hand node (tree_at setup bio.bio.dev)
 after_chain setup lists bio hand (NoRoom back) =
-    record { doing = refused setup bio.bio.writer bio.bio.node (KeptBio bio ∷ KeptBio hand ∷ []) (NoRoom back); lists = lists }
+    record { doing = link_refused setup bio.bio.writer bio.bio.node (KeptBio bio ∷ KeptBio hand ∷ []) (NoRoom back); lists = lists }
 after_chain setup lists bio hand (Stray back) =
-    record { doing = refused setup bio.bio.writer bio.bio.node (KeptBio bio ∷ KeptBio hand ∷ []) (Stray back); lists = lists }
+    record { doing = link_refused setup bio.bio.writer bio.bio.node (KeptBio bio ∷ KeptBio hand ∷ []) (Stray back); lists = lists }
 
 abbrev pub after_master : Setup → TaskLists → Bio → Linked → Submission
 after_master setup lists bio (Made node) = copies setup lists bio node 0
-after_master setup lists bio (NoRoom back) = record { doing = refused setup bio.writer bio.node [] (NoRoom back); lists = lists }
-after_master setup lists bio (Stray back) = record { doing = refused setup bio.writer bio.node [] (Stray back); lists = lists }
+after_master setup lists bio (NoRoom back) = record { doing = link_refused setup bio.writer bio.node [] (NoRoom back); lists = lists }
+after_master setup lists bio (Stray back) = record { doing = link_refused setup bio.writer bio.node [] (Stray back); lists = lists }
 
 abbrev pub after_leg : Setup → TaskLists → Bio → ℕ → ℕ → Item Pad → Linked → Submission
 after_leg setup lists bio master leg hand (Made node) =
     copies setup (submitted (leg_at bio hand leg node (tree_at setup bio.dev)) lists) bio master (leg + 1)
 after_leg setup lists bio master leg hand (NoRoom back) =
-    record { doing = refused setup bio.writer master (KeptBio hand ∷ []) (NoRoom back); lists = lists }
+    record { doing = link_refused setup bio.writer master (KeptBio hand ∷ []) (NoRoom back); lists = lists }
 after_leg setup lists bio master leg hand (Stray back) =
-    record { doing = refused setup bio.writer master (KeptBio hand ∷ []) (Stray back); lists = lists }
+    record { doing = link_refused setup bio.writer master (KeptBio hand ∷ []) (Stray back); lists = lists }
 
 -- what a submission has at hand, besides its lists
 abbrev pub want_kept : Want → List Kept

@@ -11,14 +11,14 @@ use Rattle.bio_records.specs.declared.bio.Pad.{Pad}
 use Rattle.bio_records.specs.Items.{Item}
 use Rattle.bio_records.specs.Segments.{segment_count, segments_of}
 use Rattle.bio_books.specs.Books.{VectorItem, SlipItem}
-use Rattle.bio_books.specs.Drops.{Closed, Ended}
+use Rattle.bio_books.specs.Drops.{Closed, DropOutcome}
 use Rattle.bio_books.specs.Drops as end
 use Rattle.bio_books.specs.Links.{Linked, Made, NoRoom, Stray}
 use Rattle.run_machine.specs.declared.event.Breach.{Breach}
 use Rattle.run_machine.specs.declared.event.Breach.TheVariants as breach
 use Rattle.run_machine.specs.Scene.{Setup}
 use Rattle.run_machine.specs.Kept.{Kept, KeptBio, KeptVec, bio_kept, holding_kept}
-use Rattle.run_machine.specs.Submissions.{Doing, Rests, Breaks, Submission, settled, refused, submission_request, submission_answered, doing_breach}
+use Rattle.run_machine.specs.Submissions.{Doing, Rests, Breaks, Submission, settled, link_refused, submission_request, submission_answered, doing_breach}
 use Rattle.run_machine.specs.Requests.{Request, Reply, TakeBio, TakeVec, GiveBio, GiveVec, GiveSlip, Pop, Complete, Link, Drop, Done, Resize, NextRound, LookRound, LookLeft, Rest, Write, HadBio, HadVec, Did, Popped, Completed, LinkedTo, DroppedTo, OutIs, Present, LeftOver, Spent}
 
 -- a write that a writer has still to begin, by its number, with its round
@@ -209,9 +209,9 @@ handed_vector todo (HasBoth bio vector) = KeptVec (vector_for todo vector) ∷ [
 abbrev pub begins : Setup → ℕ → List Todo → (ℕ → Item Pad) → Gathered → Todo → Submission → Linked → TaskState
 begins setup writer later bio taken todo submission (Made node) = Writer writer later NoBio (settled setup (bio node ∷ []))
 begins setup writer later bio taken todo submission (NoRoom back) =
-    Writer writer (todo ∷ later) (besides taken) (record submission { doing = refused setup writer 0 [] (NoRoom back) })
+    Writer writer (todo ∷ later) (besides taken) (record submission { doing = link_refused setup writer 0 [] (NoRoom back) })
 begins setup writer later bio taken todo submission (Stray back) =
-    Writer writer (todo ∷ later) (besides taken) (record submission { doing = refused setup writer 0 [] (Stray back) })
+    Writer writer (todo ∷ later) (besides taken) (record submission { doing = link_refused setup writer 0 [] (Stray back) })
 
 -- how a writer goes on outside of a submission
 abbrev pub write_answered : Setup → ℕ → List Todo → Gathered → Submission → Reply → TaskState
@@ -243,7 +243,7 @@ given writer closed None None (Some slip) = Carries writer (record closed { held
 given writer closed None None None = Empty
 
 -- a node was told of an end
-abbrev pub after_drop : ℕ → ℕ → Ended → Carried
+abbrev pub after_drop : ℕ → ℕ → DropOutcome → Carried
 after_drop writer node end.Left = Empty
 after_drop writer node (end.Up closed) = Carries writer closed
 after_drop writer node (end.Top closed) = Carries writer closed

@@ -35,7 +35,7 @@ abbrev pub node : List Head → ℕ → Head
 node nodes number = slice_index_or nodes number no_head
 
 -- heads that stand before the leaves of a list of lists, and these
-pub record AreAdded {T : Type 0} (rows : List (List (ℕ × T))) (old new : List Head) : Type 0 where
+pub record AreHeadsAdded {T : Type 0} (rows : List (List (ℕ × T))) (old new : List Head) : Type 0 where
   pub long : length new ≡ length old + length rows
   pub added : (list : ℕ) → list < length rows → node new (length old + list) ≡ head_at rows list 0
 
@@ -52,7 +52,7 @@ abbrev pub IsTournamentBut : ℕ → List Head → ℕ → Type 0
 IsTournamentBut count nodes below = AreInner count nodes (λ number. (below ≢ 2 * number) × (below ≢ 2 * number + 1))
 
 -- the leaf of each list is its head from a place on
-pub record Stands {T : Type 0} (rows : List (List (ℕ × T))) (at : ℕ → ℕ) (nodes : List Head) : Type 0 where
+pub record IsTournamentAt {T : Type 0} (rows : List (List (ℕ × T))) (at : ℕ → ℕ) (nodes : List Head) : Type 0 where
   pub holds : IsTournament (length rows) nodes
   pub leaf : (list : ℕ) → list < length rows → node nodes (length rows + list) ≡ head_at rows list (at list)
 

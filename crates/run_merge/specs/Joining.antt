@@ -9,7 +9,7 @@ abbrev pub all_in : {X : Type 0} → List (Vec X) → List X
 all_in {X} vectors = flat_map (λ (v : Vec X). v.items) vectors
 
 -- these are all those elements, in the order of their tickets, and without the tickets
-pub record IsJoined {X : Type 0} (all : List (ℕ × X)) (joined : List X) : Type 0 where
+pub record IsJoinedByTicket {X : Type 0} (all : List (ℕ × X)) (joined : List X) : Type 0 where
   pub ordered : List (ℕ × X)
   pub same : IsPermutation all ordered
   pub rises : IsNonDecreasingBy (λ e. e.0) ordered

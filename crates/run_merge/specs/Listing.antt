@@ -7,7 +7,7 @@ use Rattle.std.specs.Global.{Vec}
 use Rattle.run_machine.specs.declared.event.Event.{Event}
 use Rattle.shared_objects.specs.declared.closed.ClosedTask.{ClosedTask}
 use Rattle.shared_objects.specs.declared.noted.Noted.{Noted}
-use Rattle.run_merge.specs.Joining.{IsJoined, all_in}
+use Rattle.run_merge.specs.Joining.{IsJoinedByTicket, all_in}
 
 -- a task noted this, and it is all that it had
 abbrev pub IsList : Option Noted → List (ℕ × Event) → Type 0
@@ -39,4 +39,4 @@ pub record AreWholeLists (tasks : List ClosedTask) (lists : List (Vec (ℕ × Ev
 -- with a trace, what tasks noted stands in the order of the tickets; without one there is nothing
 pub record IsTrace (trace : Bool) (tasks : List ClosedTask) (events : Option (Vec Event)) : Type 0 where
   pub some : is_some events ≡ trace
-  pub joined : IfSome events (λ list. AreWhole tasks × IsJoined (noted_in tasks) list.items)
+  pub joined : IfSome events (λ list. AreWhole tasks × IsJoinedByTicket (noted_in tasks) list.items)

@@ -1,7 +1,7 @@
 -- Each object by itself: what a request makes of it.
 use Rattle.std.specs.Prelude.{◌≡◌, ◌+◌, ◌<◌, ◌==◌, ◌++◌, if◌then◌else◌, ℕ, List, [], ◌∷◌, length, sum, filter}
 use Rattle.elem_ledger.specs.Ledger.{LedgerId}
-use Rattle.mempool_core.specs.Move.{PoolState, Move, takes_ordinary, takes_spare, misses, gives, resizes, CanMove, after_move}
+use Rattle.mempool_core.specs.Move.{PoolState, PoolMove, takes_ordinary, takes_spare, misses, gives, resizes, CanMove, after_move}
 use Rattle.bio_records.specs.declared.bio.Pad.{Pad}
 use Rattle.bio_records.specs.Items.{Item}
 use Rattle.model_disks.specs.Disks.{DiskState}
@@ -19,7 +19,7 @@ use Rattle.run_merge.specs.Entries.{Entry}
 use Rattle.run_merge.specs.ObjectsByName.{StateAt}
 
 -- a pool, whose elements are of this ledger
-abbrev pub PoolGoes : PoolState → Move → PoolState → Type 0
+abbrev pub PoolGoes : PoolState → PoolMove → PoolState → Type 0
 PoolGoes old move new = CanMove old move × (new ≡ after_move old move)
 
 abbrev pub PoolHas : PoolState → Got → PoolState → Type 0

@@ -4,7 +4,7 @@
 //! node `count + k`. Each inner node has the head of the two below it that comes first. So a list that goes on plays again on its way to the root
 //! alone, which is the logarithm of the number of lists.
 ghost use Rattle.std.specs.Prelude.{◌≡◌, ◌+◌, ◌*◌, ◌<◌, ◌≤◌, [], ℕ, IfOk, length, slice_index_or, slice_set};
-ghost use Rattle.run_merge.specs.Heads.{AreAdded, TakesHead, IsTournament, IsTournamentBut, Stands, winner_of, head_at, node, rows, smaller};
+ghost use Rattle.run_merge.specs.Heads.{AreHeadsAdded, TakesHead, IsTournament, IsTournamentBut, IsTournamentAt, winner_of, head_at, node, rows, smaller};
 
 use std::alloc::{AllocError, Global};
 
@@ -44,7 +44,7 @@ fn smaller(first: Head, second: Head) -> Head
 
 // Adds the heads of all lists.
 fn add_heads<T>(lists: &[Vec<(u64, T)>], nodes: &mut Vec<Head>) -> Result<(), AllocError>
-    ensures { IfOk result (λ _. AreAdded (rows lists.now) nodes.old.items nodes.new.items) }
+    ensures { IfOk result (λ _. AreHeadsAdded (rows lists.now) nodes.old.items nodes.new.items) }
 {
     'adding: for list in 0..lists.len() {
         nodes.push(head_at(lists, list, 0))?;
@@ -62,7 +62,7 @@ fn play(nodes: &mut Vec<Head>, number: usize)
 
 /// The tournament of lists of which nothing was taken.
 pub(crate) fn open_heads<T>(alloc: Global, lists: &[Vec<(u64, T)>]) -> Result<Vec<Head>, AllocError>
-    ensures { IfOk result (λ nodes. Stands (rows lists.now) (λ list. 0) nodes.items) }
+    ensures { IfOk result (λ nodes. IsTournamentAt (rows lists.now) (λ list. 0) nodes.items) }
 {
     let count = lists.len();
     let mut nodes = Vec::with_capacity(alloc, count.saturating_mul(2))?;

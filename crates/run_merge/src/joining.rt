@@ -1,7 +1,7 @@
 //! Joins lists by tickets.
 ghost use Rattle.std.specs.Prelude.{All, IfOk};
 ghost use Rattle.std.specs.List.Sorted.{IsNonDecreasingBy};
-ghost use Rattle.run_merge.specs.Joining.{IsJoined, all_in};
+ghost use Rattle.run_merge.specs.Joining.{IsJoinedByTicket, all_in};
 
 use crate::heads::{open_heads, take, winner_of};
 use std::alloc::{AllocError, Global};
@@ -18,7 +18,7 @@ pub fn join_by_ticket<T: Copy + Drop>(
     lists: Vec<Vec<(u64, T)>>,
 ) -> Result<Vec<T>, AllocError>
     requires rises { All (λ list. IsNonDecreasingBy (λ e. e.0) list.items) lists.items }
-    ensures { IfOk result (λ joined. IsJoined (all_in lists.items) joined.items) }
+    ensures { IfOk result (λ joined. IsJoinedByTicket (all_in lists.items) joined.items) }
 {
     let mut heads = open_heads(alloc, &lists)?;
     let mut joined = Vec::with_capacity(alloc, total(&lists))?;

@@ -16,7 +16,7 @@ use Rattle.seat_lock.specs.declared.view.Rank.TheVariants.{First}
 use Rattle.seat_lock.specs.declared.view.Phase.TheVariants.{Idle, Serving}
 use Rattle.seat_lock.specs.History.{indicator, count, calls_by, IsLeft}
 use Rattle.seat_lock.specs.Seats.{is_first, split_of, own}
-use Rattle.seat_lock.specs.Turning.{around, is_live, firsts_of, others_of, out_of, firsts, others, split_by, joined_by, out, has_number, HasTurn, Stands, Knows, IsServed, IsTurning, first_after_split, new_view, joined_view, spent_view, Learnt}
+use Rattle.seat_lock.specs.Turning.{around, is_live, firsts_of, others_of, out_of, firsts, others, split_by, joined_by, out, number_count, HasTurn, Stands, Knows, IsServed, IsTurning, first_after_split, new_view, joined_view, spent_view, Learnt}
 use Rattle.seat_lock.proofs.Sums.{sum_by-put, sum_by-at, sum_by-two, sum_none, put_all, tail_all}
 use Rattle.seat_lock.proofs.Histories.{count_one, count_append, calls_by-append, none_of, nil_left, longer_is, squeeze, nothing, all_calls, all_none, all_prefix}
 use Rattle.seat_lock.proofs.Turns.{idle_not, no_split, not_live, first_more, first_live, plain_other, one_most, number_step}
@@ -87,7 +87,7 @@ module _ {T D A R M : Type 0} (plain : T → D) (mark : T → M) (answers : D �
         turns_out = omega (arith, put out, tail out, cons out, t.turns_out);
         one_first = omega (arith, put firsts, tail firsts, cons firsts, t.one_first, m);
         counted = omega (arith, put split_by, put others, put joined_by, tail split_by, tail others, tail joined_by, cons split_by, cons others, cons joined_by, t.counted, m);
-        numbers = λ x. let step_on = number_step x t.given in let same : count x ((split_of v.known.rank + 1) ∷ []) ≡ count x (t.given ∷ []) = ap (λ n. count x (n ∷ [])) given in omega (arith, put (has_number x), tail (has_number x), cons (has_number x), t.numbers x, step_on, same);
+        numbers = λ x. let step_on = number_step x t.given in let same : count x ((split_of v.known.rank + 1) ∷ []) ≡ count x (t.given ∷ []) = ap (λ n. count x (n ∷ [])) given in omega (arith, put (number_count x), tail (number_count x), cons (number_count x), t.numbers x, step_on, same);
         given_is = omega (arith, put split_by, tail split_by, cons split_by, t.given_is, m);
         few = omega (arith, given);
         made = λ k' d h. let a = t.made k' d h in omega arith;
@@ -114,7 +114,7 @@ module _ {T D A R M : Type 0} (plain : T → D) (mark : T → M) (answers : D �
       let both : calls_by (v.known.numbers ++ w.known.numbers) t.log ≡ calls_by (v.known.numbers ++ w.known.numbers) u.known.seen =
       ap (calls_by (v.known.numbers ++ w.known.numbers)) l.2.1 ∙ calls_by-append (v.known.numbers ++ w.known.numbers) u.known.seen l.2.0
       ∙ ap (λ x. calls_by (v.known.numbers ++ w.known.numbers) u.known.seen ++ x) (nothing v.known.numbers w.known.numbers l.2.0 mine.1 theirs.1) ∙ append-nil (calls_by (v.known.numbers ++ w.known.numbers) u.known.seen) in
-      let two = sum_by-two (has_number v.known.number) s.views id other v w (λ h. ne (sym h)) e old in
+      let two = sum_by-two (number_count v.known.number) s.views id other v w (λ h. ne (sym h)) e old in
       let one = k.own_number live in
       let put = λ (f : View T A R → ℕ). sum_by-put f s.views id v u e in
       let gone = λ (f : View T A R → ℕ). sum_by-put f (slice_set s.views id u) other w spent_view e' in
@@ -145,7 +145,7 @@ module _ {T D A R M : Type 0} (plain : T → D) (mark : T → M) (answers : D �
         turns_out = omega (arith, put out, gone out, t.turns_out, ap out_of idle');
         one_first = omega (arith, put firsts, gone firsts, t.one_first, o);
         counted = omega (arith, put split_by, put others, put joined_by, gone split_by, gone others, gone joined_by, t.counted, o);
-        numbers = λ x. omega (arith, put (has_number x), gone (has_number x), t.numbers x, count_append x v.known.numbers w.known.numbers);
+        numbers = λ x. omega (arith, put (number_count x), gone (number_count x), t.numbers x, count_append x v.known.numbers w.known.numbers);
         given_is = omega (arith, put split_by, gone split_by, t.given_is, o);
         few = t.few;
         made = t.made;
@@ -167,9 +167,9 @@ module _ {T D A R M : Type 0} (plain : T → D) (mark : T → M) (answers : D �
       let spent = λ (i : ℕ) (x : View T A R) (a : get_elem? rest i ≡ some x). not_live x.known.rank (omega (arith, sum_by-at firsts rest i x a)) (omega (arith, sum_by-at others rest i x a)) in
       let bare = λ (i : ℕ) (x : View T A R) (a : get_elem? rest i ≡ some x). put_all (λ y. is_live y.known.rank ≡ false → (y.known.numbers ≡ []) × (y.phase ≡ Idle)) s.views id spent_view (λ _. (refl, refl)) (λ j y n b. (t.each j y b).spent) i x a (spent i x a) in
       let all_mine = λ (x : ℕ) (h : x < t.given).
-      let none : sum_by (has_number x) rest ≡ 0 = sum_none (has_number x) rest (λ i y a. ap (count x) (bare i y a).0) in
+      let none : sum_by (number_count x) rest ≡ 0 = sum_none (number_count x) rest (λ i y a. ap (count x) (bare i y a).0) in
       let yes : nat_lt x t.given ≡ true = lt-ltb x t.given h in
-      let got : count x v.known.numbers ≡ 1 = omega (arith, put (has_number x), t.numbers x, none, ap indicator yes) in got in
+      let got : count x v.known.numbers ≡ 1 = omega (arith, put (number_count x), t.numbers x, none, ap indicator yes) in got in
       let whole : calls_by v.known.numbers t.log ≡ t.log = all_calls v.known.numbers t.log (λ i d h. all_mine _ (t.made i d h)) in
       let full : t.log ≡ own v.known = sym whole ∙ k.own_calls in
       let seen : calls_by v.known.numbers v.known.seen ≡ v.known.seen = all_prefix v.known.numbers v.known.seen t.log k.prefix (λ i d h. all_mine _ (t.made i d h)) in

@@ -18,7 +18,7 @@ use Rattle.seat_lock.specs.declared.view.Entry.{Entry}
 use Rattle.seat_lock.specs.declared.view.Phase.TheVariants.{Idle, Waiting, Serving}
 use Rattle.seat_lock.specs.History.{count, calls_by, Leads, IsLeft}
 use Rattle.seat_lock.specs.Seats.{split_of, own, call_of, Calls}
-use Rattle.seat_lock.specs.Turning.{around, FoundTurn, WaitsFor, is_live, firsts_of, others_of, out_of, firsts, others, split_by, joined_by, out, has_number, HasTurn, Stands, Knows, IsServed, Place, IsTurning, first_view, Drew, Looked, IsLeftBy, served_view, entries, passed_on, Passed, after_call, HasThing}
+use Rattle.seat_lock.specs.Turning.{around, FoundTurn, WaitsFor, is_live, firsts_of, others_of, out_of, firsts, others, split_by, joined_by, out, number_count, HasTurn, Stands, Knows, IsServed, ThingPlace, IsTurning, first_view, Drew, HasLooked, IsLeftBy, served_view, seat_entries, passed_on, Passed, after_call, HasThing}
 use Rattle.seat_lock.proofs.Sums.{sum_by-put, sum_by-at, sum_by-two, sum_by-most, sum_of, set_at, put_all}
 use Rattle.seat_lock.proofs.Histories.{all_one, calls_by-append, call_is_own, call_is_other, prefix_snoc, prefix_same, leads_snoc}
 use Rattle.seat_lock.proofs.Turns.{live_out, turn_in, idle_not, waiting_not, later_stands, steps_on, waiting_is, not_next, one_most, below, number_one}
@@ -55,7 +55,7 @@ module _ {T D A R M : Type 0} (plain : T → D) (mark : T → M) (answers : D �
   pub moved : (s : State T (View T A R)) (t : Rule s) (id : ℕ) (v w : View T A R) → get_elem? s.views id ≡ some v
       → (words : List ℕ) (homes : List (option.Option T)) (log : List (Entry A R)) (served drawn : ℕ)
       → words ≡ drawn % around ∷ served % around ∷ []
-      → Place plain mark answers key log served homes (slice_set s.views id w)
+      → ThingPlace plain mark answers key log served homes (slice_set s.views id w)
       → ((j : ℕ) (u : View T A R) → j ≢ id → get_elem? s.views j ≡ some u → Knows served drawn log key u)
       → Knows served drawn log key w
       → ((j : ℕ) (u : View T A R) (n : ℕ) → j ≢ id → get_elem? s.views j ≡ some u → HasTurn n w.phase → HasTurn n u.phase → ⊥)
@@ -83,7 +83,7 @@ module _ {T D A R M : Type 0} (plain : T → D) (mark : T → M) (answers : D �
         turns_out = omega (arith, at out, t.turns_out, turns);
         one_first = omega (arith, at firsts, t.one_first);
         counted = omega (arith, at split_by, at others, at joined_by, t.counted);
-        numbers = λ x. let same : has_number x w ≡ has_number x v = ap (λ ns. count x ns) numbers in omega (arith, at (has_number x), t.numbers x);
+        numbers = λ x. let same : number_count x w ≡ number_count x v = ap (λ ns. count x ns) numbers in omega (arith, at (number_count x), t.numbers x);
         given_is = omega (arith, at split_by, t.given_is);
         few = t.few;
         made = made;
@@ -91,7 +91,7 @@ module _ {T D A R M : Type 0} (plain : T → D) (mark : T → M) (answers : D �
 
   -- where a seat changes that is not served, the place stays
   pub same_place : (log : List (Entry A R)) (served : ℕ) (homes : List (option.Option T)) (views : List (View T A R)) (id : ℕ) (v w : View T A R) → get_elem? views id ≡ some v
-      → (IsServed served v → ⊥) → (IsServed served w → ⊥) → Place plain mark answers key log served homes views → Place plain mark answers key log served homes (slice_set views id w)
+      → (IsServed served v → ⊥) → (IsServed served w → ⊥) → ThingPlace plain mark answers key log served homes views → ThingPlace plain mark answers key log served homes (slice_set views id w)
   same_place log served homes views id v w e not not' p = ⊎_elim
       (λ t. inl (t.0, t.1, t.2, put_all (λ u. IsServed served u → ⊥) views id w not' (λ j u ne a. t.3 j u a)))
       (λ t. inr (t.0, (t.1.0, t.1.1, set_else views id t.1.0 w (λ same. not (ap (λ (u : View T A R). u.phase) (some-injective v t.1.1 (sym e ∙ subst (λ j. get_elem? views j ≡ some t.1.1) same t.1.2)) ∙ t.1.3)) ∙ t.1.2, t.1.3))) p
@@ -124,7 +124,7 @@ module _ {T D A R M : Type 0} (plain : T → D) (mark : T → M) (answers : D �
       (s : State T (View T A R)) (t : Rule s) (e : get_elem? s.views id ≡ some m.0) where
     abbrev Looks : Type 0
     Looks = (w : View T A R) × (a : Act T) × Valid s.homes m.1 a × Rule (stepped s 1 (slice_index s.words 1) id m.1 w a)
-        × Looked plain mark answers (step slots 1 0 0 none) m (slice_index s.words 1) (w, carried_after m.1 a)
+        × HasLooked plain mark answers (step slots 1 0 0 none) m (slice_index s.words 1) (w, carried_after m.1 a)
 
     found : slice_index s.words 1 ≡ t.served % around
     found = ap (λ ws. slice_index ws 1) t.words
@@ -180,7 +180,7 @@ module _ {T D A R M : Type 0} (plain : T → D) (mark : T → M) (answers : D �
         (λ h. ⊎_elim (λ p. taken h p.0 p.1 p.2) (λ p. absurd (gone h p.1.0 p.1.1 p.1.2 p.1.3)) t.place)
         other_turn
 
-  pub looks : (slots id k : ℕ) (m : Me T (View T A R)) → m.0.phase ≡ Waiting k → is_live m.0.known.rank ≡ true → Allows Rule slots id m 1 (λ n. n) (Looked plain mark answers (step slots 1 0 0 none) m)
+  pub looks : (slots id k : ℕ) (m : Me T (View T A R)) → m.0.phase ≡ Waiting k → is_live m.0.known.rank ≡ true → Allows Rule slots id m 1 (λ n. n) (HasLooked plain mark answers (step slots 1 0 0 none) m)
   looks slots id k m waiting live s t _ e _ = looked slots id k m waiting live s t e
 
   pub one_home : (s : State T (View T A R)) → Rule s → (h : option.Option T) → slice_set s.homes 0 h ≡ h ∷ []
@@ -216,7 +216,7 @@ module _ {T D A R M : Type 0} (plain : T → D) (mark : T → M) (answers : D �
       let log' : List (Entry A R) = t.log ++ en ∷ [] in
       let st : (k ≡ t.served) × (k < t.drawn) × (m.0.known.seen ≡ t.log) = subst (λ p. Stands t.served t.drawn t.log m.0.known.seen p) serving kn.stands in
       let w : View T A R = passed_on calls m.0 in
-      let seen : w.known.seen ≡ log' = ap (λ o. m.0.known.seen ++ entries m.0.known.number o) picked ∙ ap (λ l. l ++ en ∷ []) st.2 in
+      let seen : w.known.seen ≡ log' = ap (λ o. m.0.known.seen ++ seat_entries m.0.known.number o) picked ∙ ap (λ l. l ++ en ∷ []) st.2 in
       let own1 = kn.own_number live in
       let mine : HasTurn t.served m.0.phase = subst (HasTurn t.served) (sym serving) st.0 in
       let homes : slice_set s.homes 0 (some kept) ≡ some kept ∷ [] = one_home plain mark answers key s t (some kept) in
@@ -231,12 +231,12 @@ module _ {T D A R M : Type 0} (plain : T → D) (mark : T → M) (answers : D �
         stands = tt;
       } in
       let number : m.0.known.number < t.given =
-      below m.0.known.number t.given (omega (arith, sum_by-at (has_number m.0.known.number) s.views id m.0 e, t.numbers m.0.known.number, own1)) in
+      below m.0.known.number t.given (omega (arith, sum_by-at (number_count m.0.known.number) s.views id m.0 e, t.numbers m.0.known.number, own1)) in
       let t' = moved plain mark answers key s t id m.0 w e (slice_set s.words 1 ((slice_index s.words 1 + 1) % around)) (homes_after s.homes m.1 gives) log' (t.served + 1) t.drawn
       (second_word s.words t.drawn t.served t.words)
       (inl (kept, back, subst (λ l. IsLeft plain mark answers key.value (l ++ en ∷ []) kept) st.2 left, put_all (λ u. IsServed (t.served + 1) u → ⊥) s.views id w (λ h. idle_not (t.served + 1) h) (λ j u ne a. not_next t.served t.drawn t.log u.known.seen u.phase (t.each j u a).stands)))
       (λ j u ne a. let ku = t.each j u a in
-      let two = sum_by-two (has_number m.0.known.number) s.views id j m.0 u (λ h. ne (sym h)) e a in
+      let two = sum_by-two (number_count m.0.known.number) s.views id j m.0 u (λ h. ne (sym h)) e a in
       let zero_there : count m.0.known.number u.known.numbers ≡ 0 = omega (arith, two, own1, t.numbers m.0.known.number, one_most (nat_lt m.0.known.number t.given)) in
       record {
         start = ku.start;
@@ -255,7 +255,7 @@ module _ {T D A R M : Type 0} (plain : T → D) (mark : T → M) (answers : D �
       (w, gives, tt, t', (λ kept' h. ap (λ c. (passed_on calls m.0, rest c)) held))
 
   pub after_it : (v : View T A R) → ◌≡◌ {A = View T A R} (passed_on calls v) (after_call v a b)
-  after_it v = ap (λ o. record v { known = record v.known { seen = v.known.seen ++ entries v.known.number o }; phase = Idle; parts = None }) picked
+  after_it v = ap (λ o. record v { known = record v.known { seen = v.known.seen ++ seat_entries v.known.number o }; phase = Idle; parts = None }) picked
 
 module _ {T : Type 0} where
   abbrev head_or : T → List (ℕ × T) → T
@@ -279,7 +279,7 @@ module _ {T D A R M : Type 0} (plain : T → D) (mark : T → M) (answers : D �
   )
 
 module _ {T D A R M : Type 0} (plain : T → D) (mark : T → M) (answers : D → A → R → D → Type 0) (key : Snapshot T)
-    (k n : ℕ) (v : View T A R) (m : Me T (View T A R)) (l : Looked plain mark answers (step 1 1 0 0 none) (record v { phase = Waiting k }, []) n m) (turn : n ≡ k % around)
+    (k n : ℕ) (v : View T A R) (m : Me T (View T A R)) (l : HasLooked plain mark answers (step 1 1 0 0 none) (record v { phase = Waiting k }, []) n m) (turn : n ≡ k % around)
     (start : v.known.start ≡ Some key) (live : is_live v.known.rank ≡ true) where
   -- a seat whose turn it is has the thing
   pub has_thing : HasThing plain mark answers key m
@@ -320,15 +320,15 @@ module _ {T D A R M : Type 0} (plain : T → D) (mark : T → M) (answers : D �
       }
 
 module _ {T D A R M : Type 0} (plain : T → D) (mark : T → M) (answers : D → A → R → D → Type 0) where
-  pub looked_at : (n : ℕ) (m m0 m' : Me T (View T A R)) → m ≡ m0 → Looked plain mark answers (step 1 1 0 0 none) m n m' → Looked plain mark answers (step 1 1 0 0 none) m0 n m'
-  looked_at n m m0 m' e l = subst (λ x. Looked plain mark answers (step 1 1 0 0 none) x n m') e l
+  pub looked_at : (n : ℕ) (m m0 m' : Me T (View T A R)) → m ≡ m0 → HasLooked plain mark answers (step 1 1 0 0 none) m n m' → HasLooked plain mark answers (step 1 1 0 0 none) m0 n m'
+  looked_at n m m0 m' e l = subst (λ x. HasLooked plain mark answers (step 1 1 0 0 none) x n m') e l
 
   -- a look that finds the turn of who waits
-  pub found_at : (n turn : ℕ) (m m0 m' : Me T (View T A R)) → m ≡ m0 → n ≡ turn → Looked plain mark answers (step 1 1 0 0 none) m n m' → FoundTurn plain mark answers turn m0 m'
+  pub found_at : (n turn : ℕ) (m m0 m' : Me T (View T A R)) → m ≡ m0 → n ≡ turn → HasLooked plain mark answers (step 1 1 0 0 none) m n m' → FoundTurn plain mark answers turn m0 m'
   found_at n turn m m0 m' e f l = subst (λ x. FoundTurn plain mark answers x m0 m') f (looked_at n m m0 m' e l)
 
   -- and one that finds another turn, which leaves all as it is
-  pub not_yet : (n turn k : ℕ) (m m' : Me T (View T A R)) → Looked plain mark answers (step 1 1 0 0 none) m n m' → m.0.phase ≡ Waiting k → turn ≡ k % around → n ≢ turn → m' ≡ m
+  pub not_yet : (n turn k : ℕ) (m m' : Me T (View T A R)) → HasLooked plain mark answers (step 1 1 0 0 none) m n m' → m.0.phase ≡ Waiting k → turn ≡ k % around → n ≢ turn → m' ≡ m
   not_yet n turn k m m' l waiting t ne = (l k waiting).0 (λ e. ne (e ∙ sym t))
 
 module _ {T A R : Type 0} where

@@ -61,8 +61,8 @@ module _ {T A R : Type 0} where
   abbrev pub out : View T A R → ℕ
   out v = out_of v.phase
 
-  abbrev pub has_number : ℕ → View T A R → ℕ
-  has_number x v = count x v.known.numbers
+  abbrev pub number_count : ℕ → View T A R → ℕ
+  number_count x v = count x v.known.numbers
 
   abbrev pub first_view : Snapshot T → View T A R
   first_view start = record { known = first_seat start; phase = Idle; parts = None }
@@ -89,9 +89,9 @@ module _ {T A R : Type 0} where
 
 module _ {A R : Type 0} where
   -- what was seen since continues both parts
-  abbrev pub AreParts : List (Entry A R) → Option (Parts A R) → Type 0
-  AreParts seen None = Unit {0}
-  AreParts seen (Some parts) = Continues parts.numbers parts.seen seen × Continues parts.other_numbers parts.other_seen seen
+  abbrev pub HasParts : List (Entry A R) → Option (Parts A R) → Type 0
+  HasParts seen None = Unit {0}
+  HasParts seen (Some parts) = Continues parts.numbers parts.seen seen × Continues parts.other_numbers parts.other_seen seen
 
 module _ {A R : Type 0} (served drawn : ℕ) (log : List (Entry A R)) where
   -- a turn that is out is one of those that were drawn and not passed on; who is served has seen all of the history
@@ -108,7 +108,7 @@ module _ {T A R : Type 0} (served drawn : ℕ) (log : List (Entry A R)) where
     pub own_calls : calls_by v.known.numbers log ≡ calls_by v.known.numbers v.known.seen
     pub own_number : is_live v.known.rank ≡ true → count v.known.number v.known.numbers ≡ 1
     pub spent : is_live v.known.rank ≡ false → (v.known.numbers ≡ []) × (v.phase ≡ Idle)
-    pub parts : AreParts v.known.seen v.parts
+    pub parts : HasParts v.known.seen v.parts
     pub stands : Stands served drawn log v.known.seen v.phase
 
 module _ {T A R : Type 0} where
@@ -117,8 +117,8 @@ module _ {T A R : Type 0} where
 
 module _ {T D A R M : Type 0} (plain : T → D) (mark : T → M) (answers : D → A → R → D → Type 0) where
   -- the thing is at home as the history leaves it, and no seat is served; or it is out with the seat that is
-  abbrev pub Place : Snapshot T → List (Entry A R) → ℕ → List (option.Option T) → List (View T A R) → Type 0
-  Place key log served homes views =
+  abbrev pub ThingPlace : Snapshot T → List (Entry A R) → ℕ → List (option.Option T) → List (View T A R) → Type 0
+  ThingPlace key log served homes views =
       ((kept : T) × (homes ≡ some kept ∷ []) × IsLeft plain mark answers key.value log kept × ((i : ℕ) (v : View T A R) → get_elem? views i ≡ some v → IsServed served v → ⊥))
       ⊎ ((homes ≡ none ∷ []) × ((i : ℕ) × (v : View T A R) × (get_elem? views i ≡ some v) × IsServed served v))
 
@@ -130,7 +130,7 @@ module _ {T D A R M : Type 0} (plain : T → D) (mark : T → M) (answers : D �
     pub drawn : ℕ
     pub given : ℕ
     pub words : s.words ≡ drawn % around ∷ served % around ∷ []
-    pub place : Place key log served s.homes s.views
+    pub place : ThingPlace key log served s.homes s.views
     pub each : (i : ℕ) (v : View T A R) → get_elem? s.views i ≡ some v → Knows served drawn log key v
     -- no turn is out with two seats, and those that are out are all that were drawn and not passed on
     pub apart : (i j : ℕ) (v w : View T A R) (turn : ℕ) → i ≢ j → get_elem? s.views i ≡ some v → get_elem? s.views j ≡ some w → HasTurn turn v.phase → HasTurn turn w.phase → ⊥
@@ -141,7 +141,7 @@ module _ {T D A R M : Type 0} (plain : T → D) (mark : T → M) (answers : D �
     pub given_is : given ≡ sum_by split_by s.views + 1
     pub few : given ≤ 65536
     -- each number that was given is with one seat, and no other number made a call
-    pub numbers : (x : ℕ) → sum_by (has_number x) s.views ≡ indicator (nat_lt x given)
+    pub numbers : (x : ℕ) → sum_by (number_count x) s.views ≡ indicator (nat_lt x given)
     pub made : All (λ e. e.by < given) log
 
 module _ {T A R : Type 0} where
@@ -151,7 +151,7 @@ module _ {T A R : Type 0} where
 
   -- a seat has learnt what was made of it
   abbrev pub Learnt : Step T → Me T (View T A R) → ℕ → Me T (View T A R) → Type 0
-  Learnt st before found after = (after ≡ (record before.0 { parts = None }, before.1)) × AreParts before.0.known.seen before.0.parts × IsWhole before.0.known
+  Learnt st before found after = (after ≡ (record before.0 { parts = None }, before.1)) × HasParts before.0.known.seen before.0.parts × IsWhole before.0.known
 
   -- a seat that waits is served: it knows the whole history
   abbrev pub served_view : View T A R → ℕ → List (Entry A R) → View T A R
@@ -172,8 +172,8 @@ module _ {T D A R M : Type 0} (plain : T → D) (mark : T → M) (answers : D �
   IsLeftBy (Some start) log thing = IsLeft plain mark answers start.value log thing
 
   -- a seat that waits has looked: where the turn is its own, it has the thing as the history leaves it
-  abbrev pub Looked : Step T → Me T (View T A R) → ℕ → Me T (View T A R) → Type 0
-  Looked st before found after = (turn : ℕ) → before.0.phase ≡ Waiting turn
+  abbrev pub HasLooked : Step T → Me T (View T A R) → ℕ → Me T (View T A R) → Type 0
+  HasLooked st before found after = (turn : ℕ) → before.0.phase ≡ Waiting turn
       → (found ≢ turn % around → after ≡ before)
       × (found ≡ turn % around → (log : List (Entry A R)) × (kept : T) × (after ≡ (served_view before.0 turn log, (0, kept) ∷ before.1))
       × IsPrefix before.0.known.seen log × IsLeftBy before.0.known.start log kept
@@ -187,17 +187,17 @@ module _ {T A R : Type 0} where
 module _ {T D A R M : Type 0} (plain : T → D) (mark : T → M) (answers : D → A → R → D → Type 0) where
   -- a look of a seat that waited has found its turn served
   abbrev pub FoundTurn : ℕ → Me T (View T A R) → Me T (View T A R) → Type 0
-  FoundTurn turn before after = Looked plain mark answers (step 1 1 0 0 none) before turn after
+  FoundTurn turn before after = HasLooked plain mark answers (step 1 1 0 0 none) before turn after
 
 module _ {A R : Type 0} where
   -- calls of the seat of a number
-  abbrev pub entries : ℕ → List (A × R) → List (Entry A R)
-  entries by [] = []
-  entries by (c ∷ cs) = record { by = by; asked = c.0; told = c.1 } ∷ entries by cs
+  abbrev pub seat_entries : ℕ → List (A × R) → List (Entry A R)
+  seat_entries by [] = []
+  seat_entries by (c ∷ cs) = record { by = by; asked = c.0; told = c.1 } ∷ seat_entries by cs
 
 module _ {T A R : Type 0} (calls : List (A × R)) where
   abbrev pub passed_on : View T A R → View T A R
-  passed_on v = record v { known = record v.known { seen = v.known.seen ++ entries v.known.number calls }; phase = Idle; parts = None }
+  passed_on v = record v { known = record v.known { seen = v.known.seen ++ seat_entries v.known.number calls }; phase = Idle; parts = None }
 
   -- the thing is at home again, the turn is passed on, and these calls have joined the history
   abbrev pub Passed : Step T → Me T (View T A R) → ℕ → Me T (View T A R) → Type 0

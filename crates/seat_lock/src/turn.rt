@@ -43,9 +43,9 @@ impl<T: Thing> Play<T, View<T, T::Asked, T::Told>> for DrawTurn {
 pub struct LookTurn;
 
 impl<T: Thing> Play<T, View<T, T::Asked, T::Told>> for LookTurn {
-    ghost use Rattle.seat_lock.specs.Turning.{Looked};
+    ghost use Rattle.seat_lock.specs.Turning.{HasLooked};
 
-    ghost then = { Looked T.plain T.mark T.answers };
+    ghost then = { HasLooked T.plain T.mark T.answers };
 }
 
 /// The thing goes home and the turn is passed on. With this step the call joins the history.

@@ -12,7 +12,7 @@ use Rattle.task_core.specs.declared.plain.Plain.{Plain}
 use Rattle.task_steps.specs.declared.step.Step.{Step}
 use Rattle.task_steps.specs.declared.step.Step.TheVariants.{Stepped, Blocked, Waiting, Ended, Broken}
 use Rattle.run_machine.specs.Maps.{upd}
-use Rattle.run_machine.specs.Named.{Fits}
+use Rattle.run_machine.specs.Named.{FitsEvent}
 use Rattle.task_steps.specs.Choosing.{IsAsked}
 use Rattle.task_steps.specs.Homes.{IsTaskOf}
 use Rattle.task_core.specs.opened.OfOne.{states, tasks_at, run_state, AreOfOne}
@@ -159,7 +159,7 @@ module _ (old new : Plain) (tasks : List TaskOf) (place : ℕ) (lt : place < len
 
   module _ {V : Type 0} (happens : V → Event → V → Type 0) (stream after : Lcg) (before now : V) (answer : Bool) where
     stepped : (event : Event) → TakesStep old (tasks_at tasks) place next.state new (Stepped event)
-        → ChosenBy (tasks_at tasks place) Chooses (Picks old) stream (Stepped event) after → happens before event now → Fits event
+        → ChosenBy (tasks_at tasks place) Chooses (Picks old) stream (Stepped event) after → happens before event now → FitsEvent event
         → Tried happens stack scene place (run_state old tasks) stream before true (run_state new (set tasks place next)) after now
     stepped event turns chosen happened fits =
         let steps = steps_are_events.stepped old new (tasks_at tasks) (length tasks) place next.state event lt round_there turns in (

@@ -9,7 +9,7 @@ use Rattle.run_machine.specs.declared.event.Event.{Event}
 use Rattle.task_core.specs.declared.opening.Opened.{Opened}
 use Rattle.task_core.specs.declared.plain.Plain.{Plain}
 use Rattle.task_core.specs.Leaving.{IsLeft}
-use Rattle.run_machine.specs.Named.{IsEventOf, Fits}
+use Rattle.run_machine.specs.Named.{IsEventOf, FitsEvent}
 use Rattle.task_core.specs.opened.OfOne.{run_state, AreOfOne, IsOpened, scenario_in}
 use Rattle.run_machine.specs.Opened.{Scenario, scene, start}
 use Rattle.task_core.specs.Plains.{objects_of, stage_of}
@@ -41,7 +41,7 @@ pub record IsUnderWay {V : Type 0} (happens : V → Event → V → Type 0) (o :
   pub follows : FollowsSchedule (scene (scenario_in o) (stage_of o.objects).ledger) (start (scenario_in o)) stream events (run_state objects tasks) between
   pub handed : HandsOn happens before events now
   pub named : All (IsEventOf (scenario_in o).stack) events
-  pub fits : All Fits events
+  pub fits : All FitsEvent events
   pub counted : steps ≡ length events
   pub one : AreOfOne objects tasks
   pub stage : stage_of objects ≡ stage_of o.objects
@@ -64,7 +64,7 @@ module _ {V : Type 0} (happens : V → Event → V → Type 0) (o : Opened) (ope
     follows = (begins_at o opened, refl);
     handed = refl;
     named = All-nil (IsEventOf s.stack);
-    fits = All-nil Fits;
+    fits = All-nil FitsEvent;
     counted = refl;
     one = opened.one;
     stage = refl;
@@ -126,7 +126,7 @@ module _ {V : Type 0} (happens : V → Event → V → Type 0) (o : Opened) (ope
           (subst (λ scene. IsTurn scene (run_state objects tasks) between event (run_state new more) after) scene_now turn);
       handed = handed_too happens before way.events now event next way.handed happened;
       named = All-push (IsEventOf s.stack) way.events event way.named (subst (λ stack. IsEventOf stack event) stack_now named);
-      fits = All-push Fits way.events event way.fits fits;
+      fits = All-push FitsEvent way.events event way.fits fits;
       counted = let counted = way.counted in omega (arith, counted, length-append way.events (event ∷ []));
       one = one;
       stage = stage ∙ way.stage;

@@ -5,7 +5,7 @@ use Rattle.task_core.specs.declared.ended.Ended.{Ended}
 use Rattle.run_machine.specs.declared.event.Event.{Event}
 use Rattle.task_core.specs.declared.opening.Opened.{Opened}
 use Rattle.task_core.specs.Leaving.{IsLeft}
-use Rattle.run_machine.specs.Named.{IsEventOf, Fits}
+use Rattle.run_machine.specs.Named.{IsEventOf, FitsEvent}
 use Rattle.task_core.specs.opened.OfOne.{scenario_in}
 use Rattle.run_machine.specs.Opened.{at, scene, start}
 use Rattle.task_core.specs.Plains.{stage_of}
@@ -26,7 +26,7 @@ pub record IsSerialRun {V : Type 0} (happens : V → Event → V → Type 0) (op
   pub follows : FollowsSchedule (scene (scenario_in opened) (stage_of opened.objects).ledger) (start (scenario_in opened)) stream events state after
   pub handed : HandsOn happens before events now
   pub named : All (IsEventOf (scenario_in opened).stack) events
-  pub fits : All Fits events
+  pub fits : All FitsEvent events
   pub ends : HasEnded state
   pub disks : (number : ℕ) → (state.objects.disk number).dev ≡ at number
   pub left : IsLeft (scenario_in opened).stack state.objects (length events) ended

@@ -5,7 +5,7 @@ use Rattle.stack_base.specs.declared.stack.Stack.{Stack}
 use Rattle.run_machine.specs.declared.event.Event.{Event}
 use Rattle.task_steps.specs.declared.step.Step.{Step}
 use Rattle.task_steps.specs.declared.step.Step.TheVariants.{Stepped}
-use Rattle.run_machine.specs.Named.{Fits, IsEventOf}
+use Rattle.run_machine.specs.Named.{FitsEvent, IsEventOf}
 use Rattle.task_steps.specs.TaskViews.{TaskOf}
 use Rattle.task_core.specs.declared.plain.Plain.{Plain}
 use Rattle.task_core.specs.Plains.{stage_of}
@@ -25,7 +25,7 @@ pub record GoesWell (scene : Scene) (state : State) : Type 0 where
 
 -- an event was handed on, whose numbers fit its fields, or there was none
 abbrev pub Hands : {V : Type 0} → (V → Event → V → Type 0) → Step → V → Bool → V → Type 0
-Hands happens (Stepped event) before answer now = (answer ≡ true) × happens before event now × Fits event
+Hands happens (Stepped event) before answer now = (answer ≡ true) × happens before event now × FitsEvent event
 Hands happens step before answer now = (answer ≡ false) × (now ≡ before)
 
 -- a task was tried: it had an event that names what the stack has, by numbers that fit, which was handed on, or none but such as need ordinary
@@ -33,14 +33,14 @@ Hands happens step before answer now = (answer ≡ false) × (now ≡ before)
 abbrev pub Tried : {V : Type 0} → (V → Event → V → Type 0) → Stack → Scene → ℕ → State → Lcg → V → Bool → State → Lcg → V → Type 0
 Tried happens stack scene place old stream before true new after now =
     (event : Event) × Steps scene old place event new × PicksByWord old event.what stream after × happens before event now × IsEventOf stack event
-    × Fits event
+    × FitsEvent event
 Tried happens stack scene place old stream before false new after now =
     (new ≡ old) × (after ≡ stream) × (now ≡ before) × IsPassedOver scene old place
 
 -- one task had an event in a turn, which was handed on
 abbrev pub Turned : {V : Type 0} → (V → Event → V → Type 0) → Stack → Scene → State → Lcg → V → State → Lcg → V → Type 0
 Turned happens stack scene old stream before new after now =
-    (event : Event) × IsTurn scene old stream event new after × happens before event now × IsEventOf stack event × Fits event
+    (event : Event) × IsTurn scene old stream event new after × happens before event now × IsEventOf stack event × FitsEvent event
 
 -- the same of tasks over the objects of one thread
 abbrev pub TriedOver : {V : Type 0} → (V → Event → V → Type 0) → Plain → List TaskOf → ℕ → Lcg → V → Bool → Plain → List TaskOf → Lcg → V → Type 0

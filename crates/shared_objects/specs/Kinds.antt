@@ -11,7 +11,7 @@ use Rattle.run_machine.specs.Requests.{Request, Reply}
 use Rattle.task_core.specs.declared.plain.Plain.{Plain}
 use Rattle.task_core.specs.Plains.{list_number, objects_of, pool_at, tally_of}
 use Rattle.task_core.specs.Tables.{look_up}
-use Rattle.object_things.specs.Stamps.{Told, ThingState, Answers}
+use Rattle.object_things.specs.Stamps.{Told, ThingState, ThingAnswers}
 use Rattle.object_things.specs.Pools.{PoolServes, PoolLooks}
 use Rattle.object_things.specs.Lists.{ListServes, ListLooks}
 use Rattle.object_things.specs.Disks.{DiskServes, DiskLooks}
@@ -45,7 +45,7 @@ looks_at OfTally = TallyLooks
 looks_at OfNone = λ old request reply new. ⊥
 
 abbrev pub answers_at : (name : Object) → ThingState (ThingAt name) → Request → Told → ThingState (ThingAt name) → Type 0
-answers_at name = Answers (serves_at name) (looks_at name)
+answers_at name = ThingAnswers (serves_at name) (looks_at name)
 
 -- the list of a rescuer that there is not
 abbrev pub no_list : ℕ → Rescue

@@ -39,7 +39,7 @@ module _ {T A R : Type 0} where
 
 module _ {K T A R : Type 0} where
   -- a lock round a thing, with its first seat
-  pub record IsOpened (thing : K × T) (lock : K × LockId T) (first : K × SeatState T A R) : Type 0 where
+  pub record IsLockOf (thing : K × T) (lock : K × LockId T) (first : K × SeatState T A R) : Type 0 where
     pub keys : (lock.0 ≡ thing.0) × (first.0 ≡ thing.0)
     pub value : lock.1.key.value ≡ thing.1
     pub first_is : IsFirstOf 0 lock.1 first.1

@@ -1,7 +1,7 @@
 //! Rows of locks and of their seats, each entry with its key. Rows stand in one order: what is at a place of one belongs to what is there in
 //! the others. They are of any thing.
 ghost use Rattle.std.specs.Prelude.{◌≡◌, ◌+◌, ◌<◌, ◌≤◌, ◌++◌, false, All, IfOk, OnErr, length, vec_capacity};
-ghost use Rattle.shared_objects.specs.Rows.{Abreast, AbreastThree, AreChanged, AreAdded, AreSplit, IsFirstOf, IsOpened, IsAt, CanSplit, IsSplit, IsOther, IsJoined, CanClose, IsShutAt};
+ghost use Rattle.shared_objects.specs.Rows.{Abreast, AbreastThree, AreChanged, AreAdded, AreSplit, IsFirstOf, IsLockOf, IsAt, CanSplit, IsSplit, IsOther, IsJoined, CanClose, IsShutAt};
 ghost use Rattle.shared_objects.specs.Joins.{CallsStayApart};
 
 use seat_lock::{Seat, SeatLock, Shut, Thing};
@@ -26,7 +26,7 @@ fn open_one<K: Copy + Drop, T: Thing + Drop>(
     alloc: Global,
     entry: (K, T),
 ) -> Result<((K, SeatLock<T>), (K, Seat<T>)), AllocError>
-    ensures { IfOk result (λ made. IsOpened entry made.0 made.1) }
+    ensures { IfOk result (λ made. IsLockOf entry made.0 made.1) }
 {
     let (key, thing) = entry;
     let (lock, first) = lock_one(alloc, thing)?;
@@ -43,7 +43,7 @@ pub fn open_row<K: Copy + Drop, T: Thing + Drop>(
     alloc: Global,
     things: Vec<(K, T)>,
 ) -> Result<(Vec<(K, SeatLock<T>)>, Vec<(K, Seat<T>)>), AllocError>
-    ensures { IfOk result (λ made. AbreastThree IsOpened things.items made.0.items made.1.items) }
+    ensures { IfOk result (λ made. AbreastThree IsLockOf things.items made.0.items made.1.items) }
 {
     let mut locks = Vec::with_capacity(alloc, things.len())?;
     let mut firsts = Vec::with_capacity(alloc, things.len())?;

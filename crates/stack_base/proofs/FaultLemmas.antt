@@ -143,13 +143,13 @@ module _ (range : Range) where
   ]
 
   -- what decides, from the start
-  IsTold : List Bad → Type 0
-  IsTold bads =
+  IsFaultTold : List Bad → Type 0
+  IsFaultTold bads =
       (AreUntouched bads range × (deciding range bads ≡ None))
       ⊎ ((place : ℕ) × (bad : Bad) × DecidesAt bads range place bad × (deciding range bads ≡ Some bad))
 
-  told_first : (bad : Bad) (bads : List Bad) → touches bad.range range ≡ true → FromFound bads bad → IsTold (bad ∷ bads)
-  unfolding FromFound IsTold
+  told_first : (bad : Bad) (bads : List Bad) → touches bad.range range ≡ true → FromFound bads bad → IsFaultTold (bad ∷ bads)
+  unfolding FromFound IsFaultTold
   told_first bad bads touched (inl kept) =
       inr (0, bad, decides_here bad bads touched kept.0, ap (λ o. fold (better range) o bads) (better_first bad touched) ∙ kept.1)
   told_first bad bads touched (inr (place, decider, decides, before, is)) =
@@ -160,8 +160,8 @@ module _ (range : Range) where
         ap (λ o. fold (better range) o bads) (better_first bad touched) ∙ is,
       )
 
-  told_later : (bad : Bad) (bads : List Bad) → touches bad.range range ≡ false → IsTold bads → IsTold (bad ∷ bads)
-  unfolding IsTold
+  told_later : (bad : Bad) (bads : List Bad) → touches bad.range range ≡ false → IsFaultTold bads → IsFaultTold (bad ∷ bads)
+  unfolding IsFaultTold
   told_later bad bads apart (inl none) =
       inl (untouched_more bad bads apart none.0, ap (λ o. fold (better range) o bads) (better_untouched None bad apart) ∙ none.1)
   told_later bad bads apart (inr (place, decider, decides, is)) =
@@ -172,8 +172,8 @@ module _ (range : Range) where
         ap (λ o. fold (better range) o bads) (better_untouched None bad apart) ∙ is,
       )
 
-  told : (bads : List Bad) → IsTold bads
-  unfolding IsTold
+  told : (bads : List Bad) → IsFaultTold bads
+  unfolding IsFaultTold
   told [] = inl (λ place bad at. cc, refl)
   told (bad ∷ bads) = elim (cases_Bool (touches bad.range range)) [
     | inl touched ↦ told_first bad bads touched (from_found bads bad)
@@ -184,7 +184,7 @@ module _ (range : Range) where
 pub deciding_is : (bads : List Bad) (range : Range)
     → (AreUntouched bads range × (deciding range bads ≡ None))
     ⊎ ((place : ℕ) × (bad : Bad) × DecidesAt bads range place bad × (deciding range bads ≡ Some bad))
-unfolding IsTold
+unfolding IsFaultTold
 deciding_is bads range = told range bads
 
 fault_found : (bads : List Bad) (range : Range) (found : Option Bad) → deciding range bads ≡ found

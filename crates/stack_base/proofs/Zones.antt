@@ -66,14 +66,14 @@ abbrev pub before : List ℕ → ℕ → ℕ
 before counts j = total (λ i. min (slice_index counts i) j) 0 (length counts)
 
 -- the number of a member's chunk j: behind the chunks before it of all members, and those at j of the members before this one
-abbrev pub number : List ℕ → ℕ → ℕ → ℕ
-number counts m j = before counts j + length (passing (λ i. nat_lt j (slice_index counts i)) 0 m)
+abbrev pub chunk_rank : List ℕ → ℕ → ℕ → ℕ
+chunk_rank counts m j = before counts j + length (passing (λ i. nat_lt j (slice_index counts i)) 0 m)
 
 -- a chunk of a member, with this number
 pub record IsAt (counts : List ℕ) (to : Slot) (e : ℕ) : Type 0 where
   pub member : to.member < length counts
   pub at : to.at < slice_index counts to.member
-  pub numbered : number counts to.member to.at ≡ e
+  pub numbered : chunk_rank counts to.member to.at ≡ e
 
 module _ (counts : List ℕ) where
   -- the chunks before a zone's end are those before its base and its own
@@ -91,7 +91,7 @@ module _ (counts : List ℕ) where
   -- numbers within a zone from b to t
   zone_number :
       (b t row k : ℕ) → b + row < t → HasGap counts b t → k ≤ length counts
-      → number counts k (b + row) ≡ before counts b + (row * length (reaching counts t) + length (passing (λ i. nat_le t (slice_index counts i)) 0 k))
+      → chunk_rank counts k (b + row) ≡ before counts b + (row * length (reaching counts t) + length (passing (λ i. nat_le t (slice_index counts i)) 0 k))
   unfolding reaching
   zone_number b t row k lt gap within =
       let f = slice_index counts in
@@ -159,8 +159,8 @@ module _ (counts : List ℕ) where
   -- chunk j of a member that has it, in a zone from b to t
   zone_back :
       (b t m j : ℕ) → HasGap counts b t → m < length counts → b ≤ j → j < t → j < slice_index counts m
-      → (before counts b ≤ number counts m j) × (number counts m j - before counts b < length (reaching counts t) * (t - b))
-      × (in_zone (zone b t) (number counts m j - before counts b) ≡ record { member = m; at = j })
+      → (before counts b ≤ chunk_rank counts m j) × (chunk_rank counts m j - before counts b < length (reaching counts t) * (t - b))
+      × (in_zone (zone b t) (chunk_rank counts m j - before counts b) ≡ record { member = m; at = j })
   unfolding reaching
   zone_back b t m j gap within low high has =
       let f = slice_index counts in
@@ -175,12 +175,12 @@ module _ (counts : List ℕ) where
       let short : index < many = omega (arith, there.0) in
       let found : get_or (passing test 0 (length counts)) index 0 ≡ m = ap (λ x. get_or (passing test 0 (length counts)) x 0) (sym same) ∙ there.1 in
       let whole : b + row ≡ j = omega arith in
-      let numbered : number counts m j ≡ before counts b + (row * many + index) =
-      ap (number counts m) (sym whole) ∙ zone_number b t row m (omega arith) gap (omega arith) in
-      let e : number counts m j - before counts b ≡ row * many + index = omega arith in
-      let member : slice_index (reaching counts t) ((number counts m j - before counts b) % many) ≡ m =
+      let numbered : chunk_rank counts m j ≡ before counts b + (row * many + index) =
+      ap (chunk_rank counts m) (sym whole) ∙ zone_number b t row m (omega arith) gap (omega arith) in
+      let e : chunk_rank counts m j - before counts b ≡ row * many + index = omega arith in
+      let member : slice_index (reaching counts t) ((chunk_rank counts m j - before counts b) % many) ≡ m =
       ap (λ x. slice_index (reaching counts t) (x % many)) e ∙ ap (slice_index (reaching counts t)) (mod-mul-add row many index short) ∙ found in
-      let at : b + (number counts m j - before counts b) / many ≡ j =
+      let at : b + (chunk_rank counts m j - before counts b) / many ≡ j =
       ap (λ x. b + x / many) e ∙ ap (λ x. b + x) (div-mul-add row many index short) ∙ whole in (
         omega arith,
         omega (arith, mul-add-lt row many index (t - b) (omega arith) short),
@@ -190,21 +190,21 @@ module _ (counts : List ℕ) where
   -- so each chunk of a member is the chunk of the zones with its number
   pub zones_back :
       (ts : List ℕ) (b m j : ℕ) → IsEnumeration counts b ts → m < length counts → b ≤ j → j < slice_index counts m
-      → (before counts b ≤ number counts m j)
-      × (in_zones (zones_from counts b ts) (number counts m j - before counts b) ≡ record { member = m; at = j })
+      → (before counts b ≤ chunk_rank counts m j)
+      × (in_zones (zones_from counts b ts) (chunk_rank counts m j - before counts b) ≡ record { member = m; at = j })
   unfolding zones_from
   zones_back [] b m j ends within low has = absurd (omega (arith, ends m within))
   zones_back (t ∷ ts) b m j enum within low has =
       elim (cases_lt j t) [
         | inl here ↦
             let part = zone_back b t m j enum.1 within low here has in
-            (part.0, in_zones-in (zone b t) (zones_from counts t ts) (number counts m j - before counts b) part.1 ∙ part.2)
+            (part.0, in_zones-in (zone b t) (zones_from counts t ts) (chunk_rank counts m j - before counts b) part.1 ∙ part.2)
         | inr beyond ↦
             let rest = zones_back ts t m j enum.2 within beyond has in
             let chunks = length (reaching counts t) * (t - b) in
             let moved : before counts t ≡ before counts b + chunks = next_before b t enum.0 enum.1 in
-            let e = number counts m j - before counts b in
-            let left : e - chunks ≡ number counts m j - before counts t = omega (arith, rest.0) in (
+            let e = chunk_rank counts m j - before counts b in
+            let left : e - chunks ≡ chunk_rank counts m j - before counts t = omega (arith, rest.0) in (
               omega (arith, rest.0),
               in_zones-behind (zone b t) (zones_from counts t ts) e (omega (arith, rest.0))
                   ∙ ap (in_zones (zones_from counts t ts)) left ∙ rest.1,
@@ -278,7 +278,7 @@ chunk_forward counts e lt =
 -- and each chunk of a member is the chunk of the device with its number
 pub chunk_back :
     (counts : List ℕ) (m j : ℕ) → m < length counts → j < slice_index counts m
-    → in_zones (zones counts) (number counts m j) ≡ record { member = m; at = j }
+    → in_zones (zones counts) (chunk_rank counts m j) ≡ record { member = m; at = j }
 chunk_back counts m j within has =
-    let same : number counts m j - before counts 0 ≡ number counts m j = omega (arith, none_before counts) in
+    let same : chunk_rank counts m j - before counts 0 ≡ chunk_rank counts m j = omega (arith, none_before counts) in
     ap (in_zones (zones counts)) (sym same) ∙ (zones_back counts (levels counts) 0 m j (levels_enumerate counts) within (omega arith) has).1

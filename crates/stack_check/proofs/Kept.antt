@@ -11,7 +11,7 @@ use Rattle.decl_text.specs.declared.item.What.{What}
 use Rattle.decl_text.specs.declared.item.What.TheVariants as what
 use Rattle.decl_text.specs.Known.{Declared, all_members, trees}
 use Rattle.decl_text.specs.Checks.{all_sectors, disks, has_count, is_among}
-use Rattle.stack_check.specs.Sound.{AreSound, IsFit, IsKept}
+use Rattle.stack_check.specs.Sound.{AreSound, IsFit, AreTalliedDevices}
 use Rattle.stack_check.proofs.TreeLemmas.{trees_length}
 
 -- no device takes more than eight members
@@ -24,7 +24,7 @@ count_few (what.Limit longest chunk) count takes = omega (arith, eqb-true count 
 count_few (what.Mirror records) count takes = leb-true count 8 (and_parts (nat_le 1 count) (nat_le count 8) takes).1
 
 -- there is a size for each device
-pub sizes_many : (sizes : List ℕ) (flags : List Bool) (disk_count sectors : ℕ) (devices : List Declared) → IsKept sizes flags disk_count sectors devices → length sizes ≡ length devices
+pub sizes_many : (sizes : List ℕ) (flags : List Bool) (disk_count sectors : ℕ) (devices : List Declared) → AreTalliedDevices sizes flags disk_count sectors devices → length sizes ≡ length devices
 sizes_many sizes flags disk_count sectors devices kept = ap length kept.1.sizes ∙ length-map (trees devices) size ∙ trees_length devices
 
 -- the members of the last device were declared before it
@@ -51,7 +51,7 @@ none_sound = record {
 }
 
 -- no devices
-pub none_kept : (devices : List Declared) (sizes : List ℕ) → devices ≡ [] → sizes ≡ [] → IsKept sizes (replicate 32 false) 0 0 devices
+pub none_kept : (devices : List Declared) (sizes : List ℕ) → devices ≡ [] → sizes ≡ [] → AreTalliedDevices sizes (replicate 32 false) 0 0 devices
 none_kept devices sizes none empty = (
   subst AreSound (sym none) none_sound,
   record {

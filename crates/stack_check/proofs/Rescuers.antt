@@ -16,7 +16,7 @@ use Rattle.decl_text.specs.Text.{words}
 use Rattle.decl_text.specs.Items.{said}
 use Rattle.decl_text.specs.Known.{Known, Declared, after_line, declared, declares_mirror, nothing, number_in}
 use Rattle.decl_text.specs.Checks.{needs_rescuer}
-use Rattle.decl_text.specs.Accepting.{Means, shown, what_of}
+use Rattle.decl_text.specs.Accepting.{Means, shown, what_of_kind}
 use Rattle.decl_text.specs.Refusals.{check, item_checks, known_after, refusal, said_reason}
 use Rattle.decl_text.specs.declared.item.Item.{Item}
 use Rattle.decl_text.specs.declared.item.Item.TheVariants as item
@@ -67,7 +67,7 @@ pub stack_helped : (all : List (List ℕ)) (stack : Stack) (scripts : List (Pool
 stack_helped all stack scripts none means = λ number records device found mirror many.
     let here : slice_get (known_after nothing all).devices number ≡ Some (shown device) =
     ap (λ (ds : List Declared). slice_get ds number) (sym means.devices) ∙ slice_get-map shown stack.devices.items number ∙ ap (option_map shown) found in
-    lines_helped all none number (shown device) here (ap (λ (k : Kind). declares_mirror (what_of k)) mirror) (omega (arith, many, length-map device.members.items (λ (m : DevId). m.0)))
+    lines_helped all none number (shown device) here (ap (λ (k : Kind). declares_mirror (what_of_kind k)) mirror) (omega (arith, many, length-map device.members.items (λ (m : DevId). m.0)))
 
 pub HasRescuers-prop : (stack : Stack) → IsProp (HasRescuers stack)
 HasRescuers-prop stack = hlevel Bool-set

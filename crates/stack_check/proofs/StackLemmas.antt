@@ -17,7 +17,7 @@ use Rattle.stack_base.specs.Tree.{Leaf, size}
 use Rattle.stack_base.proofs.DeclaredBounds.{declared_stack}
 use Rattle.decl_text.specs.Known.{Declared, sectors_of, trees}
 use Rattle.decl_text.specs.Checks.{all_sectors, has_count}
-use Rattle.decl_text.specs.Accepting.{shown, shown_devices, what_of}
+use Rattle.decl_text.specs.Accepting.{shown, shown_devices, what_of_kind}
 use Rattle.decl_text.proofs.ShownTrees.{shown_trees}
 use Rattle.stack_check.specs.Sound.{AreSound, IsFit, HasNumbers}
 use Rattle.stack_check.proofs.MembersOnce.{IsMemberOf, member_once}
@@ -28,7 +28,7 @@ seen_at : {A B : Type 0} (f : A → B) (xs : List A) (i : ℕ) (x : A) → slice
 seen_at f xs i x found = slice_get-map f xs i ∙ ap (option_map f) found
 
 -- a device that takes its members has the shape of its kind
-has_shape : (kind : Kind) (members : ℕ) → HasNumbers (what_of kind) → IsTrue (has_count (what_of kind) members) → HasShape kind members
+has_shape : (kind : Kind) (members : ℕ) → HasNumbers (what_of_kind kind) → IsTrue (has_count (what_of_kind kind) members) → HasShape kind members
 has_shape (kind.Disk sectors bad) members numbers takes = eqb-true members 0 takes
 has_shape kind.Linear members numbers takes =
     let parts = and_parts (nat_le 1 members) (nat_le members 8) takes in
@@ -44,7 +44,7 @@ has_shape (kind.Mirror records) members numbers takes =
     let parts = and_parts (nat_le 1 members) (nat_le members 8) takes in
     (leb-true 1 members parts.0, leb-true members 8 parts.1)
 
-own_is : (kind : Kind) → own_sectors kind ≡ sectors_of (what_of kind)
+own_is : (kind : Kind) → own_sectors kind ≡ sectors_of (what_of_kind kind)
 own_is (kind.Disk sectors bad) = refl
 own_is kind.Linear = refl
 own_is (kind.Stripe chunk) = refl
@@ -78,7 +78,7 @@ module _ (stack : Stack) (sound : AreSound (shown_devices stack)) where
       subst IsFit (get_or_from_slice_get (shown_devices stack) number (shown device) (shown device) here)
       (sound.fit number (shown device) (slice_get_within (shown_devices stack) number (shown device) here)) in
       has_shape device.kind (length device.members.items) fit.numbers
-      (ap (has_count (what_of device.kind)) (sym (length-map device.members.items (λ (id : DevId). id.0))) ∙ fit.count)
+      (ap (has_count (what_of_kind device.kind)) (sym (length-map device.members.items (λ (id : DevId). id.0))) ∙ fit.count)
 
   member_shown : (d i m : ℕ) → IsMember stack d i m → IsMemberOf (shown_devices stack) d i m
   member_shown d i m one =

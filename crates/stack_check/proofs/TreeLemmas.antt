@@ -10,7 +10,7 @@ use Rattle.stack_base.proofs.Unfolded.{size-over}
 use Rattle.stack_base.proofs.DeclaredKinds.{size_of_le}
 use Rattle.decl_text.specs.declared.item.What.{What}
 use Rattle.decl_text.specs.declared.item.What.TheVariants as what
-use Rattle.decl_text.specs.Known.{Declared, trees, tree_of, tree_over, grown, sectors_of}
+use Rattle.decl_text.specs.Known.{Declared, trees, tree_of, tree_over, device_tree, sectors_of}
 use Rattle.decl_text.proofs.Fits.{one_more}
 use Rattle.stack_check.specs.Sound.{what_size}
 use Rattle.stack_check.specs.Rows.{size_with}
@@ -73,17 +73,17 @@ map_agree f g (x ∷ xs) same =
 pub tree_at :
     (devices : List Declared) (p : ℕ) (device : Declared) → slice_get devices p ≡ Some device
     → ((i m : ℕ) → slice_get device.members i ≡ Some m → m < p)
-    → tree_of devices p ≡ grown p device.what (map (tree_of devices) device.members)
+    → tree_of devices p ≡ device_tree p device.what (map (tree_of devices) device.members)
 tree_at devices p device found below =
     let within = slice_get_within devices p device found in
     let many : length (trees (take p devices)) ≡ p = omega (arith, trees_length (take p devices), length-take p devices) in
     tree_before devices p device (Leaf p 0) found
-    ∙ ap (λ n. grown n device.what (map (λ (m : ℕ). get_or (trees (take p devices)) m (Leaf m 0)) device.members)) many
-    ∙ ap (grown p device.what) (map_agree (λ (m : ℕ). get_or (trees (take p devices)) m (Leaf m 0)) (tree_of devices) device.members (λ i m is.
+    ∙ ap (λ n. device_tree n device.what (map (λ (m : ℕ). get_or (trees (take p devices)) m (Leaf m 0)) device.members)) many
+    ∙ ap (device_tree p device.what) (map_agree (λ (m : ℕ). get_or (trees (take p devices)) m (Leaf m 0)) (tree_of devices) device.members (λ i m is.
     first_trees devices p m (Leaf m 0) (omega arith) (below i m is)))
 
 -- the size of a device goes by those of its members
-pub size-grown : (number : ℕ) (does : What) (members : List Tree) → size (grown number does members) ≡ what_size does (map size members)
+pub size-grown : (number : ℕ) (does : What) (members : List Tree) → size (device_tree number does members) ≡ what_size does (map size members)
 size-grown number (what.Disk sectors) members = refl
 size-grown number what.Linear members = size-over number kind.Linear members
 size-grown number (what.Stripe chunk) members = size-over number (kind.Stripe chunk) members

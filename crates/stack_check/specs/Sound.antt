@@ -62,8 +62,8 @@ what_size (what.Limit longest chunk) sizes = size_of (kind.Limit longest chunk) 
 what_size (what.Mirror records) sizes = size_of (kind.Mirror 0) sizes
 
 -- the devices are sound, and what is kept beside them is right
-abbrev pub IsKept : List ℕ → List Bool → ℕ → ℕ → List Declared → Type 0
-IsKept sizes taken disk_count sectors devices = AreSound devices × IsTallied devices sizes taken disk_count sectors
+abbrev pub AreTalliedDevices : List ℕ → List Bool → ℕ → ℕ → List Declared → Type 0
+AreTalliedDevices sizes taken disk_count sectors devices = AreSound devices × IsTallied devices sizes taken disk_count sectors
 
 -- the writers' pools are not too large
 abbrev pub HasFewElements : Option Reserves → Type 0

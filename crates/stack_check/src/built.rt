@@ -2,7 +2,7 @@
 ghost use Rattle.std.specs.Prelude.{◌≡◌, ◌<◌, ◌≤◌, [], IfOk, IsTrue, false, map};
 ghost use Rattle.decl_text.specs.Text.{is_name};
 ghost use Rattle.decl_text.specs.Known.{declares_disk};
-ghost use Rattle.decl_text.specs.Accepting.{bad_of, shown, what_of};
+ghost use Rattle.decl_text.specs.Accepting.{bad_of, shown, what_of_kind};
 ghost use Rattle.stack_check.specs.Finish.{AreBuilt, ranges_of};
 ghost use Rattle.stack_check.specs.Sound.{AreSound, AreOfDisks, IsFit, records_of_what};
 
@@ -57,7 +57,7 @@ fn device_of(
 fn kind_of(alloc: Global, what: What, number: u32, bad: &[BadAt]) -> Result<Kind, AllocError>
     requires few { records_of_what what ≤ 1024 }
     requires clean { declares_disk what ≡ false → ranges_of bad.now number ≡ [] }
-    ensures { IfOk result (λ kind. (what_of kind ≡ what) × (bad_of kind ≡ ranges_of bad.now number)) }
+    ensures { IfOk result (λ kind. (what_of_kind kind ≡ what) × (bad_of kind ≡ ranges_of bad.now number)) }
 {
     match what {
         What::Disk { sectors } => {

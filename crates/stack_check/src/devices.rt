@@ -39,13 +39,13 @@ pub(crate) struct Devices<'a> {
 impl<'a> Model for Devices<'a> {
     ghost use Rattle.std.specs.Prelude.{List};
     ghost use Rattle.decl_text.specs.Known.{Declared};
-    ghost use Rattle.stack_check.specs.Sound.{IsKept};
+    ghost use Rattle.stack_check.specs.Sound.{AreTalliedDevices};
 
     ghost Value = { List Declared };
 
     ghost view = { λ devices. devices.placed.items };
 
-    ghost invariant = { λ devices. IsKept devices.sizes.items devices.taken devices.disks devices.sectors devices.placed.items };
+    ghost invariant = { λ devices. AreTalliedDevices devices.sizes.items devices.taken devices.disks devices.sectors devices.placed.items };
 }
 
 impl<'a> Devices<'a> {

@@ -1,7 +1,7 @@
 //! The pools of the devices so far, by their names.
 ghost use Rattle.std.specs.Prelude.{◌≡◌, ◌≤◌, IfSome};
 ghost use Rattle.stack_base.specs.PoolId.{pool_number};
-ghost use Rattle.decl_text.specs.Known.{bios_named, bios_of, pool_if, pool_of, records_named, records_of};
+ghost use Rattle.decl_text.specs.Known.{bios_named, bios_pool_of, pool_if, pool_of, records_named, records_pool_of};
 
 use crate::devices::Devices;
 use decl_text::{What, Word};
@@ -46,7 +46,7 @@ impl Devices<'_> {
 
     /// The pool of bios of the device of this number.
     fn bios_at(&self, number: usize) -> Option<PoolId>
-        ensures pool { result ≡ pool_if bios_of self.now number }
+        ensures pool { result ≡ pool_if bios_pool_of self.now number }
         ensures small { IfSome result (λ pool. pool_number pool ≤ 65) }
     {
         match self.what_at(number)? {
@@ -57,7 +57,7 @@ impl Devices<'_> {
 
     /// The pool of records of the device of this number.
     fn records_at(&self, number: usize) -> Option<PoolId>
-        ensures pool { result ≡ pool_if records_of self.now number }
+        ensures pool { result ≡ pool_if records_pool_of self.now number }
         ensures small { IfSome result (λ pool. pool_number pool ≤ 65) }
     {
         match self.what_at(number)? {

@@ -11,6 +11,6 @@ pub record Numbers : Type 0 where
   pub smallest : ℕ
 
 -- they are those of a stripe, with no more sectors than all disks may have
-pub record IsKept (stripe : Numbers) : Type 0 where
+pub record IsStripe (stripe : Numbers) : Type 0 where
   pub shape : HasShape (Stripe stripe.chunk) stripe.members
   pub small : size_of (Stripe stripe.chunk) (replicate stripe.members stripe.smallest) ≤ 262144

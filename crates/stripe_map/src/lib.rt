@@ -18,13 +18,13 @@ pub struct Stripe {
 }
 
 impl Model for Stripe {
-    ghost use Rattle.stripe_map.specs.Numbers.{Numbers, IsKept};
+    ghost use Rattle.stripe_map.specs.Numbers.{Numbers, IsStripe};
 
     ghost Value = { Numbers };
 
     ghost view = { λ s. record { chunk = s.chunk; members = s.members; smallest = s.smallest } };
 
-    ghost invariant = { λ s. IsKept (record { chunk = s.chunk; members = s.members; smallest = s.smallest }) };
+    ghost invariant = { λ s. IsStripe (record { chunk = s.chunk; members = s.members; smallest = s.smallest }) };
 }
 
 impl Stripe {

@@ -3,13 +3,13 @@ use Rattle.std.proofs.Common.{◌≡◌, ◌≢◌, ◌%◌, ◌==◌, ◌&&◌,
 use Rattle.std.specs.Prelude.{IsTrue}
 use Rattle.std.proofs.lemmas.Bool.Decides.{nat_tests}
 use Rattle.elem_ledger.specs.Ledger.{LedgerId}
-use Rattle.mempool_core.specs.Move.{PoolState, Move}
+use Rattle.mempool_core.specs.Move.{PoolState, PoolMove}
 use Rattle.mempool_core.specs.Pool.{LedgerPool}
 use Rattle.mempool_core.specs.Pool as pool
 use Rattle.task_steps.specs.Stage.{is_bios, is_slips}
 use Rattle.task_core.specs.declared.plain.Plain.{Plain}
 use Rattle.run_machine.specs.Maps.{upd}
-use Rattle.run_machine.specs.Objects.{PoolMoves}
+use Rattle.run_machine.specs.Objects.{MovesPool}
 use Rattle.task_core.specs.Plains.{Holds, is_bios_number, pool_at, objects_of, stage_of}
 use Rattle.task_core.proofs.NumberTests.{same_by}
 
@@ -124,8 +124,8 @@ module _ (old new : Plain) (n : ℕ) (x : LedgerPool) (is : pool_at new ≡ upd 
   most_at e m true q = let same : m ≡ n = same_by m n q in rw (q) (e ∙ ap (λ j. (pool_at old j).most) (sym same))
   most_at e m false q = rw (q) refl
 
-  module _ (move : Move) (moves : pool.PoolMoves (pool_at old n) move x) where
-    pub moves_pool : PoolMoves (objects_of old) n move (objects_of new)
+  module _ (move : PoolMove) (moves : pool.PoolMoves (pool_at old n) move x) where
+    pub moves_pool : MovesPool (objects_of old) n move (objects_of new)
     moves_pool = (
       moves.moves.can,
       others ∙ ap (λ f. record (objects_of old) { pool = f }) (states ∙ ap (upd (objects_of old).pool n) moves.moves.after),

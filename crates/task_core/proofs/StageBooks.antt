@@ -8,7 +8,7 @@ use Rattle.bio_records.specs.declared.bio.Pad.{Pad}
 use Rattle.bio_records.specs.Items.{Item}
 use Rattle.bio_books.specs.Books.{VectorItem, SlipItem, Node, BookState, node_at, with_node, parent_of, nothing_held, top_node, child_node, master_node, leg_node, keeping, raised, told, lowered, later_part}
 use Rattle.bio_books.specs.Links.{Linked, Made, NoRoom, Stray, Opens, ChainsAt, MastersAt, LegsAt}
-use Rattle.bio_books.specs.Drops.{Ended, DropsAt, closed_of, Left, Up, Top}
+use Rattle.bio_books.specs.Drops.{DropOutcome, DropsAt, closed_of, Left, Up, Top}
 use Rattle.bio_books.specs.Drops as end
 use Rattle.run_machine.specs.Requests.{Opening, Write, Chain, Master, Leg}
 use Rattle.run_machine.specs.Objects.{Opened}
@@ -126,7 +126,7 @@ module _ (stage : Stage) where
       → ClosedFits stage (closed_of (told node status part))
   closed_fits node status part is came = record { held = told_holds node status part is came; top = top_fits node.write (parent_of node.role) is.write }
 
-  pub drops_is : (writer place : ℕ) (status : Status) (part : Option (Item Pad)) (ended : Ended) (old new : BookState) → IsBookOf stage writer old
+  pub drops_is : (writer place : ℕ) (status : Status) (part : Option (Item Pad)) (ended : DropOutcome) (old new : BookState) → IsBookOf stage writer old
       → IsBioHome stage part → (node : Option Node) → IsOpenOf node → DropsAt old place node status part ended new
       → IsBookOf stage writer new × DropFits stage ended
   drops_is writer place status part Left old new is came (Some node) here drops = (

@@ -8,14 +8,14 @@ use Rattle.std.proofs.lemmas.List.Sums.{passes_at_first}
 use Rattle.std.proofs.lemmas.Option.{slice_get-get_or}
 use Rattle.std.proofs.lemmas.Bool.Decides.{nat_tests}
 use Rattle.run_machine.specs.Maps.{upd}
-use Rattle.task_core.specs.Tables.{is_entry_of, look_up, IsAt, AreAt}
+use Rattle.task_core.specs.Tables.{is_entry_of, look_up, IsEntryAt, AreAt}
 use Rattle.run_machine.proofs.Frames.{upd_same, upd_other}
 use Rattle.task_core.proofs.NumberTests.{same_by, apart_by, is_itself}
 
 not_other : (a b c : ℕ) → a ≡ b → (c == b) ≡ false → (a == c) ≡ false
 not_other a b c e q = grind (arith, nat_tests)
 
-module _ {E : Type 0} (key : E → ℕ) (table : List ℕ) (entries : List E) (n i : ℕ) (at : IsAt key table entries n) (place : i ≡ slice_index_or table n 0)
+module _ {E : Type 0} (key : E → ℕ) (table : List ℕ) (entries : List E) (n i : ℕ) (at : IsEntryAt key table entries n) (place : i ≡ slice_index_or table n 0)
     (entry : E) (is : entry ≡ get_or entries i entry) where
   placed : i ≡ position_or_len (is_entry_of key n) entries
   placed = place ∙ at.first
@@ -60,7 +60,7 @@ module _ {E : Type 0} (key : E → ℕ) (table : List ℕ) (entries : List E) (n
 
     pub places_stay : (is_used : ℕ → Bool) → AreAt key is_used table entries → AreAt key is_used table (set entries i new)
     places_stay is_used all m used =
-        let old : IsAt key table entries m = all m used in
+        let old : IsEntryAt key table entries m = all m used in
         let tests : (key new == m) ≡ (key (get_or entries i entry) == m) = ap (λ k. k == m) keyed ∙ ap (λ e. key e == m) is in
         let long : length (set entries i new) ≡ length entries = length-set entries i new in
         record {

@@ -53,7 +53,7 @@ no_pool stack some number = record {
 }
 
 abbrev pub no_disk : Stack → ℕ → DiskState
-no_disk stack dev = disk.opened (at dev) (size (tree stack dev)) (bads_of stack dev)
+no_disk stack dev = disk.blank_disk (at dev) (size (tree stack dev)) (bads_of stack dev)
 
 abbrev pub no_book : ℕ → BookState
 no_book writer = record { writer = writer; nodes = [] }

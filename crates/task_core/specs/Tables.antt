@@ -12,10 +12,10 @@ abbrev pub look_up : {E X : Type 0} → (E → ℕ) → (E → X) → (ℕ → X
 look_up key value none entries number = option_map_or value (find (is_entry_of key number) entries) (none number)
 
 -- The first entry of a number stands where a table says.
-pub record IsAt {E : Type 0} (key : E → ℕ) (table : List ℕ) (entries : List E) (number : ℕ) : Type 0 where
+pub record IsEntryAt {E : Type 0} (key : E → ℕ) (table : List ℕ) (entries : List E) (number : ℕ) : Type 0 where
   pub there : slice_index_or table number 0 < length entries
   pub first : slice_index_or table number 0 ≡ position_or_len (is_entry_of key number) entries
 
 -- so it is with each number that is used
 abbrev pub AreAt : {E : Type 0} → (E → ℕ) → (ℕ → Bool) → List ℕ → List E → Type 0
-AreAt key is_used table entries = (number : ℕ) → IsTrue (is_used number) → IsAt key table entries number
+AreAt key is_used table entries = (number : ℕ) → IsTrue (is_used number) → IsEntryAt key table entries number

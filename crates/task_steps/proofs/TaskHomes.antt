@@ -7,7 +7,7 @@ use Rattle.stack_base.specs.Stack.{IsStack}
 use Rattle.bio_records.specs.declared.bio.Pad.{Pad}
 use Rattle.bio_records.specs.Items.{Item}
 use Rattle.bio_books.specs.Books.{VectorItem, SlipItem}
-use Rattle.bio_books.specs.Drops.{Closed, Ended}
+use Rattle.bio_books.specs.Drops.{Closed, DropOutcome}
 use Rattle.bio_books.specs.Drops as end
 use Rattle.bio_books.specs.Links.{Linked, Made, NoRoom, Stray}
 use Rattle.run_machine.specs.declared.event.Breach.{Breach}
@@ -161,7 +161,7 @@ module _ (stage : Stage) (good : IsStack stage.routing.stack) where
   given_home writer closed None None (Some slip) book b s top = (book, record { held = record { bio = tt; vector = tt; slip = tt }; top = top })
   given_home writer closed None None None book b s top = tt
 
-  dropped_home : (writer node : ℕ) (ended : Ended) → IsTrue (has_book stage writer) → DropFits stage ended → CarriedFits stage (after_drop writer node ended)
+  dropped_home : (writer node : ℕ) (ended : DropOutcome) → IsTrue (has_book stage writer) → DropFits stage ended → CarriedFits stage (after_drop writer node ended)
   dropped_home writer node end.Left book fits = tt
   dropped_home writer node (end.Up closed) book fits = (book, fits)
   dropped_home writer node (end.Top closed) book fits = (book, fits)
@@ -169,7 +169,7 @@ module _ (stage : Stage) (good : IsStack stage.routing.stack) where
 
   -- what a completer carries of a closed node
   closed_home : (writer : ℕ) (closed : Closed) (vector : Option VectorItem) (bio : Option (Item Pad)) (slip : Option SlipItem) (parent : Option ℕ)
-      (ended : Ended) → IsTrue (has_book stage writer) → Owes stage (closed_request writer closed vector bio slip parent) (DroppedTo ended)
+      (ended : DropOutcome) → IsTrue (has_book stage writer) → Owes stage (closed_request writer closed vector bio slip parent) (DroppedTo ended)
       → CarriedFits stage (after_drop writer (parent_or closed.parent) ended)
   closed_home writer closed (Some vector) bio slip parent ended book owes = absurd owes
   closed_home writer closed None (Some bio) slip parent ended book owes = absurd owes

@@ -6,7 +6,7 @@ use Rattle.stack_base.specs.declared.ids.SetId.TheVariants.{Of}
 use Rattle.bio_records.specs.declared.bio.Pad.{Pad}
 use Rattle.bio_records.specs.declared.tasks.TaskLists.{TaskLists}
 use Rattle.bio_records.specs.Items.{Item}
-use Rattle.bio_records.specs.Sorting.{is_lower, is_same, is_of, is_of_other}
+use Rattle.bio_records.specs.Sorting.{is_lower, is_for_device, is_of, is_of_other}
 use Rattle.bio_lists.specs.Submission.{submitted, order}
 use Rattle.bio_lists.specs.Punt.{punted, unpunted}
 
@@ -17,8 +17,8 @@ BothHave P lists = All P lists.list0 × All P lists.list1
 module _ (P : Item Pad → Type 0) (lists : TaskLists) (have : BothHave P lists) where
   pub all_ordered : (dev : DevId) → All P (order dev lists)
   all_ordered dev =
-      All-append P (filter (is_lower dev) lists.list0) (filter (is_same dev) lists.list0 ++ lists.list1) (All-filter (is_lower dev) P lists.list0 have.0)
-      (All-append P (filter (is_same dev) lists.list0) lists.list1 (All-filter (is_same dev) P lists.list0 have.0) have.1)
+      All-append P (filter (is_lower dev) lists.list0) (filter (is_for_device dev) lists.list0 ++ lists.list1) (All-filter (is_lower dev) P lists.list0 have.0)
+      (All-append P (filter (is_for_device dev) lists.list0) lists.list1 (All-filter (is_for_device dev) P lists.list0 have.0) have.1)
 
   -- of the one that is served next, and of the others
   pub next_has : (dev : DevId) (item : Item Pad) (rest : List (Item Pad)) → order dev lists ≡ item ∷ rest → P item

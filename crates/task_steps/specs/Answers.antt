@@ -122,11 +122,11 @@ abbrev pub PuntDoes : {S : Type 0} → Ghosts S → TaskId → DevId → TaskLis
 PuntDoes words task dev lists old done after new = CallDoes words old (PuntedAll words task dev lists old after new done) new
 
 -- why no node was opened, where none was
-abbrev pub refusal : Setup → ℕ → Opening → Reply → Option Breach
-refusal setup writer opening Spent = Some breach.Spent
-refusal setup writer opening (LinkedTo (NoRoom back)) = Some (breach.NoRoom writer (setup.places writer))
-refusal setup writer opening (LinkedTo (Stray back)) = Some (breach.Stray writer (named_node opening))
-refusal setup writer opening reply = None
+abbrev pub link_breach : Setup → ℕ → Opening → Reply → Option Breach
+link_breach setup writer opening Spent = Some breach.Spent
+link_breach setup writer opening (LinkedTo (NoRoom back)) = Some (breach.NoRoom writer (setup.places writer))
+link_breach setup writer opening (LinkedTo (Stray back)) = Some (breach.Stray writer (named_node opening))
+link_breach setup writer opening reply = None
 
 -- what comes back of what was handed over for a node that was not opened
 abbrev pub came_back : Opening → Reply → List Kept
@@ -139,7 +139,7 @@ pub record IsRefused {S : Type 0} (serves : S → Request → Reply → S → Ty
   pub reply : Reply
   pub replied : serves old (Link writer opening) reply new
   pub owed : owes (Link writer opening) reply
-  pub refused : refusal setup writer opening reply ≡ Some breach
+  pub refused : link_breach setup writer opening reply ≡ Some breach
   pub back : back_kept handed ≡ came_back opening reply
 
 -- a node was opened, or was not

@@ -11,7 +11,7 @@ use Rattle.bio_records.specs.declared.bio.Pad.{Pad}
 use Rattle.bio_records.specs.Items.{Item}
 use Rattle.bioset_pools.specs.Sets.{bios_of}
 use Rattle.bio_books.specs.Books.{VectorItem, SlipItem, Holding}
-use Rattle.bio_books.specs.Drops.{Closed, Ended}
+use Rattle.bio_books.specs.Drops.{Closed, DropOutcome}
 use Rattle.bio_books.specs.Drops as end
 use Rattle.bio_books.specs.Links.{Linked, Made, NoRoom, Stray}
 use Rattle.run_machine.specs.Scene.{is_device, is_disk, has_set, is_mirror}
@@ -136,7 +136,7 @@ pub record ClosedFits (stage : Stage) (closed : Closed) : Type 0 where
   pub held : HoldsHome stage closed.held
   pub top : TopFits stage closed.write closed.parent
 
-abbrev pub DropFits : Stage → Ended → Type 0
+abbrev pub DropFits : Stage → DropOutcome → Type 0
 DropFits stage end.Left = Unit {0}
 DropFits stage (end.Up closed) = ClosedFits stage closed
 DropFits stage (end.Top closed) = ClosedFits stage closed

@@ -4,7 +4,7 @@ use Rattle.stack_base.specs.declared.ids.DevId.{DevId}
 use Rattle.stack_base.specs.declared.ids.Status.{Status}
 use Rattle.bio_records.specs.declared.bio.Pad.{Pad}
 use Rattle.bio_records.specs.Items.{Item}
-use Rattle.bio_books.specs.Drops.{Ended}
+use Rattle.bio_books.specs.Drops.{DropOutcome}
 use Rattle.run_machine.specs.declared.event.Breach.{Breach}
 use Rattle.run_machine.specs.declared.event.TaskId.TheVariants as id
 use Rattle.task_steps.specs.declared.objects.Objects.{Ghosts}
@@ -57,7 +57,7 @@ abbrev pub CompleterDoes : {S : Type 0} → Ghosts S → DevId → Carried → S
 CompleterDoes words disk carried old done new = TaskDoes words (words.stage old).routing (Completer disk carried) old (Completer disk done.0) new done.1
 
 -- the step of a completer that told a node of an end: the event of that, or that it broke off, as the book answered
-abbrev pub TellsDrop : DevId → ℕ → ℕ → Status → Ended → Step → Type 0
+abbrev pub TellsDrop : DevId → ℕ → ℕ → Status → DropOutcome → Step → Type 0
 TellsDrop disk writer node status ended step =
     (part : Option (Item Pad)) → (s : Setup) → step ≡ step_of s (id.Completer disk) (Drop writer node status part) (DroppedTo ended)
 

@@ -9,7 +9,7 @@ use Rattle.bio_records.specs.declared.segment.Vector.{Vector}
 use Rattle.bio_records.specs.declared.body.BioBody.{BioBody}
 use Rattle.bio_records.specs.Items.{item_of, IsAlone}
 use Rattle.bio_books.specs.Books.{VectorItem}
-use Rattle.bio_books.specs.Views.{vector_of, slip_item, linked_of, ended_of, IsAlonePart, IsLinkAlone, IsDroppedAlone}
+use Rattle.bio_books.specs.Views.{vector_of, slip_item, linked_of, drop_outcome_of, IsAlonePart, IsLinkAlone, IsDroppedAlone}
 use Rattle.bio_books.specs.declared.book.Link.{Link}
 use Rattle.bio_books.specs.declared.book.Dropped.{Dropped}
 use Rattle.model_disks.specs.declared.disk.Done.{Done as DoneBio}
@@ -105,7 +105,7 @@ LinkedAlone (Ok answer) = IsLinkAlone answer
 LinkedAlone (Err back) = Unit {0}
 
 abbrev pub dropped_reply : Result Dropped Unmade → Reply
-dropped_reply (Ok answer) = DroppedTo (ended_of answer)
+dropped_reply (Ok answer) = DroppedTo (drop_outcome_of answer)
 dropped_reply (Err back) = Spent
 
 abbrev pub DroppedAlone : Result Dropped Unmade → Type 0

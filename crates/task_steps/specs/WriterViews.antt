@@ -18,7 +18,7 @@ use Rattle.task_steps.specs.declared.writer.begin.Next.TheVariants as next
 use Rattle.run_machine.specs.Scene.{Setup}
 use Rattle.run_machine.specs.Requests.{Request, Reply, Opening, Write, TakeBio, TakeVec, Link, LinkedTo, Spent}
 use Rattle.run_machine.specs.Kept.{opening_kept}
-use Rattle.run_machine.specs.Submissions.{Breaks, Submission, refused}
+use Rattle.run_machine.specs.Submissions.{Breaks, Submission, link_refused}
 use Rattle.run_machine.specs.Tasks.{Todo, Gathered, NoBio, HasBio, HasBoth, TaskState, Writer, filled_vector, write_answered, write_request}
 use Rattle.task_steps.specs.Turns.{step_of}
 use Rattle.task_steps.specs.Routed.{Routing, routing_setup}
@@ -89,8 +89,8 @@ pub record WriteAnswers {S : Type 0} (serves : S → Request → Reply → S →
 -- the submission of a writer that was refused the node of a write, for which this was handed over
 abbrev pub refused_submission : Setup → ℕ → Opening → Submission → Reply → Option Submission
 refused_submission setup number opening submission Spent = Some (record submission { doing = Breaks breach.Spent (opening_kept opening) })
-refused_submission setup number opening submission (LinkedTo (NoRoom back)) = Some (record submission { doing = refused setup number 0 [] (NoRoom back) })
-refused_submission setup number opening submission (LinkedTo (Stray back)) = Some (record submission { doing = refused setup number 0 [] (Stray back) })
+refused_submission setup number opening submission (LinkedTo (NoRoom back)) = Some (record submission { doing = link_refused setup number 0 [] (NoRoom back) })
+refused_submission setup number opening submission (LinkedTo (Stray back)) = Some (record submission { doing = link_refused setup number 0 [] (Stray back) })
 refused_submission setup number opening submission reply = None
 
 pub record IsRefusedWrite {S : Type 0} (serves : S → Request → Reply → S → Type 0) (owes : Request → Reply → Type 0) (setup : Setup) (number : ℕ)

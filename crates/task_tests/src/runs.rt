@@ -206,7 +206,7 @@ fn is_event(
 
 // A disk has this sum, and this run of written sectors alone, if any.
 #[tactic(auto, using(model_disks::proofs::WrittenLemmas::apart_at_start))]
-fn is_disk(rt: &impl Abort, disk: &Disk, sum: u64, run: Option<(u64, u64)>) {
+fn expect_disk(rt: &impl Abort, disk: &Disk, sum: u64, run: Option<(u64, u64)>) {
     assert!(rt; disk.sum() == sum, "another sum of {sum}");
     match (disk.next_run(0), run) {
         (None, None) => {}
@@ -232,7 +232,7 @@ fn leaves(rt: &impl Abort, run: &Running, left: &Left) {
     assert!(rt; objects.tally.statuses.as_slice() == left.statuses);
     assert!(rt; objects.disks.len() == left.disks.len());
     for (disk, (sum, run)) in objects.disks.iter().zip(left.disks) {
-        is_disk(rt, disk, *sum, *run);
+        expect_disk(rt, disk, *sum, *run);
     }
 }
 

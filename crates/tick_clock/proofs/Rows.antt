@@ -8,7 +8,7 @@ use Rattle.std.proofs.lemmas.List.{append-nil}
 use mathlib.Core.Logic.{dite}
 use native.Mathlib.Decide.{ℕ_discrete}
 use Rattle.tick_clock.specs.declared.ticking.Ticket.{Ticket}
-use Rattle.tick_clock.specs.Tickets.{PassState, hit, times, AreApart, last_of, IsRising, IsOneOf, IsOneMore, SeeOwn, ShowsTickets, HasAll}
+use Rattle.tick_clock.specs.Tickets.{PassState, hit, ticket_count, AreApart, last_of, IsRising, IsOneOf, IsOneMore, SeeOwn, ShowsTickets, HasAll}
 
 -- a row with one more ticket
 pub rises : (last : ℕ) (ts : List Ticket) (t : Ticket) → IsRising last ts → t.number ≡ max (last_of last ts) t.seen + 1 → IsRising last (ts ++ t ∷ [])
@@ -38,13 +38,13 @@ hit_here n t e = rw (eq-eqb t.number n e) refl
 hit_else : (n : ℕ) (t : Ticket) → t.number ≢ n → hit n t ≡ 0
 hit_else n t ne = rw (ne_eqb t.number n ne) refl
 
-none_below : (last : ℕ) (ts : List Ticket) (n : ℕ) → IsRising last ts → n ≤ last → times n ts ≡ 0
+none_below : (last : ℕ) (ts : List Ticket) (n : ℕ) → IsRising last ts → n ≤ last → ticket_count n ts ≡ 0
 none_below last [] n r h = refl
 none_below last (t ∷ ts) n r h =
     let other : hit n t ≡ 0 = hit_else n t (λ e. omega (arith, r.0, e, h)) in
     omega (arith, other, sum_by-cons (hit n) t ts, none_below t.number ts n r.1 (omega (arith, r.0, h)))
 
-once : (last : ℕ) (ts : List Ticket) (n : ℕ) → IsRising last ts → times n ts ≤ 1
+once : (last : ℕ) (ts : List Ticket) (n : ℕ) → IsRising last ts → ticket_count n ts ≤ 1
 once last [] n r = omega arith
 once last (t ∷ ts) n r =
     dite (ℕ_discrete t.number n)

@@ -63,12 +63,12 @@ abbrev pub hit : ℕ → Ticket → ℕ
 hit number t = if t.number == number then 1 else 0
 
 -- how many of the tickets have this number
-abbrev pub times : ℕ → List Ticket → ℕ
-times number ts = sum_by (hit number) ts
+abbrev pub ticket_count : ℕ → List Ticket → ℕ
+ticket_count number ts = sum_by (hit number) ts
 
 -- no two of the tickets have one number
 abbrev pub AreApart : List Ticket → Type 0
-AreApart ts = (number : ℕ) → times number ts ≤ 1
+AreApart ts = (number : ℕ) → ticket_count number ts ≤ 1
 
 -- the number of the last ticket, or `last` where there is none
 abbrev pub last_of : ℕ → List Ticket → ℕ

@@ -8,7 +8,7 @@ use Rattle.trace_text.specs.Names.{DevicesAreNamed}
 use Rattle.run_machine.specs.declared.event.Event.{Event}
 use Rattle.run_machine.specs.Scene.{Scene}
 use Rattle.run_machine.specs.Opened.{Scenario, scene, start}
-use Rattle.run_machine.specs.OneState.{AreApart}
+use Rattle.run_machine.specs.OneState.{TaskNamesDiffer}
 use Rattle.run_machine.specs.Runs.{State, Happens, IsRun}
 use Rattle.run_machine.proofs.Apart.{runs_lead_to_one_state}
 use Rattle.run_machine.proofs.OneState.{events_lead_to_one_state}
@@ -40,7 +40,7 @@ one_told stack names line first second next again apart named a b =
 
 -- where all lines tell a run, those behind the first of them go on from where these lead
 behind : (scene : Scene) (stack : Stack) (names last : Names) (old new : State) (front rest : List (ℕ × List ℕ)) (events : List Event)
-    → EventsAreApart → DevicesAreNamed stack → AreApart scene old → AreLinesOf stack names front events last → IsRun scene old events new
+    → EventsAreApart → DevicesAreNamed stack → TaskNamesDiffer scene old → AreLinesOf stack names front events last → IsRun scene old events new
     → GoesOn scene stack names old (front ++ rest) → GoesOn scene stack last new rest
 behind scene stack names last old new [] rest [] lines named apart said run on =
     subst (λ (n : Names). GoesOn scene stack n new rest) (sym said) (subst (λ (s : State). GoesOn scene stack names s rest) (sym run) on)

@@ -12,7 +12,7 @@ use Rattle.decl_text.specs.Steps.{Begins}
 use Rattle.decl_text.specs.Text.{lines}
 use Rattle.decl_text.proofs.Cuts.{before_is}
 use Rattle.run_machine.specs.declared.event.Event.{Event}
-use Rattle.run_machine.specs.Named.{Fits, IsEventOf}
+use Rattle.run_machine.specs.Named.{FitsEvent, IsEventOf}
 use Rattle.run_machine.specs.Opened.{Scenario, scene, start}
 use Rattle.run_machine.specs.Runs.{State, IsRun, HasEnded}
 use Rattle.run_machine.proofs.Apart.{runs_lead_to_one_state}
@@ -36,15 +36,15 @@ use Rattle.trace_replay.proofs.renaming.Runs.{runs_are_read_by_names}
 
 -- the lines of a trace are its events'
 module _ (stack : Stack) (named : DevicesAreNamed stack) (text_lines : LinesAreText) where
-  line_is : (event : Event) → IsEventOf stack event → Fits event → IsEventLine stack (line_of_event stack event) event
+  line_is : (event : Event) → IsEventOf stack event → FitsEvent event → IsEventLine stack (line_of_event stack event) event
   line_is event of fits = record { said = refl; named = of; fits = fits }
 
-  pub trace_lines : (events : List Event) (report : List ℕ) → All (IsEventOf stack) events → All Fits events
+  pub trace_lines : (events : List Event) (report : List ℕ) → All (IsEventOf stack) events → All FitsEvent events
       → lines (trace_of stack events ++ report) ≡ map (line_of_event stack) events ++ lines report
   trace_lines [] report of fits = refl
   trace_lines (event ∷ events) report of fits =
       let line = line_of_event stack event in
-      let plain = text_lines stack line event named (line_is event (All-head (IsEventOf stack) event events of) (All-head Fits event events fits)) in
+      let plain = text_lines stack line event named (line_is event (All-head (IsEventOf stack) event events of) (All-head FitsEvent event events fits)) in
       let rest = trace_of stack events ++ report in
       ap lines (
       ap (λ bytes. bytes ++ report) (flat_map-cons (λ e. line_of_event stack e ++ 10 ∷ []) event events)
@@ -52,7 +52,7 @@ module _ (stack : Stack) (named : DevicesAreNamed stack) (text_lines : LinesAreT
       ∙ append_assoc line (10 ∷ []) rest
       )
       ∙ line_first line rest plain
-      ∙ ap (λ all. line ∷ all) (trace_lines events report (All-tail (IsEventOf stack) event events of) (All-tail Fits event events fits))
+      ∙ ap (λ all. line ∷ all) (trace_lines events report (All-tail (IsEventOf stack) event events of) (All-tail FitsEvent event events fits))
 
   all_told : (events : List Event) → filter is_told (map (line_of_event stack) events) ≡ map (line_of_event stack) events
   all_told [] = refl
@@ -87,7 +87,7 @@ module _ (stack : Stack) (named : DevicesAreNamed stack) (text_lines : LinesAreT
         ap (before_first is_told) all_lines ∙ before_is is_told (lines scenario) (map (line_of_event stack) events ++ lines report) before (begins events some)
 
   -- these lines tell what the events are read as
-  pub read_lines : (names last : Names) (events read : List Event) (told : List (ℕ × List ℕ)) → All (IsEventOf stack) events → All Fits events
+  pub read_lines : (names last : Names) (events read : List Event) (told : List (ℕ × List ℕ)) → All (IsEventOf stack) events → All FitsEvent events
       → map (λ (line : ℕ × List ℕ). line.1) told ≡ map (line_of_event stack) events → AreRead names events read last → AreLinesOf stack names told read last
   read_lines names last [] [] [] of fits lines_are is = is
   read_lines names last [] [] (line ∷ told) of fits lines_are is = absurd cc
@@ -100,11 +100,11 @@ module _ (stack : Stack) (named : DevicesAreNamed stack) (text_lines : LinesAreT
         names_after names event.what,
         record {
           told = event;
-          said = record { said = said; named = All-head (IsEventOf stack) event events of; fits = All-head Fits event events fits };
+          said = record { said = said; named = All-head (IsEventOf stack) event events of; fits = All-head FitsEvent event events fits };
           placed = is.0;
           next_is = refl;
         },
-        read_lines (names_after names event.what) last events read told (All-tail (IsEventOf stack) event events of) (All-tail Fits event events fits) more is.1,
+        read_lines (names_after names event.what) last events read told (All-tail (IsEventOf stack) event events of) (All-tail FitsEvent event events fits) more is.1,
       )
 
 -- the same lines tell the same events

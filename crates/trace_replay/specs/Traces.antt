@@ -10,7 +10,7 @@ use Rattle.bio_books.specs.Links.{IsVacant}
 use Rattle.run_machine.specs.declared.event.Event.{Event}
 use Rattle.run_machine.specs.declared.event.How.{How}
 use Rattle.run_machine.specs.declared.event.What.TheVariants as what
-use Rattle.run_machine.specs.Named.{Fits, IsEventOf}
+use Rattle.run_machine.specs.Named.{FitsEvent, IsEventOf}
 use Rattle.run_machine.specs.Opened.{Scenario, scene, start}
 use Rattle.run_machine.specs.Runs.{State, IsRun, IsEnabled, HasEnded}
 use Rattle.block_core.specs.Scenarios.{IsScenario, IsNaming}
@@ -86,7 +86,7 @@ pub record HasTrace (stack : Stack) (events : List Event) (text scenario behind 
   pub accepted : IsAccepted scenario
   -- each event names what the stack has, by numbers that fit its fields
   pub named : All (IsEventOf stack) events
-  pub fits : All Fits events
+  pub fits : All FitsEvent events
 
 -- The scenario of such a text ends where its trace begins, and the lines of its trace are those of a run.
 pub record IsReplayable (s : Scenario) (events : List Event) (text scenario : List ℕ) : Type 0 where

@@ -28,8 +28,8 @@ use Rattle.run_machine.specs.declared.event.What.TheVariants as what
 use Rattle.run_machine.specs.declared.event.Event.{Event}
 use Rattle.run_machine.specs.StatusWords.{status_word}
 use Rattle.trace_text.specs.Names.{HasDevice, HasPool, DevicesAreNamed, is_stacked_kind, is_any, is_disk_kind, is_mirror_kind}
-use Rattle.trace_text.specs.Lines.{Fits, IsEventOf, end_word, got_word, how_word, line_of_event, device_name, pool_word, task_word, what_words, words_of}
-use Rattle.trace_text.specs.Reading.{at_end, both, event_of, field, made, fixed_word, task_of_word, what_of}
+use Rattle.trace_text.specs.Lines.{FitsEvent, IsEventOf, end_word, got_word, how_word, line_of_event, device_name, pool_word, task_word, what_words, words_of}
+use Rattle.trace_text.specs.Reading.{at_end, read_both, event_of, field, made, fixed_word, task_of_word, what_in}
 use Rattle.trace_text.specs.Laws.{IsEventLine, IsEventRead, is_line_byte}
 use Rattle.trace_text.proofs.NameLemmas.{any_of}
 use Rattle.trace_text.proofs.NameWords.{is_visible, list_all_follows, name_is_word}
@@ -116,7 +116,7 @@ what_unbroken stack (what.Done write status) named is = (refl, (short_unbroken w
 what_unbroken stack (what.Resize pool min) named is = (refl, (pool_unbroken stack pool named is.0, (short_unbroken min is.1, tt)))
 what_unbroken stack (what.Round round) named is = (refl, (short_unbroken round is.1, tt))
 
-words_unbroken : (stack : Stack) (event : Event) → DevicesAreNamed stack → IsEventOf stack event → Fits event → AreUnbroken (words_of stack event)
+words_unbroken : (stack : Stack) (event : Event) → DevicesAreNamed stack → IsEventOf stack event → FitsEvent event → AreUnbroken (words_of stack event)
 words_unbroken stack event named is fits =
     (refl, (task_unbroken stack event.task named (is.task, fits.task), what_unbroken stack event.what named (is.what, fits.what)))
 
@@ -142,18 +142,18 @@ ends (Some (found, [])) a e = ap (λ (x : _). Some (x, [])) (same_Some found a e
 ends (Some (found, word ∷ words)) a e = absurd (cc)
 
 event_takes : (stack : Stack) (words : List (List ℕ)) (event : Event) → DevicesAreNamed stack → event_of stack words ≡ Some event
-    → (words ≡ words_of stack event) × IsEventOf stack event × Fits event
+    → (words ≡ words_of stack event) × IsEventOf stack event × FitsEvent event
 unfolding event_of
 event_takes stack words event named e =
     made_takes (then (of_word (mark_is (codes "event"))) (then (of_word (task_is stack named)) (what_is stack named)))
-    (λ of. record { task = of.1.0; what = of.1.1 }) words event [] (λ event. (words ≡ words_of stack event) × IsEventOf stack event × Fits event)
+    (λ of. record { task = of.1.0; what = of.1.1 }) words event [] (λ event. (words ≡ words_of stack event) × IsEventOf stack event × FitsEvent event)
     (λ of is said. (said ∙ append-nil (words_of stack (record { task = of.1.0; what = of.1.1 })), record { task = is.1.0.0; what = is.1.1.0 }, record { task = is.1.0.1; what = is.1.1.1 }))
     (ends _ event e)
 
-event_again : (stack : Stack) (event : Event) → DevicesAreNamed stack → IsEventOf stack event → Fits event → event_of stack (words_of stack event) ≡ Some event
+event_again : (stack : Stack) (event : Event) → DevicesAreNamed stack → IsEventOf stack event → FitsEvent event → event_of stack (words_of stack event) ≡ Some event
 unfolding event_of
 event_again stack event named is fits =
-    ap at_end (ap (made (λ of. record { task = of.1.0; what = of.1.1 }) (both (field (fixed_word (codes "event"))) (both (field (task_of_word stack)) (what_of stack)))) (sym (append-nil (words_of stack event)))
+    ap at_end (ap (made (λ of. record { task = of.1.0; what = of.1.1 }) (read_both (field (fixed_word (codes "event"))) (read_both (field (task_of_word stack)) (what_in stack)))) (sym (append-nil (words_of stack event)))
     ∙ made_again (then (of_word (mark_is (codes "event"))) (then (of_word (task_is stack named)) (what_is stack named)))
     (λ of. record { task = of.1.0; what = of.1.1 }) (tt, (event.task, event.what)) [] (tt, ((is.task, fits.task), (is.what, fits.what))))
 
@@ -192,7 +192,7 @@ text_line stack line event named is =
 pub events_apart : (stack : Stack) (line : List ℕ) (one other : Event) → DevicesAreNamed stack → IsEventLine stack line one → IsEventLine stack line other → one ≡ other
 events_apart stack line one other named first second = same_Some one other (sym (line_again stack line one named first) ∙ line_again stack line other named second)
 
-pub read_back : (stack : Stack) (event : Event) (answer : Option Event) → DevicesAreNamed stack → IsEventOf stack event → Fits event
+pub read_back : (stack : Stack) (event : Event) (answer : Option Event) → DevicesAreNamed stack → IsEventOf stack event → FitsEvent event
     → IsEventRead stack (line_of_event stack event) answer → answer ≡ Some event
 read_back stack event (Some other) named is fits read = ap Some (events_apart stack (line_of_event stack event) other event named read (record { said = refl; named = is; fits = fits }))
 read_back stack event None named is fits read = absurd (read event (record { said = refl; named = is; fits = fits }))

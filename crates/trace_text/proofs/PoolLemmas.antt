@@ -16,7 +16,7 @@ use Rattle.stack_base.specs.declared.ids.PoolId.TheVariants.{FsBios, FsVecs, Bio
 use Rattle.stack_base.specs.declared.stack.Stack.{Stack}
 use Rattle.trace_text.specs.Names.{DevicesAreNamed, HasDevice, HasPool, is_stacked_kind, is_mirror_kind}
 use Rattle.trace_text.specs.Lines.{device_name, pool_word}
-use Rattle.trace_text.specs.Reading.{bios_of, device_of, device_pool, fs_pool, if_suits, is_dot, pool_named, pool_of, records_of}
+use Rattle.trace_text.specs.Reading.{device_bios, device_of, device_pool, fs_pool, if_suits, is_dot, pool_named, pool_of, device_records}
 use Rattle.trace_text.proofs.NameLemmas.{any_of, device_takes, mapped_some, suited_again, suits_some}
 use Rattle.trace_text.proofs.NameWords.{IsNameWord, name_is_word}
 use Rattle.trace_text.proofs.Readers.{IsWord}
@@ -45,12 +45,12 @@ cut_named stack name kept is =
     ∙ ap (λ k. pool_named stack name k) cut.1
     ∙ ap (λ own. cond own (fs_pool kept) (device_pool stack name kept)) is.own
 
-bios_again : (stack : Stack) (dev : DevId) → DevicesAreNamed stack → HasDevice is_stacked_kind stack dev → bios_of stack (device_name stack dev) ≡ Some (Bios dev)
-unfolding bios_of
+bios_again : (stack : Stack) (dev : DevId) → DevicesAreNamed stack → HasDevice is_stacked_kind stack dev → device_bios stack (device_name stack dev) ≡ Some (Bios dev)
+unfolding device_bios
 bios_again stack dev named has = ap (option_map Bios) (suited_again is_stacked_kind stack dev named has)
 
-records_again : (stack : Stack) (dev : DevId) → DevicesAreNamed stack → HasDevice is_mirror_kind stack dev → records_of stack (device_name stack dev) ≡ Some (Records dev)
-unfolding records_of
+records_again : (stack : Stack) (dev : DevId) → DevicesAreNamed stack → HasDevice is_mirror_kind stack dev → device_records stack (device_name stack dev) ≡ Some (Records dev)
+unfolding device_records
 records_again stack dev named has = ap (option_map Records) (suited_again is_mirror_kind stack dev named has)
 
 pool_again : (stack : Stack) (pool : PoolId) → DevicesAreNamed stack → HasPool stack pool → pool_of stack (pool_word stack pool) ≡ Some pool
@@ -64,16 +64,16 @@ pool_again stack (Records dev) named has =
     cut_named stack (device_name stack dev) (codes "records") (name_is_word stack dev named (any_of is_mirror_kind stack dev has))
     ∙ records_again stack dev named has
 
-bios_takes : (stack : Stack) (name : List ℕ) (pool : PoolId) → bios_of stack name ≡ Some pool → HasPool stack pool × (name ++ codes ".bios" ≡ pool_word stack pool)
-unfolding bios_of
+bios_takes : (stack : Stack) (name : List ℕ) (pool : PoolId) → device_bios stack name ≡ Some pool → HasPool stack pool × (name ++ codes ".bios" ≡ pool_word stack pool)
+unfolding device_bios
 bios_takes stack name pool e =
     let m = mapped_some Bios (option_and_then (if_suits is_stacked_kind stack) (device_of stack name)) pool e in
     let some = suits_some is_stacked_kind stack (device_of stack name) m.0 m.1 in
     subst (λ p. HasPool stack p × (name ++ codes ".bios" ≡ pool_word stack p)) m.2
     (some.1, ap (λ n. n ++ codes ".bios") (device_takes stack name m.0 some.0).1)
 
-records_takes : (stack : Stack) (name : List ℕ) (pool : PoolId) → records_of stack name ≡ Some pool → HasPool stack pool × (name ++ codes ".records" ≡ pool_word stack pool)
-unfolding records_of
+records_takes : (stack : Stack) (name : List ℕ) (pool : PoolId) → device_records stack name ≡ Some pool → HasPool stack pool × (name ++ codes ".records" ≡ pool_word stack pool)
+unfolding device_records
 records_takes stack name pool e =
     let m = mapped_some Records (option_and_then (if_suits is_mirror_kind stack) (device_of stack name)) pool e in
     let some = suits_some is_mirror_kind stack (device_of stack name) m.0 m.1 in
@@ -106,10 +106,10 @@ fs_takes stack name kept pool own e =
 device_pool_takes : (stack : Stack) (name kept : List ℕ) (pool : PoolId) → device_pool stack name kept ≡ Some pool → IsCut stack name kept pool
 unfolding IsCut
 device_pool_takes stack name kept pool e =
-    chosen (bytes_eq kept (codes "bios")) (bios_of stack name) (cond (bytes_eq kept (codes "records")) (records_of stack name) None) pool (IsCut stack name kept pool)
+    chosen (bytes_eq kept (codes "bios")) (device_bios stack name) (cond (bytes_eq kept (codes "records")) (device_records stack name) None) pool (IsCut stack name kept pool)
     (λ is one. let t = bios_takes stack name pool one in
     (t.0, ap (λ k. name ++ (46 ∷ k)) (kept_is kept (codes "bios") is) ∙ t.1, rw (kept_is kept (codes "bios") is) (omega arith)))
-    (λ _ two. chosen (bytes_eq kept (codes "records")) (records_of stack name) None pool (IsCut stack name kept pool)
+    (λ _ two. chosen (bytes_eq kept (codes "records")) (device_records stack name) None pool (IsCut stack name kept pool)
     (λ is one. let t = records_takes stack name pool one in
     (t.0, ap (λ k. name ++ (46 ∷ k)) (kept_is kept (codes "records") is) ∙ t.1, rw (kept_is kept (codes "records") is) (omega arith)))
     (λ _ none. absurd (cc)) two)

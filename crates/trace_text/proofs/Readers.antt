@@ -2,7 +2,7 @@
 use Rattle.std.proofs.Common.{◌≡◌, ℕ, List, [], ◌∷◌, ◌++◌, Option, Some, None, refl, ap, sym, ◌∙◌, subst, append_assoc}
 use Rattle.std.specs.Option.{option_and_then, option_map}
 use Rattle.std.proofs.lemmas.Option.{some_pair_parts}
-use Rattle.trace_text.specs.Reading.{Reader, field, both, made}
+use Rattle.trace_text.specs.Reading.{Reader, field, read_both, made}
 
 -- a word reader that reads just the word of what is as it has to be
 pub record IsWord {A : Type 0} (text : A → List ℕ) (Is : A → Type 0) (read : List ℕ → Option A) : Type 0 where
@@ -52,18 +52,18 @@ both_some second None a b rest e = absurd (cc)
 both_some second (Some one) a b rest e = from_second second one (second one.1) a b rest refl e
 
 both_again : {A B : Type 0} (first : Reader A) (second : Reader B) (a : A) (b : B) (words mid rest : List (List ℕ))
-    → first words ≡ Some (a, mid) → second mid ≡ Some (b, rest) → both first second words ≡ Some ((a, b), rest)
-unfolding both
+    → first words ≡ Some (a, mid) → second mid ≡ Some (b, rest) → read_both first second words ≡ Some ((a, b), rest)
+unfolding read_both
 both_again first second a b words mid rest one other = rw (one, other) refl
 
 both_takes : {A B : Type 0} (first : Reader A) (second : Reader B) (words : List (List ℕ)) (a : A) (b : B) (rest : List (List ℕ))
-    → both first second words ≡ Some ((a, b), rest) → (mid : List (List ℕ)) × (first words ≡ Some (a, mid)) × (second mid ≡ Some (b, rest))
-unfolding both
+    → read_both first second words ≡ Some ((a, b), rest) → (mid : List (List ℕ)) × (first words ≡ Some (a, mid)) × (second mid ≡ Some (b, rest))
+unfolding read_both
 both_takes first second words a b rest e = both_some second (first words) a b rest e
 
 -- one reader behind the other
 pub then : {A B : Type 0} {ta : A → List (List ℕ)} {tb : B → List (List ℕ)} {IsA : A → Type 0} {IsB : B → Type 0} {first : Reader A} {second : Reader B}
-    → IsReader ta IsA first → IsReader tb IsB second → IsReader (λ (p : A × B). ta p.0 ++ tb p.1) (λ (p : A × B). IsA p.0 × IsB p.1) (both first second)
+    → IsReader ta IsA first → IsReader tb IsB second → IsReader (λ (p : A × B). ta p.0 ++ tb p.1) (λ (p : A × B). IsA p.0 × IsB p.1) (read_both first second)
 then {A} {B} {ta} {tb} {IsA} {IsB} {first} {second} r s = record {
   again = λ p rest is.
       both_again first second p.0 p.1 ((ta p.0 ++ tb p.1) ++ rest) (tb p.1 ++ rest) rest

@@ -9,19 +9,19 @@ use Rattle.trace_text.specs.declared.verb.Verb.{Verb}
 use Rattle.trace_text.specs.declared.verb.Verb.TheVariants as verb
 use Rattle.trace_text.specs.Names.{DevicesAreNamed}
 use Rattle.trace_text.specs.Lines.{FitsWhat, HasWhat, what_words}
-use Rattle.trace_text.specs.Reading.{Reads, field, long_of, short_of, verb_of_word, verb_word, what_behind, what_of}
+use Rattle.trace_text.specs.Reading.{Reads, field, long_of, short_of, verb_of_word, verb_word, what_behind, what_in}
 use Rattle.trace_text.proofs.NameLemmas.{device_is, disk_is}
 use Rattle.trace_text.proofs.PoolLemmas.{pool_is}
 use Rattle.trace_text.proofs.Readers.{IsReader, made_again, made_takes, of_word, then}
 use Rattle.trace_text.proofs.WordLemmas.{end_is, got_is, how_is, mark_is, number_is, status_is, verb_is}
 
 behind_verb : (stack : Stack) (words mid : List (List ℕ)) (one verb : Verb) (answer : Option (What × List (List ℕ)))
-    → field verb_of_word words ≡ Some (one, mid) → one ≡ verb → what_behind stack verb mid ≡ answer → what_of stack words ≡ answer
-unfolding what_of
+    → field verb_of_word words ≡ Some (one, mid) → one ≡ verb → what_behind stack verb mid ≡ answer → what_in stack words ≡ answer
+unfolding what_in
 behind_verb stack words mid one verb answer first is rest = rw first (ap (λ one. what_behind stack one mid) is ∙ rest)
 
 pub verb_reads : (stack : Stack) (words mid new : List (List ℕ)) (one verb : Verb) (result : Option What)
-    → field verb_of_word words ≡ Some (one, mid) → one ≡ verb → Reads (what_behind stack verb) mid result new → Reads (what_of stack) words result new
+    → field verb_of_word words ≡ Some (one, mid) → one ≡ verb → Reads (what_behind stack verb) mid result new → Reads (what_in stack) words result new
 verb_reads stack words mid new one verb None first is reads = behind_verb stack words mid one verb None first is reads
 verb_reads stack words mid new one verb (Some what) first is reads = behind_verb stack words mid one verb (Some (what, new)) first is reads
 
@@ -85,7 +85,7 @@ behind_takes stack verb.Round words rest one named e =
 verb_first : (one : Verb) (words : List (List ℕ)) → field verb_of_word (verb_word one ∷ words) ≡ Some (one, words)
 verb_first one words = (of_word verb_is).again one words tt
 
-what_again : (stack : Stack) (one : What) (rest : List (List ℕ)) → DevicesAreNamed stack → IsWhat stack one → what_of stack (what_words stack one ++ rest) ≡ Some (one, rest)
+what_again : (stack : Stack) (one : What) (rest : List (List ℕ)) → DevicesAreNamed stack → IsWhat stack one → what_in stack (what_words stack one ++ rest) ≡ Some (one, rest)
 what_again stack (what.Take pool got) rest named is =
     behind_verb stack _ _ verb.Take verb.Take _ (verb_first verb.Take _) refl
     (made_again (then (of_word (pool_is stack named)) (of_word got_is)) (λ of. what.Take of.0 of.1) (pool, got) rest (is.0, tt))
@@ -132,16 +132,16 @@ of_verb : (stack : Stack) (o : Option (Verb × List (List ℕ))) (one : What) (r
 of_verb stack None one rest e = absurd (cc)
 of_verb stack (Some at) one rest e = (at, refl, e)
 
-what_takes : (stack : Stack) (words : List (List ℕ)) (one : What) (rest : List (List ℕ)) → DevicesAreNamed stack → what_of stack words ≡ Some (one, rest)
+what_takes : (stack : Stack) (words : List (List ℕ)) (one : What) (rest : List (List ℕ)) → DevicesAreNamed stack → what_in stack words ≡ Some (one, rest)
     → IsWhat stack one × (words ≡ what_words stack one ++ rest)
-unfolding what_of
+unfolding what_in
 what_takes stack words one rest named e =
     let v = of_verb stack (field verb_of_word words) one rest e in
     let first = (of_word verb_is).takes words v.0.0 v.0.1 v.1 in
     let b = behind_takes stack v.0.0 v.0.1 rest one named v.2 in
     (b.0, first.1 ∙ b.1)
 
-pub what_is : (stack : Stack) → DevicesAreNamed stack → IsReader (what_words stack) (IsWhat stack) (what_of stack)
+pub what_is : (stack : Stack) → DevicesAreNamed stack → IsReader (what_words stack) (IsWhat stack) (what_in stack)
 what_is stack named = record {
   again = λ one rest is. what_again stack one rest named is;
   takes = λ words one rest e. what_takes stack words one rest named e;

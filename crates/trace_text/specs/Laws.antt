@@ -4,13 +4,13 @@ use Rattle.std.specs.List.{list_all}
 use Rattle.stack_base.specs.declared.stack.Stack.{Stack}
 use Rattle.run_machine.specs.declared.event.Event.{Event}
 use Rattle.trace_text.specs.Names.{DevicesAreNamed}
-use Rattle.trace_text.specs.Lines.{Fits, IsEventOf, line_of_event}
+use Rattle.trace_text.specs.Lines.{FitsEvent, IsEventOf, line_of_event}
 
 -- the line is that of this event of the stack
 pub record IsEventLine (stack : Stack) (line : List ℕ) (event : Event) : Type 0 where
   pub said : line ≡ line_of_event stack event
   pub named : IsEventOf stack event
-  pub fits : Fits event
+  pub fits : FitsEvent event
 
 -- the event whose line it is, or nothing where it is the line of none
 abbrev pub IsEventRead : Stack → List ℕ → Option Event → Type 0
@@ -31,5 +31,5 @@ EventsAreApart = (stack : Stack) (line : List ℕ) (one other : Event) → Devic
 
 -- what is read of an event's line is the event
 abbrev pub LinesAreReadBack : Type 0
-LinesAreReadBack = (stack : Stack) (event : Event) (answer : Option Event) → DevicesAreNamed stack → IsEventOf stack event → Fits event
+LinesAreReadBack = (stack : Stack) (event : Event) (answer : Option Event) → DevicesAreNamed stack → IsEventOf stack event → FitsEvent event
     → IsEventRead stack (line_of_event stack event) answer → answer ≡ Some event

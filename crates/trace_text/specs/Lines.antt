@@ -18,7 +18,7 @@ use Rattle.run_machine.specs.declared.event.End.TheVariants as end
 use Rattle.run_machine.specs.declared.event.What.{What}
 use Rattle.run_machine.specs.declared.event.What.TheVariants as what
 use Rattle.run_machine.specs.declared.event.Event.{Event}
-pub use Rattle.run_machine.specs.Named.{HasTask, HasWhat, IsEventOf, FitsTask, FitsWhat, Fits}
+pub use Rattle.run_machine.specs.Named.{HasTask, HasWhat, IsEventOf, FitsTask, FitsWhat, FitsEvent}
 use Rattle.run_machine.specs.StatusWords.{status_word}
 
 abbrev pub got_word : Got → List ℕ

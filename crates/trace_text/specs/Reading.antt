@@ -56,8 +56,8 @@ field read [] = None
 field read (word ∷ words) = option_map (λ found. (found, words)) (read word)
 
 -- one thing, and then another
-unfoldable pub both : {A B : Type 0} → Reader A → Reader B → Reader (A × B)
-both first second words =
+unfoldable pub read_both : {A B : Type 0} → Reader A → Reader B → Reader (A × B)
+read_both first second words =
     option_and_then (λ one. option_map (λ other. ((one.0, other.0), other.1)) (second one.1)) (first words)
 
 -- something made of what is read
@@ -140,20 +140,20 @@ unfoldable pub disk_of : Stack → List ℕ → Option DevId
 disk_of stack name = option_and_then (if_suits is_disk_kind stack) (device_of stack name)
 
 -- the pool of bios of the device of this name
-unfoldable pub bios_of : Stack → List ℕ → Option PoolId
-bios_of stack name = option_map Bios (option_and_then (if_suits is_stacked_kind stack) (device_of stack name))
+unfoldable pub device_bios : Stack → List ℕ → Option PoolId
+device_bios stack name = option_map Bios (option_and_then (if_suits is_stacked_kind stack) (device_of stack name))
 
 -- its pool of records
-unfoldable pub records_of : Stack → List ℕ → Option PoolId
-records_of stack name = option_map Records (option_and_then (if_suits is_mirror_kind stack) (device_of stack name))
+unfoldable pub device_records : Stack → List ℕ → Option PoolId
+device_records stack name = option_map Records (option_and_then (if_suits is_mirror_kind stack) (device_of stack name))
 
 abbrev pub fs_pool : List ℕ → Option PoolId
 fs_pool kept = if bytes_eq kept (codes "bios") then Some FsBios else (if bytes_eq kept (codes "vecs") then Some FsVecs else None)
 
 abbrev pub device_pool : Stack → List ℕ → List ℕ → Option PoolId
 device_pool stack name kept =
-    if bytes_eq kept (codes "bios") then bios_of stack name
-    else (if bytes_eq kept (codes "records") then records_of stack name else None)
+    if bytes_eq kept (codes "bios") then device_bios stack name
+    else (if bytes_eq kept (codes "records") then device_records stack name else None)
 
 -- the pool of the set with this name that keeps this
 abbrev pub pool_named : Stack → List ℕ → List ℕ → Option PoolId
@@ -190,40 +190,40 @@ fixed_word mark word = if bytes_eq word mark then Some tt else None
 
 -- what stands behind each verb
 abbrev pub take_behind : Stack → Reader What
-take_behind stack = made (λ of. what.Take of.0 of.1) (both (field (pool_of stack)) (field got_of_word))
+take_behind stack = made (λ of. what.Take of.0 of.1) (read_both (field (pool_of stack)) (field got_of_word))
 
 abbrev pub try_behind : Stack → Reader What
-try_behind stack = made (λ of. what.Try of.0 of.1) (both (field (pool_of stack)) (field got_of_word))
+try_behind stack = made (λ of. what.Try of.0 of.1) (read_both (field (pool_of stack)) (field got_of_word))
 
 abbrev pub give_behind : Stack → Reader What
 give_behind stack = made what.Give (field (pool_of stack))
 
 abbrev pub punt_behind : Stack → Reader What
-punt_behind stack = made (λ of. what.Punt of.0 of.1) (both (field (device_of stack)) (field long_of))
+punt_behind stack = made (λ of. what.Punt of.0 of.1) (read_both (field (device_of stack)) (field long_of))
 
 abbrev pub pop_behind : Stack → Reader What
 pop_behind stack = made what.Pop (field (device_of stack))
 
 abbrev pub push_behind : Stack → Reader What
 push_behind stack = made (λ of. what.Push of.0 of.1.0 of.1.1.0 of.1.1.1.1)
-    (both (field (disk_of stack)) (both (field long_of) (both (field long_of) (both (field (fixed_word (codes "leg"))) (field short_of)))))
+    (read_both (field (disk_of stack)) (read_both (field long_of) (read_both (field long_of) (read_both (field (fixed_word (codes "leg"))) (field short_of)))))
 
 abbrev pub complete_behind : Stack → Reader What
 complete_behind stack = made (λ of. what.Complete of.0 of.1.0 of.1.1)
-    (both (field (disk_of stack)) (both (field long_of) (field status_of_word)))
+    (read_both (field (disk_of stack)) (read_both (field long_of) (field status_of_word)))
 
 abbrev pub link_behind : Reader What
-link_behind = made (λ of. what.Link of.0 of.1.0 of.1.1) (both (field short_of) (both (field how_of_word) (field short_of)))
+link_behind = made (λ of. what.Link of.0 of.1.0 of.1.1) (read_both (field short_of) (read_both (field how_of_word) (field short_of)))
 
 abbrev pub drop_behind : Reader What
 drop_behind = made (λ of. what.Drop of.0 of.1.0 of.1.1.0 of.1.1.1)
-    (both (field short_of) (both (field short_of) (both (field status_of_word) (field end_of_word))))
+    (read_both (field short_of) (read_both (field short_of) (read_both (field status_of_word) (field end_of_word))))
 
 abbrev pub done_behind : Reader What
-done_behind = made (λ of. what.Done of.0 of.1) (both (field short_of) (field status_of_word))
+done_behind = made (λ of. what.Done of.0 of.1) (read_both (field short_of) (field status_of_word))
 
 abbrev pub resize_behind : Stack → Reader What
-resize_behind stack = made (λ of. what.Resize of.0 of.1) (both (field (pool_of stack)) (field short_of))
+resize_behind stack = made (λ of. what.Resize of.0 of.1) (read_both (field (pool_of stack)) (field short_of))
 
 abbrev pub round_behind : Reader What
 round_behind = made what.Round (field short_of)
@@ -243,8 +243,8 @@ what_behind stack verb.Resize = resize_behind stack
 what_behind stack verb.Round = round_behind
 
 -- a verb, and what stands behind it
-unfoldable pub what_of : Stack → Reader What
-what_of stack words = option_and_then (λ (found : Verb × List (List ℕ)). what_behind stack found.0 found.1) (field verb_of_word words)
+unfoldable pub what_in : Stack → Reader What
+what_in stack words = option_and_then (λ (found : Verb × List (List ℕ)). what_behind stack found.0 found.1) (field verb_of_word words)
 
 -- an event, where no word follows
 abbrev pub at_end : {A : Type 0} → Option (A × List (List ℕ)) → Option A
@@ -254,4 +254,4 @@ at_end (Some (found, word ∷ words)) = None
 
 unfoldable pub event_of : Stack → List (List ℕ) → Option Event
 event_of stack words =
-    at_end (made (λ of. record { task = of.1.0; what = of.1.1 }) (both (field (fixed_word (codes "event"))) (both (field (task_of_word stack)) (what_of stack))) words)
+    at_end (made (λ of. record { task = of.1.0; what = of.1.1 }) (read_both (field (fixed_word (codes "event"))) (read_both (field (task_of_word stack)) (what_in stack))) words)

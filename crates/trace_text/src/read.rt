@@ -2,7 +2,7 @@
 ghost use Rattle.std.specs.Prelude.{◌≡◌, ◌≤◌, length};
 ghost use Rattle.trace_text.specs.Laws.{IsEventRead};
 ghost use Rattle.trace_text.specs.Names.{DevicesAreNamed};
-ghost use Rattle.trace_text.specs.Reading.{Reads, device_of, disk_of, end_of_word, event_of, field, got_of_word, how_of_word, long_of, fixed_word, pool_of, short_of, status_of_word, task_of_word, verb_of_word, what_of, take_behind, try_behind, give_behind, punt_behind, pop_behind, push_behind, complete_behind, link_behind, drop_behind, done_behind, resize_behind, round_behind};
+ghost use Rattle.trace_text.specs.Reading.{Reads, device_of, disk_of, end_of_word, event_of, field, got_of_word, how_of_word, long_of, fixed_word, pool_of, short_of, status_of_word, task_of_word, verb_of_word, what_in, take_behind, try_behind, give_behind, punt_behind, pop_behind, push_behind, complete_behind, link_behind, drop_behind, done_behind, resize_behind, round_behind};
 
 use crate::verb::{Verb, end_of_word, got_of_word, how_of_word, status_of_word, verb_of_word};
 use crate::word::{device_of, disk_of, is, long_of, pool_of, short_of, task_of_word};
@@ -94,7 +94,7 @@ fn task(words: &mut Words<'_>, stack: &Stack) -> Option<TaskId>
 
 // Each of the following takes what stands behind its verb.
 
-#[tactic(auto, unfolding(crate::specs::Reading::both, crate::specs::Reading::made))]
+#[tactic(auto, unfolding(crate::specs::Reading::read_both, crate::specs::Reading::made))]
 fn take(words: &mut Words<'_>, stack: &Stack) -> Option<What>
     requires { length stack.now.devices.items ≤ 32 }
     ensures { Reads (take_behind stack.now) words.old result words.new }
@@ -104,7 +104,7 @@ fn take(words: &mut Words<'_>, stack: &Stack) -> Option<What>
     Some(What::Take { pool, got })
 }
 
-#[tactic(auto, unfolding(crate::specs::Reading::both, crate::specs::Reading::made))]
+#[tactic(auto, unfolding(crate::specs::Reading::read_both, crate::specs::Reading::made))]
 fn try_take(words: &mut Words<'_>, stack: &Stack) -> Option<What>
     requires { length stack.now.devices.items ≤ 32 }
     ensures { Reads (try_behind stack.now) words.old result words.new }
@@ -123,7 +123,7 @@ fn give(words: &mut Words<'_>, stack: &Stack) -> Option<What>
     Some(What::Give { pool })
 }
 
-#[tactic(auto, unfolding(crate::specs::Reading::both, crate::specs::Reading::made))]
+#[tactic(auto, unfolding(crate::specs::Reading::read_both, crate::specs::Reading::made))]
 fn punt(words: &mut Words<'_>, stack: &Stack) -> Option<What>
     requires { length stack.now.devices.items ≤ 32 }
     ensures { Reads (punt_behind stack.now) words.old result words.new }
@@ -142,7 +142,7 @@ fn pop(words: &mut Words<'_>, stack: &Stack) -> Option<What>
     Some(What::Pop { dev })
 }
 
-#[tactic(auto, unfolding(crate::specs::Reading::both, crate::specs::Reading::made))]
+#[tactic(auto, unfolding(crate::specs::Reading::read_both, crate::specs::Reading::made))]
 fn push(words: &mut Words<'_>, stack: &Stack) -> Option<What>
     requires { length stack.now.devices.items ≤ 32 }
     ensures { Reads (push_behind stack.now) words.old result words.new }
@@ -155,7 +155,7 @@ fn push(words: &mut Words<'_>, stack: &Stack) -> Option<What>
     Some(What::Push { disk, at, len, leg })
 }
 
-#[tactic(auto, unfolding(crate::specs::Reading::both, crate::specs::Reading::made))]
+#[tactic(auto, unfolding(crate::specs::Reading::read_both, crate::specs::Reading::made))]
 fn complete(words: &mut Words<'_>, stack: &Stack) -> Option<What>
     requires { length stack.now.devices.items ≤ 32 }
     ensures { Reads (complete_behind stack.now) words.old result words.new }
@@ -170,7 +170,7 @@ fn complete(words: &mut Words<'_>, stack: &Stack) -> Option<What>
     })
 }
 
-#[tactic(auto, unfolding(crate::specs::Reading::both, crate::specs::Reading::made))]
+#[tactic(auto, unfolding(crate::specs::Reading::read_both, crate::specs::Reading::made))]
 fn link(words: &mut Words<'_>) -> Option<What>
     ensures { Reads link_behind words.old result words.new }
 {
@@ -180,7 +180,7 @@ fn link(words: &mut Words<'_>) -> Option<What>
     Some(What::Link { writer, how, node })
 }
 
-#[tactic(auto, unfolding(crate::specs::Reading::both, crate::specs::Reading::made))]
+#[tactic(auto, unfolding(crate::specs::Reading::read_both, crate::specs::Reading::made))]
 fn drop_node(words: &mut Words<'_>) -> Option<What>
     ensures { Reads drop_behind words.old result words.new }
 {
@@ -196,7 +196,7 @@ fn drop_node(words: &mut Words<'_>) -> Option<What>
     })
 }
 
-#[tactic(auto, unfolding(crate::specs::Reading::both, crate::specs::Reading::made))]
+#[tactic(auto, unfolding(crate::specs::Reading::read_both, crate::specs::Reading::made))]
 fn done(words: &mut Words<'_>) -> Option<What>
     ensures { Reads done_behind words.old result words.new }
 {
@@ -205,7 +205,7 @@ fn done(words: &mut Words<'_>) -> Option<What>
     Some(What::Done { write, status })
 }
 
-#[tactic(auto, unfolding(crate::specs::Reading::both, crate::specs::Reading::made))]
+#[tactic(auto, unfolding(crate::specs::Reading::read_both, crate::specs::Reading::made))]
 fn resize(words: &mut Words<'_>, stack: &Stack) -> Option<What>
     requires { length stack.now.devices.items ≤ 32 }
     ensures { Reads (resize_behind stack.now) words.old result words.new }
@@ -224,10 +224,10 @@ fn round(words: &mut Words<'_>) -> Option<What>
 }
 
 // What a task did: a verb, and what stands behind it.
-#[tactic(auto, unfolding(crate::specs::Reading::what_of))]
+#[tactic(auto, unfolding(crate::specs::Reading::what_in))]
 fn what(words: &mut Words<'_>, stack: &Stack) -> Option<What>
     requires { length stack.now.devices.items ≤ 32 }
-    ensures { Reads (what_of stack.now) words.old result words.new }
+    ensures { Reads (what_in stack.now) words.old result words.new }
 {
     match verb(words)? {
         Verb::Take => take(words, stack),
@@ -246,7 +246,7 @@ fn what(words: &mut Words<'_>, stack: &Stack) -> Option<What>
 }
 
 // All words as an event.
-#[tactic(auto, unfolding(crate::specs::Reading::event_of, crate::specs::Reading::both, crate::specs::Reading::made))]
+#[tactic(auto, unfolding(crate::specs::Reading::event_of, crate::specs::Reading::read_both, crate::specs::Reading::made))]
 fn event(words: &mut Words<'_>, stack: &Stack) -> Option<Event>
     requires { length stack.now.devices.items ≤ 32 }
     ensures { result ≡ event_of stack.now words.old }

@@ -5,7 +5,7 @@ ghost use Rattle.std.specs.List.{list_all};
 ghost use Rattle.std.specs.Char.{is_ascii_digit};
 ghost use Rattle.std.specs.Str.{bytes_eq};
 ghost use Rattle.trace_text.specs.Names.{is_disk_kind, is_mirror_kind};
-ghost use Rattle.trace_text.specs.Reading.{past_front, bios_of, completer_of_word, device_of, device_pool, disk_of, fs_pool, is_dot, is_plain, long_of, pool_of, records_of, rescuer_of_word, short_of, task_of_word, writer_of_word};
+ghost use Rattle.trace_text.specs.Reading.{past_front, device_bios, completer_of_word, device_of, device_pool, disk_of, fs_pool, is_dot, is_plain, long_of, pool_of, device_records, rescuer_of_word, short_of, task_of_word, writer_of_word};
 
 use run_machine::TaskId;
 use stack_base::{DevId, Device, Kind, PoolId, Stack};
@@ -108,10 +108,10 @@ pub(crate) fn disk_of(stack: &Stack, name: &[u8]) -> Option<DevId>
 }
 
 // The pool of bios of the device of this name.
-#[tactic(auto, unfolding(crate::specs::Reading::bios_of))]
-fn bios_of(stack: &Stack, name: &[u8]) -> Option<PoolId>
+#[tactic(auto, unfolding(crate::specs::Reading::device_bios))]
+fn device_bios(stack: &Stack, name: &[u8]) -> Option<PoolId>
     requires { length stack.now.devices.items ≤ 32 }
-    ensures { result ≡ bios_of stack.now name.now }
+    ensures { result ≡ device_bios stack.now name.now }
 {
     let dev = device_of(stack, name)?;
     if is_disk_kind(&stack.devices[dev.0 as usize].kind) {
@@ -122,10 +122,10 @@ fn bios_of(stack: &Stack, name: &[u8]) -> Option<PoolId>
 }
 
 // The pool of records of the device of this name.
-#[tactic(auto, unfolding(crate::specs::Reading::records_of))]
-fn records_of(stack: &Stack, name: &[u8]) -> Option<PoolId>
+#[tactic(auto, unfolding(crate::specs::Reading::device_records))]
+fn device_records(stack: &Stack, name: &[u8]) -> Option<PoolId>
     requires { length stack.now.devices.items ≤ 32 }
-    ensures { result ≡ records_of stack.now name.now }
+    ensures { result ≡ device_records stack.now name.now }
 {
     let dev = device_of(stack, name)?;
     if is_mirror_kind(&stack.devices[dev.0 as usize].kind) {
@@ -161,9 +161,9 @@ fn device_pool(stack: &Stack, name: &[u8], kept: &[u8]) -> Option<PoolId>
     ensures { result ≡ device_pool stack.now name.now kept.now }
 {
     if is(kept, b"bios") {
-        bios_of(stack, name)
+        device_bios(stack, name)
     } else if is(kept, b"records") {
-        records_of(stack, name)
+        device_records(stack, name)
     } else {
         None
     }

@@ -17,13 +17,13 @@ use Rattle.stack_base.specs.declared.stack.Device.{Device}
 use Rattle.stack_base.specs.declared.stack.Stack.{Stack}
 use Rattle.stack_base.proofs.ListLemmas.{any_not, unmapped}
 use Rattle.layout_model.specs.declared.write.Write.{Write}
-use Rattle.layout_model.specs.OneWay.{IsTop, AreApart}
+use Rattle.layout_model.specs.OneWay.{IsTop, DoNotOverlap}
 use Rattle.decl_text.specs.Text.{words}
 use Rattle.decl_text.specs.Items.{said}
 use Rattle.decl_text.specs.Accepting.{shown_devices}
 use Rattle.decl_text.specs.Checks.{is_among, not_a_top, reserve_zero, shares, too_large, too_many_segments}
 use Rattle.decl_text.specs.Fit.{IsReserve}
-use Rattle.decl_text.specs.Known.{Known, Declared, Resized, Written, after_line, all_members, bios_of, device_before, number_in, pool_if, pool_of, records_of}
+use Rattle.decl_text.specs.Known.{Known, Declared, Resized, Written, after_line, all_members, bios_pool_of, device_before, number_in, pool_if, pool_of, records_pool_of}
 use Rattle.decl_text.specs.Reading.{declarations}
 use Rattle.decl_text.specs.Refusals.{check, known_after, refusal, said_reason}
 use Rattle.decl_text.specs.Stands.{stand_of}
@@ -77,11 +77,11 @@ few_segments : (known : Known) (said : Item) → said_reason all_checks known (S
 few_segments known said none = finds_nothing all_checks known said 11 (check reason.TooManySegments too_many_segments) none refl
 
 -- a pool of a device is told by the device's number
-bios_by : (number : ℕ) (does : What) (pool : PoolId) → bios_of number does ≡ Some pool → Bios (record { 0 = number }) ≡ pool
+bios_by : (number : ℕ) (does : What) (pool : PoolId) → bios_pool_of number does ≡ Some pool → Bios (record { 0 = number }) ≡ pool
 bios_by number (what.Disk sectors) pool found = absurd (none-some pool found)
 bios_by number _ pool found = same_Some (Bios (record { 0 = number })) pool found
 
-records_by : (number : ℕ) (does : What) (pool : PoolId) → records_of number does ≡ Some pool → Records (record { 0 = number }) ≡ pool
+records_by : (number : ℕ) (does : What) (pool : PoolId) → records_pool_of number does ≡ Some pool → Records (record { 0 = number }) ≡ pool
 records_by number (what.Mirror records) pool found = same_Some (Records (record { 0 = number })) pool found
 records_by number _ pool found = absurd (none-some pool found)
 
@@ -90,14 +90,14 @@ told_by : (own : ℕ → What → Option PoolId) (of : ℕ → PoolId) → ((num
 told_by own of by number None pool found = absurd (none-some pool found)
 told_by own of by number (Some device) pool found = by number device.what pool found
 
-bios_in : (devices : List Declared) (number : ℕ) (pool : PoolId) → pool_if bios_of devices number ≡ Some pool → IsPoolIn devices pool
+bios_in : (devices : List Declared) (number : ℕ) (pool : PoolId) → pool_if bios_pool_of devices number ≡ Some pool → IsPoolIn devices pool
 bios_in devices number pool found =
-    let is = told_by bios_of (λ n. Bios (record { 0 = n })) bios_by number (slice_get devices number) pool found in
+    let is = told_by bios_pool_of (λ n. Bios (record { 0 = n })) bios_by number (slice_get devices number) pool found in
     subst (IsPoolIn devices) is (found ∙ ap Some (sym is))
 
-records_in : (devices : List Declared) (number : ℕ) (pool : PoolId) → pool_if records_of devices number ≡ Some pool → IsPoolIn devices pool
+records_in : (devices : List Declared) (number : ℕ) (pool : PoolId) → pool_if records_pool_of devices number ≡ Some pool → IsPoolIn devices pool
 records_in devices number pool found =
-    let is = told_by records_of (λ n. Records (record { 0 = n })) records_by number (slice_get devices number) pool found in
+    let is = told_by records_pool_of (λ n. Records (record { 0 = n })) records_by number (slice_get devices number) pool found in
     subst (IsPoolIn devices) is (found ∙ ap Some (sym is))
 
 -- a pool with a name is one of those that there are
@@ -112,14 +112,14 @@ in_device devices own each None pool found = absurd (none-some pool found)
 in_device devices own each (Some number) pool found = each number pool found
 
 named_in : (devices : List Declared) (bios vecs : Bool) (of_set of_mirror : Option ℕ) (pool : PoolId)
-    → cond bios (Some FsBios) (cond vecs (Some FsVecs) (option_or (option_and_then (pool_if bios_of devices) of_set) (option_and_then (pool_if records_of devices) of_mirror))) ≡ Some pool
+    → cond bios (Some FsBios) (cond vecs (Some FsVecs) (option_or (option_and_then (pool_if bios_pool_of devices) of_set) (option_and_then (pool_if records_pool_of devices) of_mirror))) ≡ Some pool
     → IsPoolIn devices pool
 named_in devices true vecs of_set of_mirror pool found = subst (IsPoolIn devices) (same_Some FsBios pool found) tt
 named_in devices false true of_set of_mirror pool found = subst (IsPoolIn devices) (same_Some FsVecs pool found) tt
 named_in devices false false of_set of_mirror pool found =
-    elim (some_of (option_and_then (pool_if bios_of devices) of_set) (option_and_then (pool_if records_of devices) of_mirror) pool found) [
-      | inl set ↦ in_device devices bios_of (bios_in devices) of_set pool set
-      | inr mirror ↦ in_device devices records_of (records_in devices) of_mirror pool mirror
+    elim (some_of (option_and_then (pool_if bios_pool_of devices) of_set) (option_and_then (pool_if records_pool_of devices) of_mirror) pool found) [
+      | inl set ↦ in_device devices bios_pool_of (bios_in devices) of_set pool set
+      | inr mirror ↦ in_device devices records_pool_of (records_in devices) of_mirror pool mirror
     ]
 
 pool_in : (devices : List Declared) (word : List ℕ) (pool : PoolId) → pool_of devices word ≡ Some pool → IsPoolIn devices pool
@@ -233,7 +233,7 @@ no_member stack number none device place (at, found, is) =
     both_ways (number == number) of_member (eq-eqb number number refl)
 
 -- writes that share no sector are apart
-apart_by : (a b : Write) → shares b.dev.0 b.start b.count (written a) ≡ false → AreApart a b
+apart_by : (a b : Write) → shares b.dev.0 b.start b.count (written a) ≡ false → DoNotOverlap a b
 apart_by a b none dev = by_tests (nat_lt b.start (a.start + a.count)) (nat_lt a.start (b.start + b.count)) refl refl none
   where
     by_tests : (p q : Bool) → nat_lt b.start (a.start + a.count) ≡ p → nat_lt a.start (b.start + b.count) ≡ q → shares b.dev.0 b.start b.count (written a) ≡ false

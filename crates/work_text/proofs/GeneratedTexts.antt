@@ -14,7 +14,7 @@ use Rattle.decl_text.specs.declared.reason.Reason.TheVariants.{TooLong}
 use Rattle.decl_text.specs.declared.item.Item.TheVariants as item
 use Rattle.rand_pcg.specs.Lcg.{Lcg}
 use Rattle.work_text.specs.Work.{all_checks}
-use Rattle.work_text.specs.Generated.{NoGeneratedTextIsRefused, Run, behind, behind_all, chunk_in, counts, declarations, disk_words, generated, generated_lines, generator, limit_words, line_of, longest_in, memory_words, mirror_size, runs, stripe_size, stripe_words, text_of, write_words, writes, writes_from}
+use Rattle.work_text.specs.Generated.{NoGeneratedTextIsRefused, Run, behind, behind_all, chunk_in, counts, declaration_words, disk_words, generated, generated_lines, generator, limit_words, line_of, longest_in, memory_words, mirror_size, runs, stripe_size, stripe_words, text_of, write_words, writes, words_of_runs}
 use Rattle.work_text.proofs.GeneratorLemmas.{text_of-append}
 use Rattle.work_text.proofs.Said.{IsLine, IsWord, Writes, body_of, decimal_writes, text_lines, word_by, word_on}
 use Rattle.work_text.proofs.Generating.{disk_item, disk0, disk1, disk2, disk3, k1, k2, k3, k4, k5, k6, k7, k8, k9, k10, k11, limit_item, limit0, limit1, limit2, limit3, memory, mirror, mirror_item, one_line, stripe_item, stripe_of, stripe0, stripe1}
@@ -69,12 +69,12 @@ module _ (sectors : ℕ) (small : sectors ≤ 65536) where
   abbrev AreRight : ℕ → List (List (List ℕ)) → Type 0
   AreRight start all = Each IsLine all × (length (text_of all) + 28 * start ≤ 28 * sectors)
 
-  runs_right : (counts : List ℕ) → Each (λ count. (1 ≤ count) × (count ≤ 512)) counts → (k start : ℕ) → start ≤ sectors → AreRight start (writes_from k (runs sectors start counts))
+  runs_right : (counts : List ℕ) → Each (λ count. (1 ≤ count) × (count ≤ 512)) counts → (k start : ℕ) → start ≤ sectors → AreRight start (words_of_runs k (runs sectors start counts))
   runs_right [] each k start within = (tt, omega (arith, within))
   runs_right (count ∷ more) each k start within = go (nat_le (start + count) sectors) refl (λ fits. runs_right more each.1 (k + 1) (start + count) fits)
     where
-      go : (b : Bool) → nat_le (start + count) sectors ≡ b → (start + count ≤ sectors → AreRight (start + count) (writes_from (k + 1) (runs sectors (start + count) more)))
-          → AreRight start (writes_from k (if b then record { start = start; count = count } ∷ runs sectors (start + count) more else []))
+      go : (b : Bool) → nat_le (start + count) sectors ≡ b → (start + count ≤ sectors → AreRight (start + count) (words_of_runs (k + 1) (runs sectors (start + count) more)))
+          → AreRight start (words_of_runs k (if b then record { start = start; count = count } ∷ runs sectors (start + count) more else []))
       go false is later = (tt, omega (arith, within))
       go true is later =
           let fits = leb-true (start + count) sectors is in
@@ -83,7 +83,7 @@ module _ (sectors : ℕ) (small : sectors ≤ 65536) where
           let words = words_are [] [] [] [] [] [] _ _ _ _ (k % 4) start count (64 * start) (decimal_writes (k % 4) (omega arith)) (decimal_writes start (omega (arith, within, small)))
           (decimal_writes count (omega (arith, each.0.1))) (decimal_writes (64 * start) (omega (arith, within, small))) in
           let short = line_short k run (omega (arith, within, small)) each.0.1 in
-          (((words, omega arith), rest.0), omega (arith, short, rest.1, each.0.0, length-append (line_of (write_words k run)) (text_of (writes_from (k + 1) (runs sectors (start + count) more)))))
+          (((words, omega arith), rest.0), omega (arith, short, rest.1, each.0.0, length-append (line_of (write_words k run)) (text_of (words_of_runs (k + 1) (runs sectors (start + count) more)))))
 
 -- ---- the declarations
 
@@ -129,7 +129,7 @@ memory_short number = go (number % 2 == 1)
     go true = ((((word_by (codes "memory") refl, (word_by (codes "none") refl, tt)), omega arith), omega arith), tt)
     go false = tt
 
-declarations_short : (number : ℕ) (g : Lcg) → Each IsShort (declarations number g)
+declarations_short : (number : ℕ) (g : Lcg) → Each IsShort (declaration_words number g)
 declarations_short number g =
     let d0 : name_word (codes "d0") = (word_by (codes "d0") refl, omega arith) in
     let d1 : name_word (codes "d1") = (word_by (codes "d1") refl, omega arith) in
@@ -187,7 +187,7 @@ each_line (line ∷ one) other a b = (a.0, each_line one other a.1 b)
 
 -- ---- the whole
 
-few_lines : (number : ℕ) (g : Lcg) → length (declarations number g) ≤ 12
+few_lines : (number : ℕ) (g : Lcg) → length (declaration_words number g) ≤ 12
 few_lines number g =
     let last : length (memory_words number) ≤ 1 = go (number % 2 == 1) in
     omega (arith, last)
@@ -207,14 +207,14 @@ module _ (number : ℕ) where
   writes_are = runs_right (mirror_size g) (mirror_small g) (counts (mirror_size g + 1) (behind_all 6 g)) (counts_few (mirror_size g + 1) (behind_all 6 g)) 0 0 (omega arith)
 
   are_lines : Each IsLine (generated_lines number)
-  are_lines = each_line (declarations number g) (writes g) (texts_short (declarations number g) (declarations_short number g)).0 writes_are.0
+  are_lines = each_line (declaration_words number g) (writes g) (texts_short (declaration_words number g) (declarations_short number g)).0 writes_are.0
 
   is_short : length (generated number) ≤ most_bytes
   is_short =
-      let short : length (text_of (declarations number g)) ≤ 100 * length (declarations number g) = (texts_short (declarations number g) (declarations_short number g)).1 in
+      let short : length (text_of (declaration_words number g)) ≤ 100 * length (declaration_words number g) = (texts_short (declaration_words number g) (declarations_short number g)).1 in
       let rest : length (text_of (writes g)) + 28 * 0 ≤ 28 * mirror_size g = writes_are.1 in
-      let whole : length (generated number) ≡ length (text_of (declarations number g)) + length (text_of (writes g)) =
-      ap length (text_of-append (declarations number g) (writes g)) ∙ length-append (text_of (declarations number g)) (text_of (writes g)) in
+      let whole : length (generated number) ≡ length (text_of (declaration_words number g)) + length (text_of (writes g)) =
+      ap length (text_of-append (declaration_words number g) (writes g)) ∙ length-append (text_of (declaration_words number g)) (text_of (writes g)) in
       omega (arith, short, rest, whole, few_lines number g, mirror_small g)
 
   abbrev m0 : List ℕ

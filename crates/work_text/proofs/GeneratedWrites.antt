@@ -19,35 +19,35 @@ use Rattle.stack_base.specs.Mapping.{size_of, smallest}
 use Rattle.stack_base.proofs.ListLemmas.{Each}
 use Rattle.layout_model.specs.Bound.{most_elements}
 use Rattle.layout_model.specs.Need.{needed, vectors}
-use Rattle.layout_model.specs.Sound.{Closed}
+use Rattle.layout_model.specs.Sound.{NothingBehindMembers}
 use Rattle.layout_model.proofs.AtMost.{needed_le_weight}
 use Rattle.work_text.specs.Work.{all_checks, elements_in}
-use Rattle.work_text.specs.Generated.{runs, write_words, writes_from}
+use Rattle.work_text.specs.Generated.{runs, write_words, words_of_runs}
 use Rattle.work_text.proofs.Said.{IsWord, Writes, body_of, decimal_writes, word_by}
 use Rattle.work_text.proofs.Generating.{Fine, k11, le_most, one_line, stripe_of}
 
 -- ---- what one write needs
 
-closed_leaf : (number sectors : ℕ) → Closed (Leaf number sectors)
-unfolding Closed
+closed_leaf : (number sectors : ℕ) → NothingBehindMembers (Leaf number sectors)
+unfolding NothingBehindMembers
 closed_leaf number sectors = tt
 
 -- one member, or two
-closed_one : (number : ℕ) (kind : Kind) (one : Tree) → Closed one → Closed (over_shape Cuts number kind (one ∷ []))
-unfolding Closed over_shape
+closed_one : (number : ℕ) (kind : Kind) (one : Tree) → NothingBehindMembers one → NothingBehindMembers (over_shape Cuts number kind (one ∷ []))
+unfolding NothingBehindMembers over_shape
 closed_one number kind one closed = (past, inside)
   where
     past : (k : ℕ) → 1 ≤ k → member_at number (one ∷ []) k ≡ Leaf number 0
     past zero lt = absurd (omega (arith, lt))
     past (suc k) lt = refl
 
-    inside : (k : ℕ) → Closed (member_at number (one ∷ []) k)
+    inside : (k : ℕ) → NothingBehindMembers (member_at number (one ∷ []) k)
     inside zero = closed
     inside (suc k) = tt
 
-closed_two : (number : ℕ) (kind : Kind) (one other : Tree) → Closed one → Closed other
-    → Closed (over_shape Cuts number kind (one ∷ other ∷ [])) × Closed (over_shape Copies number kind (one ∷ other ∷ []))
-unfolding Closed over_shape
+closed_two : (number : ℕ) (kind : Kind) (one other : Tree) → NothingBehindMembers one → NothingBehindMembers other
+    → NothingBehindMembers (over_shape Cuts number kind (one ∷ other ∷ [])) × NothingBehindMembers (over_shape Copies number kind (one ∷ other ∷ []))
+unfolding NothingBehindMembers over_shape
 closed_two number kind one other first second = ((past, inside), (past, inside))
   where
     past : (k : ℕ) → 2 ≤ k → member_at number (one ∷ other ∷ []) k ≡ Leaf number 0
@@ -55,7 +55,7 @@ closed_two number kind one other first second = ((past, inside), (past, inside))
     past (suc zero) lt = absurd (omega (arith, lt))
     past (suc (suc k)) lt = refl
 
-    inside : (k : ℕ) → Closed (member_at number (one ∷ other ∷ []) k)
+    inside : (k : ℕ) → NothingBehindMembers (member_at number (one ∷ other ∷ []) k)
     inside zero = first
     inside (suc zero) = second
     inside (suc (suc k)) = tt
@@ -78,7 +78,7 @@ module _ (m0 m1 m2 m3 c0 c1 : List ℕ) where
   abbrev pub top : Tree
   top = tree_of devices 10
 
-  closed : Closed top
+  closed : NothingBehindMembers top
   closed =
       (closed_two 10 _ _ _
       (closed_two 8 _ _ _ (closed_one 4 _ _ (closed_leaf 0 32768)) (closed_one 5 _ _ (closed_leaf 1 32768))).0
@@ -207,13 +207,13 @@ module _ (m0 m1 m2 m3 c0 c1 : List ℕ) where
         (before_next start (start + count) writes write before refl (omega (arith, some, count_is)) start_is (omega (arith, count_is)))
 
     pub writes_right : (counts : List ℕ) → Each (λ count. (1 ≤ count) × (count ≤ 512)) counts → (k start at : ℕ) (writes : List Written) (rounds : List ℕ) → Before start writes
-        → refusal all_checks (with_writes memory writes rounds) at (map body_of (writes_from k (runs sectors start counts))) ≡ None
+        → refusal all_checks (with_writes memory writes rounds) at (map body_of (words_of_runs k (runs sectors start counts))) ≡ None
     unfolding refusal
     writes_right [] each k start at writes rounds before = refl
     writes_right (count ∷ more) each k start at writes rounds before = go (nat_le (start + count) sectors) refl (λ writes rounds before. writes_right more each.1 (k + 1) (start + count) (at + 1) writes rounds before)
       where
         go : (b : Bool) → nat_le (start + count) sectors ≡ b
-            → ((writes : List Written) (rounds : List ℕ) → Before (start + count) writes → refusal all_checks (with_writes memory writes rounds) (at + 1) (map body_of (writes_from (k + 1) (runs sectors (start + count) more))) ≡ None)
-            → refusal all_checks (with_writes memory writes rounds) at (map body_of (writes_from k (if b then record { start = start; count = count } ∷ runs sectors (start + count) more else []))) ≡ None
+            → ((writes : List Written) (rounds : List ℕ) → Before (start + count) writes → refusal all_checks (with_writes memory writes rounds) (at + 1) (map body_of (words_of_runs (k + 1) (runs sectors (start + count) more))) ≡ None)
+            → refusal all_checks (with_writes memory writes rounds) at (map body_of (words_of_runs k (if b then record { start = start; count = count } ∷ runs sectors (start + count) more else []))) ≡ None
         go false is later = refl
         go true is later = write_right k start count at writes rounds _ (leb-true (start + count) sectors is) each.0.0 each.0.1 before later

@@ -5,27 +5,27 @@ use Rattle.std.proofs.lemmas.Bool.{le-leb}
 use Rattle.std.proofs.lemmas.Bool.Decides.{nat_tests}
 use Rattle.std.proofs.Math.Dec.{leb}
 use Rattle.rand_pcg.specs.Lcg.{Lcg}
-use Rattle.work_text.specs.Generated.{behind, behind_all, chunk_in, counts, declarations, generated, generator, limit_words, line_of, longest_in, memory_words, mirror_size, runs, stripe_words, text_of, write_words, writes, writes_from}
+use Rattle.work_text.specs.Generated.{behind, behind_all, chunk_in, counts, declaration_words, generated, generator, limit_words, line_of, longest_in, memory_words, mirror_size, runs, stripe_words, text_of, write_words, writes, words_of_runs}
 
 pub one_write : (text now whole : List ℕ) (sectors number start count left : ℕ) (words : Lcg) → start + count ≤ sectors
     → now ≡ text ++ line_of (write_words number (record { start = start; count = count }))
-    → text ++ text_of (writes_from number (runs sectors start (count ∷ counts (suc left) words))) ≡ whole
-    → now ++ text_of (writes_from (number + 1) (runs sectors (start + count) (counts (suc left) words))) ≡ whole
+    → text ++ text_of (words_of_runs number (runs sectors start (count ∷ counts (suc left) words))) ≡ whole
+    → now ++ text_of (words_of_runs (number + 1) (runs sectors (start + count) (counts (suc left) words))) ≡ whole
 one_write text now whole sectors number start count left words fits is all =
     let more = runs sectors (start + count) (counts (suc left) words) in
-    let said : text ++ text_of (writes_from number (record { start = start; count = count } ∷ more)) ≡ whole =
-    ap (λ b. text ++ text_of (writes_from number (if b then record { start = start; count = count } ∷ more else []))) (sym (le-leb (start + count) sectors fits)) ∙ all in
-    ap (λ front. front ++ text_of (writes_from (number + 1) more)) is
-    ∙ append_assoc text (line_of (write_words number (record { start = start; count = count }))) (text_of (writes_from (number + 1) more)) ∙ said
+    let said : text ++ text_of (words_of_runs number (record { start = start; count = count } ∷ more)) ≡ whole =
+    ap (λ b. text ++ text_of (words_of_runs number (if b then record { start = start; count = count } ∷ more else []))) (sym (le-leb (start + count) sectors fits)) ∙ all in
+    ap (λ front. front ++ text_of (words_of_runs (number + 1) more)) is
+    ∙ append_assoc text (line_of (write_words number (record { start = start; count = count }))) (text_of (words_of_runs (number + 1) more)) ∙ said
 
 lt-leb : (a b : ℕ) → b < a → leb a b ≡ false
 lt-leb a b lt = grind (arith, nat_tests)
 
 pub no_write : (text whole : List ℕ) (sectors number start count : ℕ) (more : List ℕ) → sectors < start + count
-    → text ++ text_of (writes_from number (runs sectors start (count ∷ more))) ≡ whole → text ≡ whole
+    → text ++ text_of (words_of_runs number (runs sectors start (count ∷ more))) ≡ whole → text ≡ whole
 no_write text whole sectors number start count more past all =
     sym (append-nil text)
-    ∙ ap (λ b. text ++ text_of (writes_from number (if b then record { start = start; count = count } ∷ runs sectors (start + count) more else []))) (sym (lt-leb (start + count) sectors past))
+    ∙ ap (λ b. text ++ text_of (words_of_runs number (if b then record { start = start; count = count } ∷ runs sectors (start + count) more else []))) (sym (lt-leb (start + count) sectors past))
     ∙ all
 
 -- a text, and then one behind it
@@ -57,7 +57,7 @@ pub declared_text : (t0 t1 t2 t3 t4 t5 t6 t7 t8 t9 : List ℕ) (number : ℕ) (w
     → t7 ≡ t6 ++ stripe_text (codes "s1") (codes "l2") (codes "l3") w5
     → t8 ≡ t7 ++ codes "mirror m s0 s1\n"
     → t9 ≡ t8 ++ text_of (memory_words number)
-    → t9 ≡ t0 ++ text_of (declarations number w0)
+    → t9 ≡ t0 ++ text_of (declaration_words number w0)
 declared_text t0 t1 t2 t3 t4 t5 t6 t7 t8 t9 number w0 w1 w2 w3 w4 w5 e1 e2 e3 e4 e5 a1 a2 a3 a4 a5 a6 a7 a8 a9 =
     let two : w2 ≡ behind (behind w0) = e2 ∙ ap behind e1 in
     let three : w3 ≡ behind (behind (behind w0)) = e3 ∙ ap behind two in
@@ -73,11 +73,11 @@ declared_text t0 t1 t2 t3 t4 t5 t6 t7 t8 t9 number w0 w1 w2 w3 w4 w5 e1 e2 e3 e4
     onward t0 t1 t9 _ _ a1 r2
 
 -- the whole
-pub whole_text : (front text : List ℕ) (number sectors : ℕ) (words : Lcg) → front ≡ [] ++ text_of (declarations number (generator number))
+pub whole_text : (front text : List ℕ) (number sectors : ℕ) (words : Lcg) → front ≡ [] ++ text_of (declaration_words number (generator number))
     → words ≡ behind_all 6 (generator number) → sectors ≡ mirror_size (generator number)
-    → text ≡ front ++ text_of (writes_from 0 (runs sectors 0 (counts (sectors + 1) words))) → text ≡ generated number
+    → text ≡ front ++ text_of (words_of_runs 0 (runs sectors 0 (counts (sectors + 1) words))) → text ≡ generated number
 whole_text front text number sectors words front_is words_are sectors_are text_is =
     text_is
     ∙ ap₂ (λ f (cs : List (List (List ℕ))). f ++ text_of cs) front_is
-    (ap₂ (λ s g. writes_from 0 (runs s 0 (counts (s + 1) g))) sectors_are words_are)
-    ∙ sym (text_of-append (declarations number (generator number)) (writes (generator number)))
+    (ap₂ (λ s g. words_of_runs 0 (runs s 0 (counts (s + 1) g))) sectors_are words_are)
+    ∙ sym (text_of-append (declaration_words number (generator number)) (writes (generator number)))

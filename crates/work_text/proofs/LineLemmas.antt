@@ -8,12 +8,12 @@ use Rattle.decl_text.specs.Stands.{stand_of}
 use Rattle.decl_text.specs.declared.stand.Stand.{Stand}
 use Rattle.decl_text.specs.declared.stand.Stand.TheVariants as stand
 use Rattle.decl_text.specs.Refusals.{first_found, line_checks, line_reason, said_reason}
-use Rattle.decl_text.specs.Lines.{Says, SaysBehind}
+use Rattle.decl_text.specs.Lines.{LineSays, SaysBehind}
 use Rattle.decl_text.specs.declared.reason.Reason.{Reason}
 use Rattle.decl_text.specs.declared.item.Item.{Item}
 use Rattle.decl_text.specs.declared.line.LineFault.{LineFault}
 use Rattle.decl_text.specs.declared.line.LineFault.TheVariants.{Wrong, Memory}
-use Rattle.work_text.specs.Lines.{Adds, HasSectors, ReadsLine, CanStandAt, IsToldWork, TellsIn, item_of}
+use Rattle.work_text.specs.Lines.{AddsWork, HasSectors, ReadsLine, CanStandAt, IsToldWork, TellsIn, told_item}
 use Rattle.work_text.specs.Work.{all_checks}
 use Rattle.work_text.specs.declared.told.Told.{Told}
 use Rattle.work_text.proofs.Rests.{IsPaired, step}
@@ -27,7 +27,7 @@ told_fault known line (Wrong r) says = says
 pub told_wrong : (known : Known) (line bytes : List ℕ) (fault : LineFault) → line ≡ bytes → SaysBehind known line (Err fault) → TellsIn known bytes (Err fault)
 told_wrong known line bytes fault same says = told_fault known bytes fault (subst (λ l. SaysBehind known l (Err fault)) same says)
 
-pub told_some : (known : Known) (line bytes : List ℕ) (something : Item) (told : Told) → line ≡ bytes → SaysBehind known line (Ok (Some something)) → something ≡ item_of told → HasSectors told
+pub told_some : (known : Known) (line bytes : List ℕ) (something : Item) (told : Told) → line ≡ bytes → SaysBehind known line (Ok (Some something)) → something ≡ told_item told → HasSectors told
     → TellsIn known bytes (Ok (Some told))
 told_some known line bytes something told same says is some =
     let here : SaysBehind known bytes (Ok (Some something)) = subst (λ l. SaysBehind known l (Ok (Some something))) same says in
@@ -49,12 +49,12 @@ read_wrong before line behind (Wrong r) tells = reason_of before line (Some r) (
 pub read_none : (before : Known) (line : List ℕ) → TellsIn before line (Ok None) → ReadsLine before line before (Ok tt)
 read_none before line tells = (reason_of before line None None tells.0 tells.1, sym (ap (after_line before) tells.1))
 
-pub read_some : (before : Known) (line : List ℕ) (behind : Known) (told : Told) (result : Result (Unit {0}) LineFault) → TellsIn before line (Ok (Some told)) → Adds before (item_of told) behind result
+pub read_some : (before : Known) (line : List ℕ) (behind : Known) (told : Told) (result : Result (Unit {0}) LineFault) → TellsIn before line (Ok (Some told)) → AddsWork before (told_item told) behind result
     → ReadsLine before line behind result
 read_some before line behind told (Ok done) tells adds =
-    (reason_of before line None (Some (item_of told)) tells.0 tells.1 ∙ adds.0, adds.1 ∙ sym (ap (after_line before) tells.1))
+    (reason_of before line None (Some (told_item told)) tells.0 tells.1 ∙ adds.0, adds.1 ∙ sym (ap (after_line before) tells.1))
 read_some before line behind told (Err Memory) tells adds = tt
-read_some before line behind told (Err (Wrong r)) tells adds = reason_of before line None (Some (item_of told)) tells.0 tells.1 ∙ adds
+read_some before line behind told (Err (Wrong r)) tells adds = reason_of before line None (Some (told_item told)) tells.0 tells.1 ∙ adds
 
 -- something by which a line stands there
 known_at : Stand → Known
@@ -75,7 +75,7 @@ paired_so stand.BehindSync = refl
 paired_so stand.BehindWrite = refl
 
 -- what a line says that may stand there is of the work
-pub says_work : (s : Stand) (line bytes : List ℕ) (something : Item) → line ≡ bytes → CanStandAt s bytes → Says s line (Ok (Some something)) → IsToldWork something
+pub says_work : (s : Stand) (line bytes : List ℕ) (something : Item) → line ≡ bytes → CanStandAt s bytes → LineSays s line (Ok (Some something)) → IsToldWork something
 says_work s line bytes something same stands says =
     let here : SaysBehind (known_at s) bytes (Ok (Some something)) = subst (λ l. SaysBehind (known_at s) l (Ok (Some something))) same (says (known_at s) (stands_so s)) in
     subst Works here.1 (step (known_at s) bytes (paired_so s) (λ front. stands (sym (stands_so s) ∙ front)) here.0).works

@@ -6,7 +6,7 @@ use Rattle.std.proofs.lemmas.Bool.{and_parts, both_ways, leb-true, not-false, or
 use Rattle.decl_text.specs.Text.{is_number, is_option, number_of}
 use Rattle.decl_text.specs.Words.{is_within}
 use Rattle.decl_text.specs.Commands.{command_of}
-use Rattle.decl_text.specs.Forms.{Form, form, others, is_malformed, is_misnumbered, is_misplaced, is_misset, is_strange}
+use Rattle.decl_text.specs.Forms.{Form, form, behind_places, is_malformed, is_misnumbered, is_misplaced, is_misset, is_strange}
 use Rattle.decl_text.specs.Items.{begins_work, meaning, is_comment, is_work, malformed, misnumbered, number, said}
 use Rattle.decl_text.specs.Stands.{is_front, may_stand, misplaced}
 use Rattle.decl_text.specs.declared.command.Command.{Command}
@@ -114,9 +114,9 @@ third_true true b c d is = refl
 third_true false true c d is = refl
 third_true false false c d is = rw is refl
 
-strange_malforms : (form : Form) (words : List (List ℕ)) → list_any (is_strange form) (others form words) ≡ true → is_malformed form words ≡ true
+strange_malforms : (form : Form) (words : List (List ℕ)) → list_any (is_strange form) (behind_places form words) ≡ true → is_malformed form words ≡ true
 strange_malforms form words some = third_true (nat_lt (length words) (length form.places)) (list_any (λ at. is_misplaced at.0 at.1) (zip form.places words))
-    (list_any (is_strange form) (others form words)) (list_any (is_misset (others form words)) form.settings) some
+    (list_any (is_strange form) (behind_places form words)) (list_any (is_misset (behind_places form words)) form.settings) some
 
 meaning_begins : (c : Command) (rest : List (List ℕ)) → is_work c ≡ true → is_malformed (form c) rest ≡ false → Begins (meaning c rest)
 unfolding meaning

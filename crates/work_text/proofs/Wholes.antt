@@ -11,7 +11,7 @@ use Rattle.decl_text.specs.Items.{said}
 use Rattle.decl_text.specs.Known.{Known, Declared, nothing}
 use Rattle.decl_text.specs.Refusals.{first_found, line_checks, refusal, refused, known_after}
 use Rattle.decl_text.specs.Read.{Read}
-use Rattle.decl_text.specs.Reading.{IsRead, Formed, declarations, formed, formed_by, is_work_line, is_wrong, read_lines, refusal_of_items, right_lines, known_of_items}
+use Rattle.decl_text.specs.Reading.{IsReadDecl, Formed, declarations, formed, formed_by, is_work_line, is_wrong, read_lines, refusal_of_items, right_lines, known_of_items}
 use Rattle.decl_text.specs.Accepting.{Means, checks_for}
 use Rattle.decl_text.specs.declared.reason.Reason.TheVariants.{TooLong}
 use Rattle.decl_text.specs.declared.reason.Reason.{Reason}
@@ -40,14 +40,14 @@ not_long : (loose : Bool) (text : List ℕ) → length text ≤ most_bytes → t
 not_long loose text short = ap (λ b. if b then Some (refused 0 TooLong) else refusal (checks_by loose) nothing 1 (lines text)) (le-ltb most_bytes (length text) short)
 
 -- the items and the fault were read of these lines
-items_refused : (loose : Bool) (text : List ℕ) (read : Read) → IsRead text read
+items_refused : (loose : Bool) (text : List ℕ) (read : Read) → IsReadDecl text read
     → refusal (checks_by loose) nothing 1 (declarations (lines text)) ≡ refusal_of_items (checks_for loose) nothing read.items read.fault
 items_refused loose text read is =
     front_alike (checks_for loose) nothing 1 (declarations (lines text)) nothing_front (none_pass is_work_line (lines text))
     ∙ front_refused (checks_for loose) nothing 1 (declarations (lines text)) nothing_front (none_pass is_work_line (lines text))
     ∙ ap (λ f. refusal_of_items (checks_for loose) nothing f.items f.fault) (sym is.formed)
 
-refused_in_parts : (loose : Bool) (text : List ℕ) (read : Read) → length text ≤ most_bytes → IsRead text read
+refused_in_parts : (loose : Bool) (text : List ℕ) (read : Read) → length text ≤ most_bytes → IsReadDecl text read
     → text_refusal_by loose text ≡ option_or (refusal_of_items (checks_for loose) nothing read.items read.fault)
     (refusal (checks_by loose) (known_before (lines text)) (1 + length (declarations (lines text))) (left (lines text)))
 refused_in_parts loose text read short is =
@@ -56,7 +56,7 @@ refused_in_parts loose text read short is =
     ∙ refusal-append (checks_by loose) nothing 1 (declarations (lines text)) (left (lines text))
     ∙ ap (λ r. option_or r (refusal (checks_by loose) (known_before (lines text)) (1 + length (declarations (lines text))) (left (lines text)))) (items_refused loose text read is)
 
-pub refused_first : (loose : Bool) (text : List ℕ) (read : Read) (first : Refusal) → length text ≤ most_bytes → IsRead text read
+pub refused_first : (loose : Bool) (text : List ℕ) (read : Read) (first : Refusal) → length text ≤ most_bytes → IsReadDecl text read
     → refusal_of_items (checks_for loose) nothing read.items read.fault ≡ Some first → text_refusal_by loose text ≡ Some first
 refused_first loose text read first short is here =
     refused_in_parts loose text read short is
@@ -78,7 +78,7 @@ none_wrong number (line ∷ all) none =
 
 pub record Accepted (loose : Bool) (text : List ℕ) (read : Read) (stack : Stack) (scripts : List (PoolId × Answers)) : Type 0 where
   pub short : length text ≤ most_bytes
-  pub is : IsRead text read
+  pub is : IsReadDecl text read
   pub none : refusal_of_items (checks_for loose) nothing read.items read.fault ≡ None
   pub means : Means (known_of_items nothing read.items) stack scripts
 

@@ -8,7 +8,7 @@ use Rattle.layout_model.specs.declared.write.Write.{Write}
 use Rattle.layout_model.specs.OneWay.{AreApartByRounds}
 use Rattle.decl_text.specs.Accepting.{shown_devices}
 use Rattle.decl_text.specs.Fit.{IsReserve}
-use Rattle.decl_text.specs.Known.{Declared, bios_of, records_of, pool_if}
+use Rattle.decl_text.specs.Known.{Declared, bios_pool_of, records_pool_of, pool_if}
 use Rattle.decl_text.specs.Reading.{declarations}
 use Rattle.decl_text.specs.declared.accepted.Accepted.{Accepted}
 use Rattle.work_text.specs.Reading.{ReadsWork, work_lines}
@@ -20,8 +20,8 @@ use Rattle.work_text.specs.declared.Work.{Work}
 abbrev pub IsPoolIn : List Declared → PoolId → Type 0
 IsPoolIn devices FsBios = Unit {0}
 IsPoolIn devices FsVecs = Unit {0}
-IsPoolIn devices (Bios dev) = pool_if bios_of devices dev.0 ≡ Some (Bios dev)
-IsPoolIn devices (Records dev) = pool_if records_of devices dev.0 ≡ Some (Records dev)
+IsPoolIn devices (Bios dev) = pool_if bios_pool_of devices dev.0 ≡ Some (Bios dev)
+IsPoolIn devices (Records dev) = pool_if records_pool_of devices dev.0 ≡ Some (Records dev)
 
 pub record IsFitWork (stack : Stack) (work : Work) : Type 0 where
   -- writers have numbers up to 7

@@ -57,8 +57,8 @@ chunk_in g = 8 * (1 + word g % 32)
 abbrev pub memory_words : ℕ → List (List (List ℕ))
 memory_words number = if number % 2 == 1 then (codes "memory" ∷ codes "none" ∷ []) ∷ [] else []
 
-abbrev pub declarations : ℕ → Lcg → List (List (List ℕ))
-declarations number g =
+abbrev pub declaration_words : ℕ → Lcg → List (List (List ℕ))
+declaration_words number g =
     disk_words (codes "d0") ∷ disk_words (codes "d1") ∷ disk_words (codes "d2") ∷ disk_words (codes "d3")
     ∷ limit_words (codes "l0") (codes "d0") (longest_in g)
     ∷ limit_words (codes "l1") (codes "d1") (longest_in (behind_all 1 g))
@@ -98,18 +98,18 @@ write_words number run =
     codes "write" ∷ decimal (number % 4) ∷ codes "m" ∷ decimal run.start ∷ decimal run.count ∷ decimal (64 * run.start) ∷ []
 
 -- the writes of these runs, the first of which has this number
-abbrev pub writes_from : ℕ → List Run → List (List (List ℕ))
-writes_from number [] = []
-writes_from number (run ∷ more) = write_words number run ∷ writes_from (number + 1) more
+abbrev pub words_of_runs : ℕ → List Run → List (List (List ℕ))
+words_of_runs number [] = []
+words_of_runs number (run ∷ more) = write_words number run ∷ words_of_runs (number + 1) more
 
 -- behind the words of the declarations; each write has a sector, so one count for each sector is enough
 abbrev pub writes : Lcg → List (List (List ℕ))
-writes g = writes_from 0 (runs (mirror_size g) 0 (counts (mirror_size g + 1) (behind_all 6 g)))
+writes g = words_of_runs 0 (runs (mirror_size g) 0 (counts (mirror_size g + 1) (behind_all 6 g)))
 
 -- ---- the text
 
 abbrev pub generated_lines : ℕ → List (List (List ℕ))
-generated_lines number = declarations number (generator number) ++ writes (generator number)
+generated_lines number = declaration_words number (generator number) ++ writes (generator number)
 
 abbrev pub generated : ℕ → List ℕ
 generated number = text_of (generated_lines number)

@@ -28,10 +28,10 @@ abbrev pub CanStand : Known → List ℕ → Type 0
 CanStand known line = CanStandAt (stand_of known) line
 
 -- what is told of the work
-abbrev pub item_of : Told → Item
-item_of (told.Write task dev range tag) = item.Write task dev range tag
-item_of told.Sync = item.Sync
-item_of (told.Resize pool min) = item.Resize pool min
+abbrev pub told_item : Told → Item
+told_item (told.Write task dev range tag) = item.Write task dev range tag
+told_item told.Sync = item.Sync
+told_item (told.Resize pool min) = item.Resize pool min
 
 -- a write with the numbers of its form, a `sync` or a `resize` line
 abbrev pub IsToldWork : Item → Type 0
@@ -49,7 +49,7 @@ HasSectors (told.Resize pool min) = Unit {0}
 -- the line says nothing, or this of the work, or it is wrong by its words
 abbrev pub TellsIn : Known → List ℕ → Result (Option Told) LineFault → Type 0
 TellsIn known line (Ok None) = (first_found line_checks known line ≡ None) × (said (words line) ≡ None)
-TellsIn known line (Ok (Some told)) = (first_found line_checks known line ≡ None) × (said (words line) ≡ Some (item_of told)) × HasSectors told
+TellsIn known line (Ok (Some told)) = (first_found line_checks known line ≡ None) × (said (words line) ≡ Some (told_item told)) × HasSectors told
 TellsIn known line (Err (Wrong reason)) = first_found line_checks known line ≡ Some reason
 TellsIn known line (Err Memory) = Unit {0}
 
@@ -58,10 +58,10 @@ abbrev pub Tells : Stand → List ℕ → Result (Option Told) LineFault → Typ
 Tells stand line result = (known : Known) → stand_of known ≡ stand → TellsIn known line result
 
 -- what is told passes all checks and is known then, or this check finds it
-abbrev pub Adds : Known → Item → Known → Result (Unit {0}) LineFault → Type 0
-Adds before said after_it (Ok done) = (first_found all_checks before said ≡ None) × (after_it ≡ after before said)
-Adds before said after_it (Err (Wrong reason)) = first_found all_checks before said ≡ Some reason
-Adds before said after_it (Err Memory) = Unit {0}
+abbrev pub AddsWork : Known → Item → Known → Result (Unit {0}) LineFault → Type 0
+AddsWork before said after_it (Ok done) = (first_found all_checks before said ≡ None) × (after_it ≡ after before said)
+AddsWork before said after_it (Err (Wrong reason)) = first_found all_checks before said ≡ Some reason
+AddsWork before said after_it (Err Memory) = Unit {0}
 
 -- the line is not refused, and is known then, or it is refused so
 abbrev pub ReadsLine : Known → List ℕ → Known → Result (Unit {0}) LineFault → Type 0

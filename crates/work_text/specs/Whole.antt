@@ -8,7 +8,7 @@ use Rattle.decl_text.specs.Known.{Known, Written, nothing}
 use Rattle.decl_text.specs.Checks.{shares}
 use Rattle.decl_text.specs.Refusals.{refusal, refused, known_after}
 use Rattle.decl_text.specs.Read.{Read}
-use Rattle.decl_text.specs.Reading.{IsRead, declarations, refusal_of_items, known_of_items}
+use Rattle.decl_text.specs.Reading.{IsReadDecl, declarations, refusal_of_items, known_of_items}
 use Rattle.decl_text.specs.Accepting.{Means, checks_for}
 use Rattle.decl_text.specs.declared.reason.Reason.TheVariants.{TooLong}
 use Rattle.decl_text.specs.declared.reason.Refusal.{Refusal}
@@ -33,7 +33,7 @@ work_of known =
 -- the declarations were read, and are refused so: so is the text
 abbrev pub DeclarationsRefuse : Type 0
 DeclarationsRefuse =
-    (loose : Bool) (text : List ℕ) (read : Read) (first : Refusal) → length text ≤ most_bytes → IsRead text read
+    (loose : Bool) (text : List ℕ) (read : Read) (first : Refusal) → length text ≤ most_bytes → IsReadDecl text read
     → refusal_of_items (checks_for loose) nothing read.items read.fault ≡ Some first → text_refusal_by loose text ≡ Some first
 
 -- They are not, and mean this stack and these scripts: the rest of the text decides, by this stack. No line of it declares a device, so none
@@ -48,7 +48,7 @@ pub record RestDecides (loose : Bool) (text : List ℕ) (read : Read) (stack : S
 
 abbrev pub RestsDecide : Type 0
 RestsDecide =
-    (loose : Bool) (text : List ℕ) (read : Read) (stack : Stack) (scripts : List (PoolId × Answers)) → length text ≤ most_bytes → IsRead text read
+    (loose : Bool) (text : List ℕ) (read : Read) (stack : Stack) (scripts : List (PoolId × Answers)) → length text ≤ most_bytes → IsReadDecl text read
     → refusal_of_items (checks_for loose) nothing read.items read.fault ≡ None → Means (known_of_items nothing read.items) stack scripts
     → RestDecides loose text read stack scripts
 

@@ -3,7 +3,7 @@ ghost use Rattle.std.specs.Prelude.{◌≡◌, ◌≤◌, ◌++◌, IfSome, leng
 ghost use Rattle.std.specs.Str.{bytes_eq};
 ghost use Rattle.stack_base.specs.PoolId.{pool_number};
 ghost use Rattle.decl_text.specs.Accepting.{shown_devices};
-ghost use Rattle.decl_text.specs.Known.{bios_named, bios_of, device_before, pool_if, pool_of, records_named, records_of};
+ghost use Rattle.decl_text.specs.Known.{bios_named, bios_pool_of, device_before, pool_if, pool_of, records_named, records_pool_of};
 
 use decl_text::Word;
 use stack_base::{DevId, Device, Kind, PoolId, Stack};
@@ -64,7 +64,7 @@ fn place_before(devices: &[Device], suffix: &[u8], word: &Word<'_>) -> Option<us
 // The pool of bios of the device of this number.
 fn bios_at(stack: &Stack, number: usize) -> Option<PoolId>
     requires { length stack.now.devices.items ≤ 32 }
-    ensures pool { result ≡ pool_if bios_of (shown_devices stack.now) number }
+    ensures pool { result ≡ pool_if bios_pool_of (shown_devices stack.now) number }
     ensures small { IfSome result (λ pool. pool_number pool ≤ 65) }
 {
     match stack.devices.get(number)?.kind {
@@ -76,7 +76,7 @@ fn bios_at(stack: &Stack, number: usize) -> Option<PoolId>
 // The pool of records of the device of this number.
 fn records_at(stack: &Stack, number: usize) -> Option<PoolId>
     requires { length stack.now.devices.items ≤ 32 }
-    ensures pool { result ≡ pool_if records_of (shown_devices stack.now) number }
+    ensures pool { result ≡ pool_if records_pool_of (shown_devices stack.now) number }
     ensures small { IfSome result (λ pool. pool_number pool ≤ 65) }
 {
     match stack.devices.get(number)?.kind {

@@ -1,6 +1,6 @@
 //! What a line from the first write or `sync` line on says.
 ghost use Rattle.std.specs.Prelude.{◌≡◌};
-ghost use Rattle.work_text.specs.Lines.{CanStandAt, HasSectors, IsToldWork, Tells, item_of};
+ghost use Rattle.work_text.specs.Lines.{CanStandAt, HasSectors, IsToldWork, Tells, told_item};
 
 use decl_text::{Item, LineFault, Stand, TextLine, Word, is_blank_line};
 use stack_base::Range;
@@ -51,7 +51,7 @@ pub(crate) fn told_by<'a>(
 // The item, as what it says of the work.
 fn work_of<'a>(item: Item<'a>) -> Told<'a>
     requires { IsToldWork item }
-    ensures same { item.entry ≡ item_of result }
+    ensures same { item.entry ≡ told_item result }
     ensures sectors { HasSectors result }
 {
     match item {

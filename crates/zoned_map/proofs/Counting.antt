@@ -5,7 +5,7 @@ use Rattle.std.proofs.lemmas.Bool.{cases_lt, lt-ltb, le-ltb}
 use Rattle.std.proofs.lemmas.List.{length_push}
 use Rattle.stack_base.proofs.Passing.{passing}
 use Rattle.stack_base.proofs.Zones.{total}
-use Rattle.zoned_map.specs.Numbers.{number}
+use Rattle.zoned_map.specs.Numbers.{chunk_number}
 use Rattle.zoned_map.proofs.Places.{number_is}
 use Rattle.zoned_map.proofs.Ranges.{passing_push, passing_skip, total_next}
 
@@ -61,7 +61,7 @@ module _ (counts : List ℕ) (member row so_far place : ℕ) (is : IsCounted cou
 -- all members are counted
 pub counted_all :
     (counts : List ℕ) (member row so_far place : ℕ) → IsCounted counts member row so_far place → place ≡ length counts → member < length counts
-    → so_far ≡ number counts member row
+    → so_far ≡ chunk_number counts member row
 counted_all counts member row so_far place is all within =
     let test = λ (i : ℕ). nat_lt row (slice_index counts i) in
     let one : min place member ≡ member = omega arith in

@@ -10,13 +10,13 @@ use Rattle.std.proofs.Math.Nat.{mul_comm, mul-le-mul_right}
 use Rattle.stack_base.specs.Mapping.{Slot, size_of, slot, whole_chunks, Zone, zones, zones_from, reaching, levels, in_zones}
 use Rattle.stack_base.proofs.WholeChunks.{whole_chunks_le, chunk_count_le}
 use Rattle.stack_base.proofs.Passing.{passing, passing-yes, passing-no, passing_there}
-use Rattle.stack_base.proofs.Zones.{IsEnumeration, before, number, total, next_before, total_ends, none_before, levels_enumerate, total_sum, chunk_forward, chunk_back}
+use Rattle.stack_base.proofs.Zones.{IsEnumeration, before, chunk_rank, total, next_before, total_ends, none_before, levels_enumerate, total_sum, chunk_forward, chunk_back}
 use Rattle.zoned_map.specs.Members.{IsPlace, IsSectorOf}
 use Rattle.zoned_map.specs.Numbers as spec
 use Rattle.zoned_map.proofs.Ranges.{total_range}
 
 -- the number of a chunk, in its two forms
-pub number_is : (counts : List ℕ) (m row : ℕ) → number counts m row ≡ spec.number counts m row
+pub number_is : (counts : List ℕ) (m row : ℕ) → chunk_rank counts m row ≡ spec.chunk_number counts m row
 number_is counts m row = omega (arith, total_range (λ i. min (slice_index counts i) row) 0 (length counts))
 
 -- values cut off, and one more for each that is cut off, are no more than the values
@@ -31,7 +31,7 @@ cut_le f row a (suc n) =
     ]
 
 -- a chunk of a member has a number below all chunks
-pub number_below : (counts : List ℕ) (m row : ℕ) → m < length counts → row < slice_index counts m → number counts m row < sum counts
+pub number_below : (counts : List ℕ) (m row : ℕ) → m < length counts → row < slice_index counts m → chunk_rank counts m row < sum counts
 number_below counts m row within has =
     let test = λ (i : ℕ). nat_lt row (slice_index counts i) in
     let there = passing_there test 0 (length counts) m (omega arith) (omega arith) (lt-ltb row (slice_index counts m) has) in
@@ -49,7 +49,7 @@ module _ (chunk : ℕ) (sizes : List ℕ) (pos : 1 ≤ chunk) where
   place_at :
       (m at s : ℕ) → IsPlace chunk sizes m at s
       → (m < length (whole_chunks chunk sizes)) × (at / chunk < slice_index (whole_chunks chunk sizes) m)
-      × (s ≡ number (whole_chunks chunk sizes) m (at / chunk) * chunk + at % chunk)
+      × (s ≡ chunk_rank (whole_chunks chunk sizes) m (at / chunk) * chunk + at % chunk)
   unfolding slot size_of
   place_at m at s is =
       let counts = whole_chunks chunk sizes in
@@ -60,7 +60,7 @@ module _ (chunk : ℕ) (sizes : List ℕ) (pos : 1 ≤ chunk) where
       let low : s % chunk < chunk = mod_below s chunk pos in
       let row : to.at ≡ at / chunk = sym (div-mul-add to.at chunk (s % chunk) low) ∙ ap (λ x. x / chunk) sector in
       let within : s % chunk ≡ at % chunk = sym (mod-mul-add to.at chunk (s % chunk) low) ∙ ap (λ x. x % chunk) sector in
-      let numbered : number counts m (at / chunk) ≡ s / chunk = ap (λ x. number counts x (at / chunk)) (sym member) ∙ ap (number counts to.member) (sym row) ∙ there.numbered in (
+      let numbered : chunk_rank counts m (at / chunk) ≡ s / chunk = ap (λ x. chunk_rank counts x (at / chunk)) (sym member) ∙ ap (chunk_rank counts to.member) (sym row) ∙ there.numbered in (
         subst (λ x. x < length counts) member there.member,
         subst (λ x. at / chunk < slice_index counts x) member (subst (λ x. x < slice_index counts to.member) row there.at),
         omega (arith, div-add-mod' s chunk, ap (λ x. x * chunk) numbered, within),
@@ -69,11 +69,11 @@ module _ (chunk : ℕ) (sizes : List ℕ) (pos : 1 ≤ chunk) where
   -- a sector in a whole chunk of a member is the sector of the device in the chunk with its number
   pub sector_there :
       (m at : ℕ) → m < length sizes → at / chunk < slice_index (whole_chunks chunk sizes) m
-      → IsPlace chunk sizes m at (number (whole_chunks chunk sizes) m (at / chunk) * chunk + at % chunk)
+      → IsPlace chunk sizes m at (chunk_rank (whole_chunks chunk sizes) m (at / chunk) * chunk + at % chunk)
   unfolding slot size_of
   sector_there m at within has =
       let counts = whole_chunks chunk sizes in
-      let e = number counts m (at / chunk) in
+      let e = chunk_rank counts m (at / chunk) in
       let there : m < length counts = omega (arith, length-map sizes (λ (size : ℕ). size / chunk)) in
       let below : e < sum counts = number_below counts m (at / chunk) there has in
       let low : at % chunk < chunk = mod_below at chunk pos in
@@ -90,7 +90,7 @@ module _ (chunk : ℕ) (sizes : List ℕ) (pos : 1 ≤ chunk) where
   -- it is the one that `sector_of` answers, and no other is there
   pub sector_found :
       (m at : ℕ) → m < length sizes → at / chunk < slice_index (whole_chunks chunk sizes) m
-      → IsSectorOf chunk sizes m at (Some (number (whole_chunks chunk sizes) m (at / chunk) * chunk + at % chunk))
+      → IsSectorOf chunk sizes m at (Some (chunk_rank (whole_chunks chunk sizes) m (at / chunk) * chunk + at % chunk))
   sector_found m at within has =
       let count : slice_index (whole_chunks chunk sizes) m ≡ slice_index sizes m / chunk = get_or-map (λ (size : ℕ). size / chunk) sizes m 0 0 within in (
         omega (arith, div-add-mod' at chunk, mul-add-lt (at / chunk) chunk (at % chunk) (slice_index sizes m / chunk) (omega arith) (mod_below at chunk pos), mul_comm chunk (slice_index sizes m / chunk)),

@@ -10,7 +10,7 @@ pub record Members : Type 0 where
   pub sizes : List ℕ
 
 -- they are those of a zoned device, whose size and zones are kept beside
-pub record IsKept (chunk : ℕ) (sizes : List ℕ) (sectors : ℕ) (kept : List Zone) : Type 0 where
+pub record IsZoned (chunk : ℕ) (sizes : List ℕ) (sectors : ℕ) (kept : List Zone) : Type 0 where
   pub shape : HasShape (Zoned chunk) (length sizes)
   pub small : sum sizes < 2 ^ 32
   pub whole : sectors ≡ size_of (Zoned chunk) sizes

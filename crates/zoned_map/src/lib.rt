@@ -7,7 +7,7 @@ ghost use Rattle.std.specs.Prelude.{◌≡◌, ◌<◌, ◌≤◌, ◌^◌, leng
 ghost use Rattle.stack_base.specs.Mapping.{size_of, whole_chunks};
 ghost use Rattle.stack_base.specs.Stack.{HasShape};
 ghost use Rattle.zoned_map.specs.Members.{IsSectorOf};
-ghost use Rattle.zoned_map.specs.Numbers.{number};
+ghost use Rattle.zoned_map.specs.Numbers.{chunk_number};
 
 use crate::zone::{Zone, whole_chunks, zones_of};
 use arrayvec::ArrayVec;
@@ -29,13 +29,13 @@ pub struct Zoned {
 }
 
 impl Model for Zoned {
-    ghost use Rattle.zoned_map.specs.Members.{Members, IsKept};
+    ghost use Rattle.zoned_map.specs.Members.{Members, IsZoned};
 
     ghost Value = { Members };
 
     ghost view = { λ z. record { chunk = z.chunk; sizes = z.sizes.items } };
 
-    ghost invariant = { λ z. IsKept z.chunk z.sizes.items z.sectors z.zones.items };
+    ghost invariant = { λ z. IsZoned z.chunk z.sizes.items z.sectors z.zones.items };
 }
 
 impl Zoned {
@@ -85,7 +85,7 @@ fn chunk_number(counts: &[u64], member: u64, row: u64) -> u64
     requires few { length counts.now ≤ 8 }
     requires small { sum counts.now < 2 ^ 32 }
     requires member { member < length counts.now }
-    ensures { result ≡ number counts.now member row }
+    ensures { result ≡ chunk_number counts.now member row }
 {
     let mut number = 0;
     for (place, count) in counts.iter().enumerate() {

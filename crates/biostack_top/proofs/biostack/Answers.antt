@@ -2,7 +2,7 @@
 use Rattle.std.proofs.Common.{◌≡◌, ◌∙◌, Some, map, refl, subst, sym}
 use Rattle.std.proofs.KnownBytes.{Keeps-refl}
 use Rattle.std.specs.String.{string_bytes}
-use Rattle.biostack_words.specs.Grammar.{meaning}
+use Rattle.biostack_words.specs.Grammar.{order_meant}
 use Rattle.biostack_words.specs.declared.order.Order.{Order}
 use Rattle.biostack_words.specs.declared.order.Order.TheVariants.{Workers}
 use Rattle.biostack_top.proofs.OrderLemmas.{few_workers, is_workers}
@@ -16,7 +16,7 @@ pub returns-in-Some-clause-refused : goal.returns-in-Some-clause-refused
 returns-in-Some-clause-refused g c = λ is.
     let order = is_workers c.in-Ok.order c.in-Some.workers c.in-Some.trace (sym c.workers_in.ensures ∙ c.in-Some.is) in (
       Workers c.in-Some.workers c.in-Some.trace,
-      subst (λ (o : Order). meaning (map string_bytes c.args.words.now) ≡ Some o) order c.in-Ok.ensures,
+      subst (λ (o : Order). order_meant (map string_bytes c.args.words.now) ≡ Some o) order c.in-Ok.ensures,
       c.serve_shared.ensures.refused is,
     )
 
@@ -25,7 +25,7 @@ returns-in-Some-clause-shown g c = λ is.
     let order = is_workers c.in-Ok.order c.in-Some.workers c.in-Some.trace (sym c.workers_in.ensures ∙ c.in-Some.is) in (
       c.in-Some.workers,
       c.in-Some.trace,
-      subst (λ (o : Order). meaning (map string_bytes c.args.words.now) ≡ Some o) order c.in-Ok.ensures,
+      subst (λ (o : Order). order_meant (map string_bytes c.args.words.now) ≡ Some o) order c.in-Ok.ensures,
       c.serve_shared.ensures.shown is,
     )
 

@@ -2,7 +2,7 @@
 use Rattle.std.proofs.Common.{◌≡◌, ◌+◌, ◌*◌, ◌≤◌, ℕ, Bool, true, false, List, [], ◌∷◌, length, Option, None, Some, inl, inr, refl, sym, ◌∙◌, ap, subst, arith}
 use Rattle.elem_ledger.specs.Ledger.{LedgerId}
 use Rattle.run_machine.specs.declared.event.Event.{Event}
-use Rattle.mempool_core.specs.Move.{PoolState, Move as PoolMove, after_move, misses, gives, resizes}
+use Rattle.mempool_core.specs.Move.{PoolState, PoolMove, after_move, misses, gives, resizes}
 use Rattle.stack_base.specs.PoolId.{pool_number}
 use Rattle.run_machine.specs.Maps.{upd}
 use Rattle.run_machine.specs.Scene.{Scene}

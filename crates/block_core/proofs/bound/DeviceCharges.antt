@@ -21,7 +21,7 @@ use Rattle.bio_split.specs.Split.{split_rest}
 use Rattle.bio_books.specs.Books.{SlipItem}
 use Rattle.run_machine.specs.Scene.{Setup, tree_at, tree_number, setup_of}
 use Rattle.run_machine.specs.Submissions.{Want, ToPush, ToCut, ToMaster, first_length, landed, legs_of, leg_at, is_cut}
-use Rattle.block_core.specs.Charges.{run_charge, run_at, leg_charge}
+use Rattle.block_core.specs.Charges.{run_charge, bio_run_charge, leg_charge}
 use Rattle.block_core.specs.Payers.{Record, PieceBio, Fragment, Paid, cost}
 use Rattle.block_core.proofs.moves.Moves.{piece}
 use Rattle.run_machine.proofs.TreeNumbers.{number_of_tree}
@@ -33,13 +33,13 @@ use Rattle.layout_model.proofs.ByShape.{cuts_is}
 
 -- what is known of charges at the devices of a stack
 pub record Priced (price : Paid → ℕ) (setup : Setup) : Type 0 where
-  pub lands : (bio : Bio) → IsThere setup bio → run_at price setup (landed (tree_at setup bio.dev) bio) ≡ run_at price setup bio
+  pub lands : (bio : Bio) → IsThere setup bio → bio_run_charge price setup (landed (tree_at setup bio.dev) bio) ≡ bio_run_charge price setup bio
   pub cut : (bio hand : Item Pad) (key number : ℕ) (kind : Kind) (sizes : List ℕ) (members : ℕ → Tree) → IsThere setup bio.bio
       → tree_at setup bio.bio.dev ≡ Split number kind sizes members → IsTrue (is_cut (Split number kind sizes members) bio.bio.range)
-      → run_at price setup bio.bio ≡ cost price PieceBio + run_at price setup (piece bio hand (first_length kind sizes bio.bio.range) key kind sizes members).bio
-      + run_at price setup (split_rest bio (first_length kind sizes bio.bio.range)).bio
+      → bio_run_charge price setup bio.bio ≡ cost price PieceBio + bio_run_charge price setup (piece bio hand (first_length kind sizes bio.bio.range) key kind sizes members).bio
+      + bio_run_charge price setup (split_rest bio (first_length kind sizes bio.bio.range)).bio
   pub leg : (bio : Bio) (hand : Item Pad) (leg key : ℕ) → IsThere setup bio → leg < legs_of (tree_at setup bio.dev)
-      → cost price PieceBio + run_at price setup (leg_at bio hand leg key (tree_at setup bio.dev)).bio ≡ leg_charge price (tree_at setup bio.dev) bio.range leg
+      → cost price PieceBio + bio_run_charge price setup (leg_at bio hand leg key (tree_at setup bio.dev)).bio ≡ leg_charge price (tree_at setup bio.dev) bio.range leg
 
 module _ (price : Paid → ℕ) where
   -- a bio at a disk has a fragment
@@ -62,7 +62,7 @@ module _ (price : Paid → ℕ) where
 
   -- a cut needs an element
   pub cut_needs : (setup : Setup) → Priced price setup → (bio : Item Pad) (want : Want) (t : Tree) → tree_at setup bio.bio.dev ≡ t → IsThere setup bio.bio → AskFits t bio.bio.range bio.bio.dev.0 (ToCut want)
-      → cost price PieceBio ≤ run_at price setup bio.bio
+      → cost price PieceBio ≤ bio_run_charge price setup bio.bio
   cut_needs setup p bio want (Split number kind sizes members) same is fits = omega (arith, p.cut bio bio 0 number kind sizes members is same fits.0)
   cut_needs setup p bio want (Leaf number sectors) same is fits = absurd fits
   cut_needs setup p bio want (Mirrored number sizes members) same is fits = absurd fits
@@ -86,10 +86,10 @@ module _ (price : Paid → ℕ) (stack : Stack) (good : IsStack stack) (places :
   setup = setup_of stack places
 
   leg_of : (bio : Bio) (hand : Item Pad) (leg key : ℕ) → IsThere setup bio → leg < legs_of (tree stack bio.dev.0)
-      → cost price PieceBio + run_at price setup (leg_at bio hand leg key (tree stack bio.dev.0)).bio ≡ leg_charge price (tree stack bio.dev.0) bio.range leg
+      → cost price PieceBio + bio_run_charge price setup (leg_at bio hand leg key (tree stack bio.dev.0)).bio ≡ leg_charge price (tree stack bio.dev.0) bio.range leg
   leg_of bio hand leg key is lt = by_tree (tree stack bio.dev.0) (legs_go_down stack good bio.dev.0 leg is.device) lt
     where
-      by_tree : (t : Tree) → GoesDown stack t leg → leg < legs_of t → cost price PieceBio + run_at price setup (leg_at bio hand leg key t).bio ≡ leg_charge price t bio.range leg
+      by_tree : (t : Tree) → GoesDown stack t leg → leg < legs_of t → cost price PieceBio + bio_run_charge price setup (leg_at bio hand leg key t).bio ≡ leg_charge price t bio.range leg
       by_tree (Mirrored number sizes members) goes lt = ap (λ t. cost price PieceBio + run_charge price t bio.range.start bio.range.len) (goes lt)
       by_tree (Leaf number sectors) goes lt = absurd (omega arith)
       by_tree (Split number kind sizes members) goes lt = absurd (omega arith)
@@ -100,7 +100,7 @@ module _ (price : Paid → ℕ) (stack : Stack) (good : IsStack stack) (places :
   is_cut_of number device found cuts_it =
       kind_cuts device.kind (sizes_at stack device) (can_cut device.kind (length device.members.items) (good.each number device found).shape cuts_it)
 
-  whole_run : IsWhole stack good places (run_at price setup)
+  whole_run : IsWhole stack good places (bio_run_charge price setup)
   whole_run bio device found cuts_it to whole =
       let range = bio.range in
       let members = members_at stack bio.dev.0 device in
@@ -111,7 +111,7 @@ module _ (price : Paid → ℕ) (stack : Stack) (good : IsStack stack) (places :
   CutOf : Item Pad → Item Pad → ℕ → Tree → Type 0
   CutOf bio hand key (Split number kind sizes members) = IsTrue (is_cut (Split number kind sizes members) bio.bio.range)
       → run_charge price (Split number kind sizes members) bio.bio.range.start bio.bio.range.len
-      ≡ cost price PieceBio + run_at price setup (piece bio hand (first_length kind sizes bio.bio.range) key kind sizes members).bio
+      ≡ cost price PieceBio + bio_run_charge price setup (piece bio hand (first_length kind sizes bio.bio.range) key kind sizes members).bio
       + run_charge price (Split number kind sizes members) (bio.bio.range.start + first_length kind sizes bio.bio.range) (bio.bio.range.len - first_length kind sizes bio.bio.range)
   CutOf bio hand key (Leaf number sectors) = Unit {0}
   CutOf bio hand key (Mirrored number sizes members) = Unit {0}
@@ -143,12 +143,12 @@ module _ (price : Paid → ℕ) (stack : Stack) (good : IsStack stack) (places :
   pub priced : Priced price setup
   unfolding CutOf
   priced = record {
-    lands = λ bio is. (falls stack good places (run_at price setup) whole_run (bio.dev.0 + 1) bio (omega arith) is).same;
+    lands = λ bio is. (falls stack good places (bio_run_charge price setup) whole_run (bio.dev.0 + 1) bio (omega arith) is).same;
     cut = λ bio hand key number kind sizes members is at many.
         let a : CutOf bio hand key (Split number kind sizes members) = subst (CutOf bio hand key) at (cut_of bio hand key is) in
-        let b : run_at price setup bio.bio ≡ run_charge price (Split number kind sizes members) bio.bio.range.start bio.bio.range.len = ap (λ t. run_charge price t bio.bio.range.start bio.bio.range.len) at in
+        let b : bio_run_charge price setup bio.bio ≡ run_charge price (Split number kind sizes members) bio.bio.range.start bio.bio.range.len = ap (λ t. run_charge price t bio.bio.range.start bio.bio.range.len) at in
         let n = first_length kind sizes bio.bio.range in
-        let c : run_at price setup (split_rest bio n).bio ≡ run_charge price (Split number kind sizes members) (bio.bio.range.start + n) (bio.bio.range.len - n) =
+        let c : bio_run_charge price setup (split_rest bio n).bio ≡ run_charge price (Split number kind sizes members) (bio.bio.range.start + n) (bio.bio.range.len - n) =
         ap (λ t. run_charge price t (bio.bio.range.start + n) (bio.bio.range.len - n)) at in
         omega (arith, a many, b, c);
     leg = λ bio hand leg key is lt. leg_of bio hand leg key is lt;

@@ -19,7 +19,7 @@ use Rattle.block_core.specs.Weights.{Weight, Spot, Lined, Rescued, Pending, Brou
 use Rattle.block_core.specs.Charges.{there}
 use Rattle.block_core.specs.Fragments.{todo_fragments, legs_come, leg_fragments}
 use Rattle.block_core.specs.Rooms.{need_at, leg_need, legs_need}
-use Rattle.block_core.proofs.moves.Moves.{Move, IsBare, Tells}
+use Rattle.block_core.proofs.moves.Moves.{Move, IsBare, TellsNode}
 use Rattle.block_core.proofs.moves.Moves as moves
 use Rattle.block_core.proofs.sound.Facts.{own_part, own_of, away}
 use Rattle.block_core.proofs.moves.SubmissionWeights.{IsBlind}
@@ -98,7 +98,7 @@ later_due setup [] = refl
 later_due setup (todo ∷ later) = sym (sum_by-cons (write_due setup) todo later)
 
 -- what is carried tells one end
-pub tells_due : (setup : Setup) (place : ℕ) (carried : Carried) (writer key : ℕ) (status : Status) (part : Option (Item Pad)) → Tells carried writer key status part
+pub tells_due : (setup : Setup) (place : ℕ) (carried : Carried) (writer key : ℕ) (status : Status) (part : Option (Item Pad)) → TellsNode carried writer key status part
     → carried_weight (due setup) place carried ≡ 1
 tells_due setup place (Brings bio ending) writer key status part t = refl
 tells_due setup place (Carries of closed) writer key status part t = rw (t.4) refl
@@ -127,7 +127,7 @@ holds_one (role.Master parent) bio slip own none = omega (arith, there_bare slip
 holds_one (role.Leg parent) bio slip own none = omega (arith, there_away bio own, none)
 
 -- so does it once it was told of its last end
-pub closes_one : (carried : Carried) (writer key : ℕ) (status : Status) (part : Option (Item Pad)) (node : Node) → Tells carried writer key status part
+pub closes_one : (carried : Carried) (writer key : ℕ) (status : Status) (part : Option (Item Pad)) (node : Node) → TellsNode carried writer key status part
     → ((bio : Item Pad) (ending : Status) → carried ≡ Brings bio ending → (node.held.bio ≡ None) × (own_part node.role None ≡ 1))
     → 0 + brought carried ≡ own_of (Some node) → odd_holding node.role node.held.bio node.held.slip ≡ 0
     → there (later_part node.held.bio part) + there node.held.slip ≡ 1

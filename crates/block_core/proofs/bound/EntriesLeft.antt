@@ -1,7 +1,7 @@
 -- The entries that are left of the scripts of pools: a take uses one up, or none.
 use Rattle.std.proofs.Common.{◌≡◌, ◌+◌, ◌<◌, ◌≤◌, if◌then◌else◌, ℕ, Bool, true, false, length, inl, inr, sym, ◌∙◌, ap, arith}
 use Rattle.std.proofs.lemmas.Bool.Decides.{nat_tests}
-use Rattle.mempool_core.specs.Move.{PoolState, Move as PoolMove, after_move, takes_ordinary, takes_spare, misses, gives, resizes}
+use Rattle.mempool_core.specs.Move.{PoolState, PoolMove, after_move, takes_ordinary, takes_spare, misses, gives, resizes}
 use Rattle.bio_books.specs.Books.{told}
 use Rattle.run_machine.specs.Maps.{upd}
 use Rattle.block_core.specs.Weights.{sum_at}

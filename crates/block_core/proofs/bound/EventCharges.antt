@@ -5,7 +5,7 @@ use Rattle.stack_base.specs.PoolId.{pool_number}
 use Rattle.stack_base.specs.Tree.{Tree, Leaf, Split, Mirrored}
 use Rattle.stack_base.specs.declared.ids.SetId.TheVariants.{Of}
 use Rattle.stack_base.proofs.ListLemmas.{Each}
-use Rattle.mempool_core.specs.Move.{Move as PoolMove, after_move, misses, gives, resizes}
+use Rattle.mempool_core.specs.Move.{PoolMove, after_move, misses, gives, resizes}
 use Rattle.bio_records.specs.declared.bio.Pad.{Pad}
 use Rattle.bio_records.specs.Items.{Item}
 use Rattle.bio_records.specs.Sorting.{is_of}

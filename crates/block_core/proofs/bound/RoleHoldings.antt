@@ -16,7 +16,7 @@ use Rattle.run_machine.specs.Runs.{State}
 use Rattle.block_core.specs.Charges.{there}
 use Rattle.block_core.specs.Roles.{named}
 use Rattle.block_core.specs.Weights.{Weight, total, no_weight}
-use Rattle.block_core.proofs.moves.Moves.{Move, Can, after, limit_of, filled_of, cut_lists, Tells}
+use Rattle.block_core.proofs.moves.Moves.{Move, Can, after, limit_of, filled_of, cut_lists, TellsNode}
 use Rattle.block_core.proofs.moves.Moves as moves
 use Rattle.block_core.proofs.moves.Deltas.{delta}
 use Rattle.block_core.proofs.sound.Facts.{own_part, Kept}
@@ -45,7 +45,7 @@ same_bio (role.Chain parent) old new slip own = refl
 same_bio (role.Master parent) old new slip own = absurd (omega (arith, own))
 same_bio (role.Leg parent) old new slip own = refl
 
-told_odd : (writer key : ℕ) (status : Status) (part : Option (Item Pad)) (carried : Carried) (node : Node) → Tells carried writer key status part
+told_odd : (writer key : ℕ) (status : Status) (part : Option (Item Pad)) (carried : Carried) (node : Node) → TellsNode carried writer key status part
     → ((bio : Item Pad) (ending : Status) → carried ≡ Brings bio ending → (node.held.bio ≡ None) × (own_part node.role None ≡ 1))
     → odd_holding node.role (told node status part).held.bio node.held.slip ≡ odd_holding node.role node.held.bio node.held.slip
 told_odd writer key status part (Brings bio ending) node t none = same_bio node.role node.held.bio (told node status part).held.bio node.held.slip (none bio ending refl).1

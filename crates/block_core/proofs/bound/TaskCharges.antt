@@ -23,7 +23,7 @@ use Rattle.block_core.specs.Charges.{may_pop, bio_charge, legs_charge, there, wr
 use Rattle.block_core.specs.Paying.{end_carried}
 use Rattle.block_core.specs.Payers.{payer_at, Paid, MissesAtOnce, IsPunted, IsPopped}
 use Rattle.block_core.specs.Payers as paid
-use Rattle.block_core.proofs.moves.Moves.{with_submission, HasSubmission, Wants, with_want, Tells, Hands}
+use Rattle.block_core.proofs.moves.Moves.{with_submission, HasSubmission, Wants, with_want, TellsNode, Hands}
 use Rattle.block_core.proofs.moves.Sums.{sum_at-upd}
 use Rattle.block_core.proofs.sound.Orders.{IsPlaced, DoingPlaced, each_map, each_filter, of_set}
 use Rattle.block_core.proofs.bound.DeviceCharges.{Priced}
@@ -171,7 +171,7 @@ on_submission scene s place x doing lists new lt is h =
 
 -- an end that a completer tells is paid for by what it carries; and where it is that of a bio, the bio is given back later
 pub tells_charge : (price : Paid → ℕ) (was_master : ℕ → Bool) (setup : Setup) (place : ℕ) (carried : Carried) (writer key : ℕ) (status : Status) (part : Option (Item Pad))
-    → Tells carried writer key status part → carried_weight (charge price was_master setup) place carried ≡ price (end_carried (was_master place) carried) + give_charge price part
+    → TellsNode carried writer key status part → carried_weight (charge price was_master setup) place carried ≡ price (end_carried (was_master place) carried) + give_charge price part
 tells_charge price was_master setup place (Brings bio ending) writer key status part t = ap (λ p. price (paid.EndsItself (payer_at bio.share.no)) + give_charge price p) (sym t.3)
 tells_charge price was_master setup place (Carries of closed) writer key status part t =
     let kind = end_carried (was_master place) (Carries of closed) in

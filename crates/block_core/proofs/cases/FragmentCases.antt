@@ -18,7 +18,7 @@ use Rattle.run_machine.specs.Runs.{State}
 use Rattle.run_machine.proofs.Turns.{Turn, behind}
 use Rattle.run_machine.proofs.cases.MirrorRun.{setup, todo, start, ledger, begun}
 use Rattle.block_core.specs.Weights.{sum_at, total}
-use Rattle.block_core.specs.Fragments.{todo_fragments, to_come, is_it, times}
+use Rattle.block_core.specs.Fragments.{todo_fragments, to_come, is_it, fragment_count}
 
 -- the write's one sector on a disk
 abbrev on : ℕ → Fragment
@@ -30,7 +30,7 @@ unfolding each plan leaves
 of_the_write = refl
 
 -- each of them once
-each_once : times (on 1) (on 0 ∷ on 1 ∷ []) ≡ 1
+each_once : fragment_count (on 1) (on 0 ∷ on 1 ∷ []) ≡ 1
 each_once = refl
 
 module _ (some : LedgerId) where

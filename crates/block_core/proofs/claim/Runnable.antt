@@ -14,7 +14,7 @@ use Rattle.layout_model.specs.NeedCounts.{elements, parts}
 use Rattle.layout_model.specs.Writes.{IsWrite}
 use Rattle.layout_model.proofs.AtMost.{fragments_le_needed}
 use Rattle.layout_model.proofs.PlanLaws.{trees_are_sound}
-use Rattle.decl_text.specs.Accepting.{what_of}
+use Rattle.decl_text.specs.Accepting.{what_of_kind}
 use Rattle.decl_text.specs.Fit.{HasReserves as FitReserves, IsReserve}
 use Rattle.decl_text.proofs.FewEntries.{entries_few}
 use Rattle.decl_text.proofs.Fits.{accepted_fit}
@@ -52,7 +52,7 @@ largest start (round ∷ next ∷ rounds) ordered =
     omega (arith, above, largest (max start round) (next ∷ rounds) ordered.1, last_of_more round next rounds)
 
 -- the reserves of a device
-keeps_some : (kind : Kind) (reserve : ℕ) (rescuer : Bool) → FitReserves (what_of kind) reserve rescuer → KeepsSome kind reserve
+keeps_some : (kind : Kind) (reserve : ℕ) (rescuer : Bool) → FitReserves (what_of_kind kind) reserve rescuer → KeepsSome kind reserve
 keeps_some (Disk sectors bad) reserve rescuer fit = tt
 keeps_some Linear reserve rescuer fit = fit.0
 keeps_some (Stripe chunk) reserve rescuer fit = fit.0

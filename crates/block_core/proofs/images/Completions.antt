@@ -20,7 +20,7 @@ use Rattle.run_machine.specs.Requests as requests
 use Rattle.run_machine.specs.Requests.{Request, Reply}
 use Rattle.run_machine.specs.Runs.{State, Steps}
 use Rattle.block_core.specs.Fragments.{fragment_of, completed_by}
-use Rattle.block_core.proofs.moves.Moves.{Move, place_of, Can, after, HasSubmission, Tells}
+use Rattle.block_core.proofs.moves.Moves.{Move, place_of, Can, after, HasSubmission, TellsNode}
 use Rattle.block_core.proofs.moves.Moves as moves
 use Rattle.block_core.proofs.moves.Sums.{upd-same}
 use Rattle.block_core.proofs.moves.StepsTold.{IsMove}
@@ -128,7 +128,7 @@ same_brings (Completer disk (Fails breach kept)) = refl
 same_brings (Keeper keeping) = refl
 
 tells_brings : (disk : DevId) (carried : Carried) (writer key : ℕ) (status : Status) (part : Option (Item Pad)) (y : TaskState)
-    → Tells carried writer key status part → brought (Completer disk carried) y ≡ []
+    → TellsNode carried writer key status part → brought (Completer disk carried) y ≡ []
 tells_brings disk (Brings bio ending) writer key status part y t = refl
 tells_brings disk (Carries of closed) writer key status part y t = refl
 tells_brings disk Empty writer key status part y t = absurd t

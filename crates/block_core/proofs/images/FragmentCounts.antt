@@ -22,7 +22,7 @@ use Rattle.bio_split.specs.Split.{split_rest}
 use Rattle.bio_books.specs.Books.{SlipItem}
 use Rattle.run_machine.specs.Scene.{Setup, tree_at, tree_number, setup_of}
 use Rattle.run_machine.specs.Submissions.{ToPush, ToMaster, first_length, landed, legs_of, leg_at, is_cut}
-use Rattle.block_core.specs.Fragments.{offset_of, fragment_of, fragments_of, leg_fragments}
+use Rattle.block_core.specs.Fragments.{offset_of, fragment_of, bio_fragments, leg_fragments}
 use Rattle.block_core.proofs.moves.Moves.{piece}
 use Rattle.run_machine.proofs.TreeNumbers.{number_of_tree}
 use Rattle.block_core.proofs.moves.Geometry.{IsThere, IsWhole, falls, goes, members_at, of_each_shape}
@@ -30,7 +30,7 @@ use Rattle.block_core.proofs.moves.LegTrees.{GoesDown, legs_go_down}
 use Rattle.block_core.proofs.sound.Orders.{AskFits}
 
 abbrev pub worth : Setup → (Fragment → ℕ) → Bio → ℕ
-worth setup value bio = sum_by value (fragments_of setup bio)
+worth setup value bio = sum_by value (bio_fragments setup bio)
 
 abbrev pub leg_worth : Setup → (Fragment → ℕ) → Bio → ℕ → ℕ
 leg_worth setup value bio leg = sum_by value (leg_fragments (tree_at setup bio.dev) bio leg)

@@ -27,7 +27,7 @@ use Rattle.run_machine.specs.declared.event.Event.{Event}
 use Rattle.run_machine.specs.Opened.{Scenario, scene, start, todos}
 use Rattle.run_machine.specs.Runs.{State, IsRun}
 use Rattle.block_core.specs.Scenarios.{IsScenario, IsNaming}
-use Rattle.block_core.specs.Fragments.{completed, times, IsOfScenario, NothingComes}
+use Rattle.block_core.specs.Fragments.{completed, fragment_count, IsOfScenario, NothingComes}
 use Rattle.block_core.specs.Images.{tag_of, writes_at, put, held_after, round_at, OneARound, ComeInRounds}
 use Rattle.block_core.proofs.moves.Sums.{same_or_not}
 use Rattle.block_core.proofs.start.FactsAtStart.{todos_all, all_map}
@@ -77,13 +77,13 @@ module _ (s : Scenario) (disk at : ℕ) where
   abbrev IsLast : Fragment → List Fragment → Type 0
   IsLast f fs = (g : Fragment) → Contains fs g → writes g ≡ true → (g ≡ f) ⊎ (round_at s g < round_at s f)
 
-  last_in : (f : Fragment) (g : Fragment) (gs : List Fragment) → Contains (g ∷ gs) f → times f gs ≡ 0 → g ≡ f
+  last_in : (f : Fragment) (g : Fragment) (gs : List Fragment) → Contains (g ∷ gs) f → fragment_count f gs ≡ 0 → g ≡ f
   last_in f g gs (zero, within, is) none = is
   last_in f g gs (suc k, within, is) none = absurd (omega (arith, none, times_some f gs (k, omega (arith, within), is)))
 
   pub last_held : (f : Fragment) (fs : List Fragment) (held : List ℕ) → Contains fs f → writes f ≡ true → IsLast f fs → Rise fs → held_after s disk at fs held ≡ data_of f
   last_held f [] held (k, within, is) here last rise = absurd (omega (arith, within))
-  last_held f (g ∷ gs) held c here last rise = elim (same_or_not (times f gs) 0) [
+  last_held f (g ∷ gs) held c here last rise = elim (same_or_not (fragment_count f gs) 0) [
     | inr some ↦ last_held f gs (put s disk at g held) (some_times f gs (omega (arith, some))) here (λ h in_rest w. last h (Contains-append_right (g ∷ []) gs h in_rest) w) (rest_rise g gs rise)
     | inl none ↦
         let same : g ≡ f = last_in f g gs c none in

@@ -18,7 +18,7 @@ use Rattle.run_machine.specs.Opened.{Scenario, scene, todos, setup as setup_in}
 use Rattle.run_machine.specs.Runs.{State}
 use Rattle.block_core.specs.Weights.{Weight, Pending, Rescued, one, total, weigh_option, task_weight, gathered_weight, book_weight}
 use Rattle.block_core.specs.Scenarios.{IsScenario}
-use Rattle.block_core.specs.Fragments.{todo_fragments, to_come, planned, is_same, is_it, times, IsOfScenario, HasNone, NothingComes, NoneIsCompletedTwice, NoOtherIsCompleted, EachIsCompletedOnce}
+use Rattle.block_core.specs.Fragments.{todo_fragments, to_come, planned, equal_fragments, is_it, fragment_count, IsOfScenario, HasNone, NothingComes, NoneIsCompletedTwice, NoOtherIsCompleted, EachIsCompletedOnce}
 use Rattle.block_core.proofs.stuck.Idle.{sum_none}
 use Rattle.block_core.proofs.moves.Sums.{one-same, same_or_not}
 use Rattle.block_core.proofs.start.FactsAtStart.{sum_at-zero, todos_all, all_map}
@@ -28,30 +28,30 @@ use Rattle.block_core.proofs.images.Completed.{fragments_add_up}
 use Rattle.block_core.proofs.start.StartTotals.{flat_sum}
 
 -- fragments that are told to be the same are
-same_fragment : (f g : Fragment) → is_same f g ≡ true → f ≡ g
+same_fragment : (f g : Fragment) → equal_fragments f g ≡ true → f ≡ g
 same_fragment f g is = grind (arith, is)
 
-same_itself : (f : Fragment) → is_same f f ≡ true
+same_itself : (f : Fragment) → equal_fragments f f ≡ true
 same_itself f = rw (eq-eqb f.write f.write refl, eq-eqb f.offset f.offset refl, eq-eqb f.len f.len refl, eq-eqb f.disk.0 f.disk.0 refl, eq-eqb f.at f.at refl) refl
 
 abbrev pub if_so : Bool → ℕ
 if_so b = if b then 1 else 0
 
 -- where none of a list is the fragment
-none_times : (f : Fragment) (gs : List Fragment) → All (λ g. is_same f g ≡ false) gs → times f gs ≡ 0
+none_times : (f : Fragment) (gs : List Fragment) → All (λ g. equal_fragments f g ≡ false) gs → fragment_count f gs ≡ 0
 none_times f [] none = refl
 none_times f (g ∷ gs) none =
     omega (
       arith,
       sum_by-cons (is_it f) g gs,
-      ap if_so (All-head (λ g. is_same f g ≡ false) g gs none),
-      none_times f gs (All-tail (λ g. is_same f g ≡ false) g gs none),
+      ap if_so (All-head (λ g. equal_fragments f g ≡ false) g gs none),
+      none_times f gs (All-tail (λ g. equal_fragments f g ≡ false) g gs none),
     )
 
-pub not_same : (f g : Fragment) → (f ≢ g) → is_same f g ≡ false
-not_same f g ne = by_test (is_same f g) refl
+pub not_same : (f g : Fragment) → (f ≢ g) → equal_fragments f g ≡ false
+not_same f g ne = by_test (equal_fragments f g) refl
   where
-    by_test : (v : Bool) → is_same f g ≡ v → v ≡ false
+    by_test : (v : Bool) → equal_fragments f g ≡ v → v ≡ false
     by_test true is = absurd (ne (same_fragment f g is))
     by_test false is = refl
 
@@ -62,15 +62,15 @@ pub pairs_rest : (g : Fragment) (gs : List Fragment) → AllPairs AreOther (g �
 pairs_rest g gs pairs = λ i j d lt within. pairs (suc i) (suc j) d (omega (arith, lt)) (omega (arith, within))
 
 -- of fragments that differ each is there once
-at_most_once : (f : Fragment) (gs : List Fragment) → AllPairs AreOther gs → times f gs ≤ 1
+at_most_once : (f : Fragment) (gs : List Fragment) → AllPairs AreOther gs → fragment_count f gs ≤ 1
 at_most_once f [] pairs = omega arith
-at_most_once f (g ∷ gs) pairs = by_test (is_same f g) refl (at_most_once f gs (pairs_rest g gs pairs))
+at_most_once f (g ∷ gs) pairs = by_test (equal_fragments f g) refl (at_most_once f gs (pairs_rest g gs pairs))
   where
-    others : f ≡ g → All (λ h. is_same f h ≡ false) gs
-    others same = all_map (AreOther g) (λ h. is_same f h ≡ false) (λ h other. not_same f h (λ e.
+    others : f ≡ g → All (λ h. equal_fragments f h ≡ false) gs
+    others same = all_map (AreOther g) (λ h. equal_fragments f h ≡ false) (λ h other. not_same f h (λ e.
         other (ap (λ (x : Fragment). x.offset) (sym same ∙ e)) (ap (λ (x : Fragment). x.disk.0) (sym same ∙ e)))) gs (pairs_first g gs pairs)
 
-    by_test : (v : Bool) → is_same f g ≡ v → times f gs ≤ 1 → times f (g ∷ gs) ≤ 1
+    by_test : (v : Bool) → equal_fragments f g ≡ v → fragment_count f gs ≤ 1 → fragment_count f (g ∷ gs) ≤ 1
     by_test true is rest =
         let here : is_it f g ≡ 1 = ap if_so is in
         omega (arith, sum_by-cons (is_it f) g gs, here, none_times f gs (others (same_fragment f g is)))
@@ -79,20 +79,20 @@ at_most_once f (g ∷ gs) pairs = by_test (is_same f g) refl (at_most_once f gs 
         omega (arith, sum_by-cons (is_it f) g gs, here, rest)
 
 -- and only among those of its own write
-within_write : (f : Fragment) (number : ℕ) (gs : List Fragment) → All (λ (g : Fragment). g.write ≡ number) gs → AllPairs AreOther gs → times f gs ≤ one number f.write
+within_write : (f : Fragment) (number : ℕ) (gs : List Fragment) → All (λ (g : Fragment). g.write ≡ number) gs → AllPairs AreOther gs → fragment_count f gs ≤ one number f.write
 within_write f number gs all pairs = elim (same_or_not number f.write) [
   | inl e ↦ let here : one number f.write ≡ 1 = subst (λ k. one number k ≡ 1) e (one-same number) in omega (arith, here, at_most_once f gs pairs)
   | inr ne ↦ omega (
     arith,
-    none_times f gs (all_map (λ (g : Fragment). g.write ≡ number) (λ g. is_same f g ≡ false) (λ g of. not_same f g (λ e. ne (sym of ∙ ap (λ (x : Fragment). x.write) (sym e)))) gs all),
+    none_times f gs (all_map (λ (g : Fragment). g.write ≡ number) (λ g. equal_fragments f g ≡ false) (λ g of. not_same f g (λ e. ne (sym of ∙ ap (λ (x : Fragment). x.write) (sym e)))) gs all),
   )
 ]
 
-pub some_times : (f : Fragment) (gs : List Fragment) → 0 < times f gs → Contains gs f
+pub some_times : (f : Fragment) (gs : List Fragment) → 0 < fragment_count f gs → Contains gs f
 some_times f [] lt = absurd (omega (arith, lt))
-some_times f (g ∷ gs) lt = by_test (is_same f g) refl (some_times f gs)
+some_times f (g ∷ gs) lt = by_test (equal_fragments f g) refl (some_times f gs)
   where
-    by_test : (v : Bool) → is_same f g ≡ v → (0 < times f gs → Contains gs f) → Contains (g ∷ gs) f
+    by_test : (v : Bool) → equal_fragments f g ≡ v → (0 < fragment_count f gs → Contains gs f) → Contains (g ∷ gs) f
     by_test true is rest = (0, omega arith, sym (same_fragment f g is))
     by_test false is rest =
         let here : is_it f g ≡ 0 = ap if_so is in
@@ -101,7 +101,7 @@ some_times f (g ∷ gs) lt = by_test (is_same f g) refl (some_times f gs)
 pub term_in : {X : Type 0} (h : X → ℕ) (xs : List X) (x : X) → Contains xs x → h x ≤ sum_by h xs
 term_in h xs x (k, within, is) = subst (λ y. h y ≤ sum_by h xs) is (get_or-le-sum_by h xs k x within)
 
-pub times_some : (f : Fragment) (gs : List Fragment) → Contains gs f → 1 ≤ times f gs
+pub times_some : (f : Fragment) (gs : List Fragment) → Contains gs f → 1 ≤ fragment_count f gs
 times_some f gs c = let here : is_it f f ≡ 1 = ap if_so (same_itself f) in omega (arith, here, term_in (is_it f) gs f c)
 
 some_sum : {X : Type 0} (h : X → ℕ) (xs : List X) → 0 < sum_by h xs → (x : X) × Contains xs x × (0 < h x)
@@ -126,19 +126,19 @@ module _ (s : Scenario) (good : IsScenario s) (ledger : ℕ → LedgerId) where
       let law = plan_gives_fragments (tree s.stack todo.write.dev.0) todo.number 0 todo.write.start todo.write.count sound (omega arith) f in
       law
 
-  todo_once : (f : Fragment) (todo : Todo) → IsWrite s.stack todo.write → times f (todo_fragments (setup_in s) todo) ≤ one todo.number f.write
+  todo_once : (f : Fragment) (todo : Todo) → IsWrite s.stack todo.write → fragment_count f (todo_fragments (setup_in s) todo) ≤ one todo.number f.write
   todo_once f todo is =
       let gs = todo_fragments (setup_in s) todo in
       let some = is.some in
       within_write f todo.number gs (all_map (Contains gs) (λ (g : Fragment). g.write ≡ todo.number) (λ g c. ((todo_sound todo is g).0 c).of_write) gs (All-contains_itself gs))
       (plan_fragments_differ s.stack todo.write.dev.0 todo.number 0 todo.write.start todo.write.count good.stack is.known (omega arith))
 
-  pub planned_once : (f : Fragment) → times f (planned s) ≤ 1
+  pub planned_once : (f : Fragment) → fragment_count f (planned s) ≤ 1
   planned_once f =
       omega (
         arith,
         flat_sum (is_it f) (todo_fragments (setup_in s)) (todos s),
-        all_le (λ (todo : Todo). IsWrite s.stack todo.write) (λ todo. times f (todo_fragments (setup_in s) todo)) (λ todo. one todo.number f.write) (todos s) (todo_once f)
+        all_le (λ (todo : Todo). IsWrite s.stack todo.write) (λ todo. fragment_count f (todo_fragments (setup_in s) todo)) (λ todo. one todo.number f.write) (todos s) (todo_once f)
             (todos_all s (IsWrite s.stack) good.writes),
         begins_sum f.write (todos s),
         once f.write 0 (length s.writes) (zip s.rounds s.writes),
@@ -147,18 +147,18 @@ module _ (s : Scenario) (good : IsScenario s) (ledger : ℕ → LedgerId) where
   is_write : (todo : Todo) → Contains (todos s) todo → IsWrite s.stack todo.write
   is_write todo c = All-contains (λ (todo : Todo). IsWrite s.stack todo.write) (todos s) todo (todos_all s (IsWrite s.stack) good.writes) c
 
-  pub planned_is : (f : Fragment) → 0 < times f (planned s) → IsOfScenario s f
+  pub planned_is : (f : Fragment) → 0 < fragment_count f (planned s) → IsOfScenario s f
   planned_is f lt =
-      let some = some_sum (λ todo. times f (todo_fragments (setup_in s) todo)) (todos s) (omega (arith, lt, flat_sum (is_it f) (todo_fragments (setup_in s)) (todos s))) in
+      let some = some_sum (λ todo. fragment_count f (todo_fragments (setup_in s) todo)) (todos s) (omega (arith, lt, flat_sum (is_it f) (todo_fragments (setup_in s)) (todos s))) in
       (some.0, some.1, (todo_sound some.0 (is_write some.0 some.1) f).0 (some_times f (todo_fragments (setup_in s) some.0) some.2))
 
-  pub is_planned : (f : Fragment) → IsOfScenario s f → times f (planned s) ≡ 1
+  pub is_planned : (f : Fragment) → IsOfScenario s f → fragment_count f (planned s) ≡ 1
   is_planned f (todo, c, is) =
       let part = times_some f (todo_fragments (setup_in s) todo) ((todo_sound todo (is_write todo c) f).1 is) in
       omega (
         arith,
         part,
-        term_in (λ todo. times f (todo_fragments (setup_in s) todo)) (todos s) todo c,
+        term_in (λ todo. fragment_count f (todo_fragments (setup_in s) todo)) (todos s) todo c,
         flat_sum (is_it f) (todo_fragments (setup_in s)) (todos s),
         planned_once f,
       )

@@ -11,10 +11,10 @@ use Rattle.run_machine.specs.Tasks.{TaskState, Completer, Carried, Empty, Brings
 use Rattle.run_machine.specs.Runs.{State}
 use Rattle.block_core.specs.Paying.{end_told}
 use Rattle.block_core.specs.Payers.{Paid}
-use Rattle.block_core.proofs.moves.Moves.{Tells}
+use Rattle.block_core.proofs.moves.Moves.{TellsNode}
 use Rattle.block_core.proofs.moves.Moves as moves
 use Rattle.block_core.proofs.sound.Facts.{TaskFits, Fair, Kept}
-use Rattle.bio_books.specs.Drops.{Ended, DropsAt}
+use Rattle.bio_books.specs.Drops.{DropOutcome, DropsAt}
 use Rattle.bio_books.specs.Drops as end
 use Rattle.run_machine.specs.declared.event.What.{What}
 use Rattle.run_machine.specs.Events.{what_of}
@@ -39,13 +39,13 @@ module _ (scene : Scene) (s : State) (f : Fair scene) (i : Kept scene s) (place 
       → Goes (answered scene.setup x reply) → IsMove scene s place what new
 
   -- an end is told
-  tells : (disk : DevId) (carried : Carried) (writer key : ℕ) (status : Status) (part : Option (Item Pad)) (ended : Ended) → s.task place ≡ Completer disk carried → Tells carried writer key status part
+  tells : (disk : DevId) (carried : Carried) (writer key : ℕ) (status : Status) (part : Option (Item Pad)) (ended : DropOutcome) → s.task place ≡ Completer disk carried → TellsNode carried writer key status part
       → what_of (requests.Drop writer key status part) (requests.DroppedTo ended) ≡ Some what
       → Serves scene.ledger s.objects (requests.Drop writer key status part) (requests.DroppedTo ended) new.objects
       → Goes (Completer disk (after_drop writer key ended)) → IsMove scene s place what new
   tells disk carried writer key status part ended is t told_it serves goes = at_node (node_at (s.objects.book writer) key) refl ended told_it serves.0 serves.1 goes
     where
-      at_node : (found : Option Node) → node_at (s.objects.book writer) key ≡ found → (ended : Ended)
+      at_node : (found : Option Node) → node_at (s.objects.book writer) key ≡ found → (ended : DropOutcome)
           → what_of (requests.Drop writer key status part) (requests.DroppedTo ended) ≡ Some what
           → DropsAt (s.objects.book writer) key found status part ended (new.objects.book writer)
           → new.objects ≡ record s.objects { book = upd s.objects.book writer (new.objects.book writer) }

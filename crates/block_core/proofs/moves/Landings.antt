@@ -10,7 +10,7 @@ use Rattle.bio_records.specs.declared.bio.Bio.{Bio}
 use Rattle.bio_records.specs.declared.bio.Pad.{Pad}
 use Rattle.bio_records.specs.declared.tasks.TaskLists.{TaskLists}
 use Rattle.bio_records.specs.Items.{Item}
-use Rattle.bio_records.specs.Sorting.{is_lower, is_same}
+use Rattle.bio_records.specs.Sorting.{is_lower, is_for_device}
 use Rattle.bio_lists.specs.Submission.{order, submitted}
 use Rattle.bio_split.specs.Split.{split_rest}
 use Rattle.run_machine.specs.Scene.{Setup, tree_at}
@@ -49,9 +49,9 @@ module _ (setup : Setup) (w : Weight) (lands : IsLanding setup w) where
   goes_there limit dev lists first second =
       let P : Item Pad → Type 0 = λ item. IsThere setup item.bio in
       let low = filter (is_lower dev) lists.list0 in
-      let same = filter (is_same dev) lists.list0 in
+      let same = filter (is_for_device dev) lists.list0 in
       settled_there limit (order dev lists)
-      (each_append P low (same ++ lists.list1) (each_less P (is_lower dev) lists.list0 first) (each_append P same lists.list1 (each_less P (is_same dev) lists.list0 first) second))
+      (each_append P low (same ++ lists.list1) (each_less P (is_lower dev) lists.list0 first) (each_append P same lists.list1 (each_less P (is_for_device dev) lists.list0 first) second))
       ∙ order_weight (w.bio (Lined limit)) dev lists
 
   pub copies_there : (limit : ℕ) (lists : TaskLists) (bio : Bio) (master leg : ℕ) → AreThere setup lists.list0 → AreThere setup lists.list1

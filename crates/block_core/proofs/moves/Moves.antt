@@ -9,7 +9,7 @@ use Rattle.stack_base.specs.declared.stack.Kind.{Kind}
 use Rattle.stack_base.specs.PoolId.{pool_number}
 use Rattle.stack_base.specs.Mapping.{slot}
 use Rattle.stack_base.specs.Tree.{Tree, Split}
-use Rattle.mempool_core.specs.Move.{Move as PoolMove, takes_ordinary, takes_spare, misses, gives, resizes, CanMove, after_move}
+use Rattle.mempool_core.specs.Move.{PoolMove, takes_ordinary, takes_spare, misses, gives, resizes, CanMove, after_move}
 use Rattle.bio_records.specs.declared.bio.Bio.{Bio}
 use Rattle.bio_records.specs.declared.bio.Pad.{Pad}
 use Rattle.bio_records.specs.declared.tasks.TaskLists.{TaskLists}
@@ -113,13 +113,13 @@ IsBare todo None = needs_vector todo.write ≡ false
 IsBare todo (Some vector) = Unit {0}
 
 -- what a completer tells a node: the end of the bio that it brings, or that of a closed child
-abbrev pub Tells : Carried → ℕ → ℕ → Status → Option (Item Pad) → Type 0
-Tells (Brings bio ending) writer key status part =
+abbrev pub TellsNode : Carried → ℕ → ℕ → Status → Option (Item Pad) → Type 0
+TellsNode (Brings bio ending) writer key status part =
     (writer ≡ bio.bio.writer) × (key ≡ bio.bio.node) × (status ≡ ending) × (part ≡ Some bio)
-Tells (Carries of closed) writer key status part =
+TellsNode (Carries of closed) writer key status part =
     (writer ≡ of) × (closed.parent ≡ Some key) × (status ≡ closed.status) × (part ≡ None) × (closed.held ≡ nothing_held)
-Tells Empty writer key status part = ⊥
-Tells (Fails breach kept) writer key status part = ⊥
+TellsNode Empty writer key status part = ⊥
+TellsNode (Fails breach kept) writer key status part = ⊥
 
 -- the first of what is held, by its pool, and what is held without it
 abbrev pub Hands : Holding → ℕ → Holding → Type 0
@@ -206,10 +206,10 @@ Can scene s (Legged place x bio lists master leg hand key node) =
     × (node_at (s.objects.book bio.writer) master ≡ Some node) × IsVacant (s.objects.book bio.writer) key
 -- a node is told of an end: it waits for others, or closes
 Can scene s (Told place disk carried writer key status part node) =
-    (place < scene.tasks) × (s.task place ≡ Completer disk carried) × Tells carried writer key status part × (writer < scene.books)
+    (place < scene.tasks) × (s.task place ≡ Completer disk carried) × TellsNode carried writer key status part × (writer < scene.books)
     × (node_at (s.objects.book writer) key ≡ Some node) × (1 < node.count)
 Can scene s (Closes place disk carried writer key status part node) =
-    (place < scene.tasks) × (s.task place ≡ Completer disk carried) × Tells carried writer key status part × (writer < scene.books)
+    (place < scene.tasks) × (s.task place ≡ Completer disk carried) × TellsNode carried writer key status part × (writer < scene.books)
     × (node_at (s.objects.book writer) key ≡ Some node) × (node.count ≡ 1)
 -- what a closed node held goes back, and its write is done
 Can scene s (Gives place disk writer number closed held) =

@@ -11,7 +11,7 @@ use Rattle.bio_records.specs.declared.bio.Bio.{Bio}
 use Rattle.bio_records.specs.declared.bio.Pad.{Pad}
 use Rattle.bio_records.specs.declared.tasks.TaskLists.{TaskLists}
 use Rattle.bio_records.specs.Items.{Item}
-use Rattle.bio_records.specs.Sorting.{is_lower, is_same, is_of, is_of_other}
+use Rattle.bio_records.specs.Sorting.{is_lower, is_for_device, is_of, is_of_other}
 use Rattle.bio_lists.specs.Submission.{order}
 use Rattle.bio_lists.specs.Punt.{punted, unpunted}
 use Rattle.bio_books.specs.Books.{keeping}
@@ -54,12 +54,12 @@ first_weight w keeps limit setup (item ∷ waiting) =
 pub order_weight : (g : Item Pad → ℕ) (dev : DevId) (lists : TaskLists) → sum_by g (order dev lists) ≡ sum_by g lists.list0 + sum_by g lists.list1
 order_weight g dev lists =
     let low = filter (is_lower dev) lists.list0 in
-    let same = filter (is_same dev) lists.list0 in
+    let same = filter (is_for_device dev) lists.list0 in
     omega (
       arith,
       sum_by-append g low (same ++ lists.list1),
       sum_by-append g same lists.list1,
-      sum_by-filter_both (is_same dev) (is_lower dev) (λ x. refl) g lists.list0,
+      sum_by-filter_both (is_for_device dev) (is_lower dev) (λ x. refl) g lists.list0,
     )
 
 pub goes_weight : (w : Weight) → IsBlind w → (limit : ℕ) (setup : Setup) (dev : DevId) (lists : TaskLists)

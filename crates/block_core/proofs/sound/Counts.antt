@@ -16,7 +16,7 @@ use Rattle.run_machine.specs.Submissions.{Want, Links, Copies, rests, settled, f
 use Rattle.run_machine.specs.Tasks.{TaskState, Writer, Rescuer, Completer, Keeper, Todo, Carried, Empty, Brings, Carries, Fails}
 use Rattle.run_machine.specs.Runs.{State}
 use Rattle.block_core.specs.Weights.{total, one, task_weight, submission_weight, carried_weight, refs, names_node, under, count_of}
-use Rattle.block_core.proofs.moves.Moves.{Move, Can, after, lost, gained, limit_of, HasSubmission, gathered_of, filled_of, vector_of, cut_lists, Tells}
+use Rattle.block_core.proofs.moves.Moves.{Move, Can, after, lost, gained, limit_of, HasSubmission, gathered_of, filled_of, vector_of, cut_lists, TellsNode}
 use Rattle.block_core.proofs.moves.Moves as moves
 use Rattle.block_core.proofs.moves.SubmissionWeights.{IsBlind, goes_weight, first_weight, landed_same}
 use Rattle.block_core.proofs.moves.Deltas.{delta}
@@ -42,7 +42,7 @@ begun_refs setup w k writer todo later item (Some vector) key =
     omega (arith, first_weight (refs setup w k) (blind_refs setup w k) 32 setup (filled_of writer todo item (Some vector) key ∷ []), begun_names (names_node w k) w k refl writer todo item (Some vector) key)
 
 -- what tells a node of an end is a reference to it
-pub tells_refs : (setup : Setup) (w k writer key : ℕ) (status : Status) (part : Option (Item Pad)) (carried : Carried) → Tells carried writer key status part
+pub tells_refs : (setup : Setup) (w k writer key : ℕ) (status : Status) (part : Option (Item Pad)) (carried : Carried) → TellsNode carried writer key status part
     → carried_weight (refs setup w k) 0 carried ≡ one writer w * one key k
 tells_refs setup w k writer key status part (Brings bio ending) t = rw (t.0, t.1) refl
 tells_refs setup w k writer key status part (Carries of closed) t = rw (t.1, t.0) refl

@@ -13,7 +13,7 @@ use Rattle.run_machine.specs.Tasks.{Completer, Todo, Carried, Empty, Brings, Car
 use Rattle.run_machine.specs.Runs.{State}
 use Rattle.block_core.specs.Weights.{Weight, total, one}
 use Rattle.block_core.proofs.sound.Sayings.{none_told}
-use Rattle.block_core.proofs.moves.Moves.{Move, IsTaking, place_of, Can, after, Tells, Hands}
+use Rattle.block_core.proofs.moves.Moves.{Move, IsTaking, place_of, Can, after, TellsNode, Hands}
 use Rattle.block_core.proofs.moves.Moves as moves
 use Rattle.run_machine.specs.declared.event.What.{What}
 use Rattle.run_machine.specs.Events.{what_of, resize_of}
@@ -114,7 +114,7 @@ taking_asks_none w requests.TakeVec h = refl
 taking_asks_none w (requests.TakeSlip dev) h = refl
 taking_asks_none w request h = absurd h
 
-tells_asks_none : (w : ℕ) (disk : DevId) (carried : Carried) (writer key : ℕ) (status : Status) (part : Option (Item Pad)) (setup : Setup) → Tells carried writer key status part
+tells_asks_none : (w : ℕ) (disk : DevId) (carried : Carried) (writer key : ℕ) (status : Status) (part : Option (Item Pad)) (setup : Setup) → TellsNode carried writer key status part
     → asked w (request setup (Completer disk carried)) ≡ 0
 tells_asks_none w disk (Brings bio ending) writer key status part setup t = refl
 tells_asks_none w disk (Carries of closed) writer key status part setup t =

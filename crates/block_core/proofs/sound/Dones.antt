@@ -39,7 +39,7 @@ use Rattle.block_core.proofs.start.TallyAtStart.{keeper_place, start_tallied, un
 use Rattle.block_core.proofs.status.Statuses.{start_told, start_staged, stage_within}
 use Rattle.block_core.proofs.moves.Totals.{within}
 use Rattle.block_core.proofs.images.EndedRuns.{zero_at}
-use Rattle.block_core.proofs.sound.Sayings.{IsOther, Says, says, asks_done, asks_round, tally_stays, done_tally, round_tally}
+use Rattle.block_core.proofs.sound.Sayings.{IsOther, EventSays, says, asks_done, asks_round, tally_stays, done_tally, round_tally}
 
 -- the weight of a write in stage
 begins_worth : (w : ℕ) (ts : List Todo) → to_begin w ts ≡ all_worth (λ n. one n w) ts
@@ -91,7 +91,7 @@ module _ (scene : Scene) (old new : State) (place : ℕ) (event : Event) (steps 
   abbrev asks : Request
   asks = request scene.setup (old.task place)
 
-  said : Says asks event.what
+  said : EventSays asks event.what
   said = says (request scene.setup (old.task place)) steps.reply event.what steps.told
 
   served : Serves scene.ledger old.objects asks steps.reply new.objects
@@ -102,12 +102,12 @@ module _ (scene : Scene) (old new : State) (place : ℕ) (event : Event) (steps 
 
   pub done_is : (write : ℕ) (status : Status) → event.what ≡ what.Done write status → new.objects.tally.statuses ≡ slice_set old.objects.tally.statuses write status
   done_is write status is =
-      let same = asks_done asks write status (subst (Says asks) is said) in
+      let same = asks_done asks write status (subst (EventSays asks) is said) in
       ap (λ (t : TallyState). t.statuses) (done_tally scene.ledger old.objects new.objects write status steps.reply (subst (λ r. Serves scene.ledger old.objects r steps.reply new.objects) same served))
 
   pub round_is : (round : ℕ) → event.what ≡ what.Round round → new.objects.tally ≡ record old.objects.tally { round = old.objects.tally.round + 1 }
   round_is round is =
-      let same = asks_round asks round (subst (Says asks) is said) in
+      let same = asks_round asks round (subst (EventSays asks) is said) in
       round_tally scene.ledger old.objects new.objects round steps.reply (subst (λ r. Serves scene.ledger old.objects r steps.reply new.objects) same served)
 
   -- it keeps the status of each write but the one that it tells done
@@ -281,7 +281,7 @@ module _ (s : Scenario) (ledger : ℕ → LedgerId) (events : List Event) (state
   dones_present event new (place, steps) write status tells =
       let moved = step_is_move sc state (record { named = naming }) whole.kept place event new steps in
       let asks : request (setup_in s) (state.task place) ≡ requests.Done write status =
-      asks_done (request (setup_in s) (state.task place)) write status (subst (Says (request (setup_in s) (state.task place))) tells (says (request (setup_in s) (state.task place)) steps.reply event.what steps.told)) in
+      asks_done (request (setup_in s) (state.task place)) write status (subst (EventSays (request (setup_in s) (state.task place))) tells (says (request (setup_in s) (state.task place)) steps.reply event.what steps.told)) in
       let at_place : asked write (request (setup_in s) (state.task (place_of moved.move))) ≡ 1 =
       ap (λ p. asked write (request (setup_in s) (state.task p))) moved.at ∙ ap (asked write) asks ∙ one-same write in
       ends_present moved.move moved.can write (sym (asked_by sc state write moved.move moved.can) ∙ at_place)

@@ -20,7 +20,7 @@ use Rattle.run_machine.specs.Runs.{State}
 use Rattle.block_core.specs.Weights.{Weight, Spot, Lined, Rescued, Pending, total, sum_at, weigh_option, doing_weight, submission_weight, gathered_weight, carried_weight, task_weight, book_weight, elements_of_pool, holding_elements, one, no_weight}
 use Rattle.block_core.specs.Charges.{there}
 use Rattle.block_core.specs.Rooms.{to_open, todo_need, legs_need}
-use Rattle.block_core.proofs.moves.Moves.{Move, Can, after, lost, gained, limit_of, Tells, gathered_of, filled_of, cut_lists}
+use Rattle.block_core.proofs.moves.Moves.{Move, Can, after, lost, gained, limit_of, TellsNode, gathered_of, filled_of, cut_lists}
 use Rattle.block_core.proofs.moves.Moves as moves
 use Rattle.block_core.proofs.sound.Facts.{DoingFits, SubmissionFits, TaskFits, Kept}
 use Rattle.block_core.proofs.moves.Geometry.{IsThere}
@@ -78,7 +78,7 @@ later_worth : (held part : Option (Item Pad)) → there (later_part held part) �
 later_worth held None = omega arith
 later_worth held (Some bio) = omega arith
 
-tells_worth : (setup : Setup) (place : ℕ) (carried : Carried) (writer key : ℕ) (status : Status) (part : Option (Item Pad)) → Tells carried writer key status part
+tells_worth : (setup : Setup) (place : ℕ) (carried : Carried) (writer key : ℕ) (status : Status) (part : Option (Item Pad)) → TellsNode carried writer key status part
     → there part ≤ carried_weight (worth setup) place carried
 tells_worth setup place (Brings bio ending) writer key status part t = let same : there part ≡ 1 = ap there t.3 in omega (arith, same)
 tells_worth setup place (Carries of closed) writer key status part t = let same : there part ≡ 0 = ap there t.3 in omega (arith, same)

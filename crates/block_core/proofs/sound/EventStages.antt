@@ -17,7 +17,7 @@ use Rattle.run_machine.specs.Tasks.{Todo, Gathered, NoBio, HasBio, HasBoth, Carr
 use Rattle.run_machine.specs.Objects.{clear_bio, clear_vector}
 use Rattle.run_machine.specs.Runs.{State}
 use Rattle.block_core.specs.Weights.{Weight, total, doing_weight, submission_weight, carried_weight}
-use Rattle.block_core.proofs.moves.Moves.{Move, Can, after, limit_of, gathered_of, filled_of, cut_lists, Tells}
+use Rattle.block_core.proofs.moves.Moves.{Move, Can, after, limit_of, gathered_of, filled_of, cut_lists, TellsNode}
 use Rattle.block_core.proofs.moves.Moves as moves
 use Rattle.block_core.proofs.moves.Deltas.{delta}
 use Rattle.bio_books.specs.declared.node.Role.TheVariants as role
@@ -75,7 +75,7 @@ module _ (f : List Todo → Gathered → ℕ) (worth : ℕ → ℕ) where
       doing_zero (Breaks breach kept) = refl
 
   -- what is carried of a child tells no top
-  carried_child : (task : ℕ) (carried : Carried) (writer key : ℕ) (status : Status) (part : Option (Item Pad)) → Tells carried writer key status part
+  carried_child : (task : ℕ) (carried : Carried) (writer key : ℕ) (status : Status) (part : Option (Item Pad)) → TellsNode carried writer key status part
       → carried_weight w task carried ≡ 0
   carried_child task (Brings bio ending) writer key status part t = refl
   carried_child task (Carries of closed) writer key status part t = ap (λ parent. tops_left parent * worth closed.write) t.1 ∙ omega arith

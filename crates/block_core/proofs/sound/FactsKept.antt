@@ -2,7 +2,7 @@
 use Rattle.std.proofs.Common.{◌≡◌, ◌+◌, ◌*◌, ◌<◌, ◌≤◌, ℕ, [], Some, ◌∙◌, ap, arith}
 use Rattle.stack_base.specs.PoolId.{pool_number}
 use Rattle.mempool_core.specs.Facts.{AddsUp}
-use Rattle.mempool_core.specs.Move.{PoolState, Move as PoolMove, after_move, CanMove, misses, gives, resizes}
+use Rattle.mempool_core.specs.Move.{PoolState, PoolMove, after_move, CanMove, misses, gives, resizes}
 use Rattle.bio_books.specs.Books.{BookState, with_node, top_node}
 use Rattle.run_machine.specs.Maps.{upd}
 use Rattle.run_machine.specs.Scene.{Scene}

@@ -16,7 +16,7 @@ use Rattle.run_machine.specs.Submissions.{Links, ToCut, ToMaster, Drives, Copies
 use Rattle.run_machine.specs.Tasks.{Completer, Todo, Carried, Empty, Brings, Carries, Fails}
 use Rattle.run_machine.specs.Runs.{State}
 use Rattle.block_core.specs.Weights.{total, weigh_option, task_weight, carried_weight}
-use Rattle.block_core.proofs.moves.Moves.{Move, Can, after, lost, gained, limit_of, gathered_of, filled_of, vector_of, cut_lists, Tells, Hands, piece}
+use Rattle.block_core.proofs.moves.Moves.{Move, Can, after, lost, gained, limit_of, gathered_of, filled_of, vector_of, cut_lists, TellsNode, Hands, piece}
 use Rattle.block_core.proofs.moves.Moves as moves
 use Rattle.block_core.proofs.sound.Facts.{TaskFits, Kept}
 use Rattle.block_core.proofs.sound.TaskSubmissions.{submission_fits}
@@ -47,7 +47,7 @@ leg_on level bio hand leg key n (Split number kind sizes members) lt share le is
 leg_on level bio hand leg key n (Mirrored number sizes members) lt share le is = at_level level (leg_at bio hand leg key (Mirrored number sizes members)) n share le is
 
 -- what a node holds once it was told
-pub told_on : (level : ℕ → ℕ → ℕ) (writer key : ℕ) (status : Status) (part : Option (Item Pad)) (carried : Carried) (node : Node) → Tells carried writer key status part
+pub told_on : (level : ℕ → ℕ → ℕ) (writer key : ℕ) (status : Status) (part : Option (Item Pad)) (carried : Carried) (node : Node) → TellsNode carried writer key status part
     → carried_weight (off_levels level) 0 carried ≡ 0 → held_off (level writer key) (told node status part).held ≤ held_off (level writer key) node.held
 told_on level writer key status part (Brings bio ending) node t off =
     let own : level bio.bio.writer bio.bio.node ≡ level writer key = ap (level bio.bio.writer) (sym t.1) ∙ ap (λ v. level v key) (sym t.0) in

@@ -13,7 +13,7 @@ use Rattle.bio_records.specs.declared.bio.Bio.{Bio}
 use Rattle.bio_records.specs.declared.bio.Pad.{Pad}
 use Rattle.bio_records.specs.declared.tasks.TaskLists.{TaskLists}
 use Rattle.bio_records.specs.Items.{Item}
-use Rattle.bio_records.specs.Sorting.{is_lower, is_same, is_of, is_of_other}
+use Rattle.bio_records.specs.Sorting.{is_lower, is_for_device, is_of, is_of_other}
 use Rattle.bio_split.specs.Split.{split_rest}
 use Rattle.bioset_pools.specs.Sets.{bios_of, waits_first}
 use Rattle.bio_lists.specs.Punt.{unpunted}
@@ -149,7 +149,7 @@ legs_ordered setup dev limit (x ∷ l0) items legs above ordered =
     )
 
 two_order : (dev : DevId) (a b : Item Pad) (list1 : List (Item Pad)) → (a.bio.dev.0 == dev.0) ≡ false → (b.bio.dev.0 == dev.0) ≡ true
-    → filter (is_lower dev) (a ∷ b ∷ []) ++ (filter (is_same dev) (a ∷ b ∷ []) ++ list1) ≡ a ∷ b ∷ list1
+    → filter (is_lower dev) (a ∷ b ∷ []) ++ (filter (is_for_device dev) (a ∷ b ∷ []) ++ list1) ≡ a ∷ b ∷ list1
 two_order dev a b list1 p q = rw (p, q) refl
 
 module _ (setup : Setup) (g : Ground setup) where
@@ -183,7 +183,7 @@ module _ (setup : Setup) (g : Ground setup) where
   -- the driver of a device has returned that submitted nothing
   pub pushed_placed : (limit : ℕ) (dev : DevId) (lists : TaskLists) → lists.list0 ≡ [] → Each (IsPlaced setup limit) lists.list1 → Ordered lists.list1 → SubmissionPlaced setup limit (goes_on setup dev lists)
   pushed_placed limit dev lists none placed ordered =
-      let P : List (Item Pad) → Type 0 = λ l. SubmissionPlaced setup limit (settled setup (filter (is_lower dev) l ++ (filter (is_same dev) l ++ lists.list1))) in
+      let P : List (Item Pad) → Type 0 = λ l. SubmissionPlaced setup limit (settled setup (filter (is_lower dev) l ++ (filter (is_for_device dev) l ++ lists.list1))) in
       subst P (sym none) (first_placed limit lists.list1 placed ordered)
 
   -- one that submitted legs
@@ -192,9 +192,9 @@ module _ (setup : Setup) (g : Ground setup) where
   copied_placed limit dev lists legs placed above ordered =
       let own : Item Pad → Type 0 = IsOwn setup dev.0 limit in
       let low = filter (is_lower dev) lists.list0 in
-      let same = filter (is_same dev) lists.list0 in
+      let same = filter (is_for_device dev) lists.list0 in
       let legs_low = each_less own (is_lower dev) lists.list0 legs in
-      let legs_same = each_less own (is_same dev) lists.list0 legs in
+      let legs_same = each_less own (is_for_device dev) lists.list0 legs in
       let from : (items : List (Item Pad)) → Each own items → Each (IsPlaced setup limit) items = λ items. each_map own (IsPlaced setup limit) (λ item h. h.0) items in
       let at_least = each_map (λ (item : Item Pad). 2 * dev.0 + 1 < item.share.no) (λ (item : Item Pad). 2 * dev.0 ≤ item.share.no) (λ item h. omega arith) lists.list1 above in
       let inner = legs_ordered setup dev.0 limit same lists.list1 legs_same at_least ordered in
@@ -219,7 +219,7 @@ module _ (setup : Setup) (g : Ground setup) where
       let other : (child.bio.dev.0 == bio.bio.dev.0) ≡ false = ne_eqb child.bio.dev.0 bio.bio.dev.0 (λ q. omega arith) in
       let own : (rest.bio.dev.0 == bio.bio.dev.0) ≡ true = eq-eqb bio.bio.dev.0 bio.bio.dev.0 refl in
       let P : List (Item Pad) → Type 0 = λ l. SubmissionPlaced setup limit (settled setup
-      (filter (is_lower bio.bio.dev) ((l ++ child ∷ []) ++ rest ∷ []) ++ (filter (is_same bio.bio.dev) ((l ++ child ∷ []) ++ rest ∷ []) ++ lists.list1))) in
+      (filter (is_lower bio.bio.dev) ((l ++ child ∷ []) ++ rest ∷ []) ++ (filter (is_for_device bio.bio.dev) ((l ++ child ∷ []) ++ rest ∷ []) ++ lists.list1))) in
       let pc : IsPlaced setup limit child = (cuts.0, omega arith, omega arith, home) in
       let pr : IsPlaced setup limit rest = (cuts.2, up, below, d.1.0.3) in
       let submission = first_placed limit (child ∷ rest ∷ lists.list1) (pc, (pr, d.1.1))

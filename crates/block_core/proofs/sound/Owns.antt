@@ -15,7 +15,7 @@ use Rattle.run_machine.specs.Submissions.{Want, Takes, Punts as WantsPunt, Links
 use Rattle.run_machine.specs.Tasks.{TaskState, Writer, Rescuer, Completer, Keeper, Todo, Gathered, NoBio, HasBio, HasBoth, Carried, Empty, Brings, Carries, Fails}
 use Rattle.run_machine.specs.Runs.{State}
 use Rattle.block_core.specs.Weights.{total, sum_at, one, weigh_option, want_weight, doing_weight, task_weight, submission_weight, gathered_weight, carried_weight, book_weight, refs, names_node, count_of}
-use Rattle.block_core.proofs.moves.Moves.{Move, Can, after, lost, gained, limit_of, gathered_of, filled_of, vector_of, cut_lists, Tells}
+use Rattle.block_core.proofs.moves.Moves.{Move, Can, after, lost, gained, limit_of, gathered_of, filled_of, vector_of, cut_lists, TellsNode}
 use Rattle.block_core.proofs.moves.Moves as moves
 use Rattle.block_core.proofs.moves.Sums.{one-same}
 use Rattle.block_core.proofs.moves.SubmissionWeights.{IsBlind, goes_weight, first_weight, landed_same}
@@ -92,7 +92,7 @@ brought (Brings bio ending) = 1
 brought (Carries writer closed) = 0
 brought (Fails breach kept) = 0
 
-tells_named : (w k writer key : ℕ) (status : Status) (part : Option (Item Pad)) (carried : Carried) → Tells carried writer key status part
+tells_named : (w k writer key : ℕ) (status : Status) (part : Option (Item Pad)) (carried : Carried) → TellsNode carried writer key status part
     → carried_weight (named w k) 0 carried ≡ one writer w * (one key k * brought carried)
 tells_named w k writer key status part (Brings bio ending) t = rw (t.0, t.1) (omega arith)
 tells_named w k writer key status part (Carries of closed) t = omega arith
@@ -106,7 +106,7 @@ own_some (role.Chain parent) bio = refl
 own_some (role.Master parent) bio = refl
 own_some (role.Leg parent) bio = refl
 
-pub told_own : (writer key : ℕ) (status : Status) (part : Option (Item Pad)) (carried : Carried) (node : Node) → Tells carried writer key status part
+pub told_own : (writer key : ℕ) (status : Status) (part : Option (Item Pad)) (carried : Carried) (node : Node) → TellsNode carried writer key status part
     → ((bio : Item Pad) (ending : Status) → carried ≡ Brings bio ending → (node.held.bio ≡ None) × (own_part node.role None ≡ 1))
     → own_part node.role (told node status part).held.bio + brought carried ≡ own_part node.role node.held.bio
 told_own writer key status part (Brings bio ending) node t none =

@@ -3,7 +3,7 @@ use Rattle.std.proofs.Common.{◌≡◌, ◌+◌, ◌*◌, ◌≤◌, if◌then�
 use Rattle.std.specs.Prelude.{nat_lt}
 use Rattle.std.proofs.lemmas.Bool.Decides.{nat_tests}
 use Rattle.fail_script.specs.Script.{entries_of}
-use Rattle.mempool_core.specs.Move.{PoolState, Move as PoolMove, takes_ordinary, takes_spare, misses, gives, resizes, after_move}
+use Rattle.mempool_core.specs.Move.{PoolState, PoolMove, takes_ordinary, takes_spare, misses, gives, resizes, after_move}
 use Rattle.mempool_core.specs.Position.{next_pos}
 use Rattle.stack_base.specs.PoolId.{pool_number}
 use Rattle.run_machine.specs.Maps.{upd}

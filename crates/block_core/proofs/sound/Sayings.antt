@@ -19,10 +19,10 @@ IsOther (what.Round round) = ⊥
 IsOther what = Unit {0}
 
 -- what an event says, by the request that it answers
-abbrev pub Says : Request → What → Type 0
-Says (requests.Done write status) told = told ≡ what.Done write status
-Says (requests.NextRound round) told = told ≡ what.Round round
-Says request told = IsOther told
+abbrev pub EventSays : Request → What → Type 0
+EventSays (requests.Done write status) told = told ≡ what.Done write status
+EventSays (requests.NextRound round) told = told ≡ what.Round round
+EventSays request told = IsOther told
 
 pub none_told : {X : Type 0} (what : What) → None ≡ Some what → X
 none_told what is = absurd cc
@@ -30,7 +30,7 @@ none_told what is = absurd cc
 some_is : (first second : What) → Some first ≡ Some second → first ≡ second
 some_is first second is = cc
 
-pub says : (request : Request) (reply : Reply) (what : What) → what_of request reply ≡ Some what → Says request what
+pub says : (request : Request) (reply : Reply) (what : What) → what_of request reply ≡ Some what → EventSays request what
 says (requests.TakeBio set true) (requests.HadBio from bio) what tells = subst IsOther (some_is _ what tells) tt
 says (requests.TakeBio set true) (requests.Missed true) what tells = subst IsOther (some_is _ what tells) tt
 says (requests.TakeBio set true) (requests.Missed false) what tells = none_told what tells
@@ -83,7 +83,7 @@ says requests.LookLeft reply what tells = none_told what tells
 says requests.Rest reply what tells = none_told what tells
 
 -- so a write is told done by a request to do so,
-pub asks_done : (request : Request) (write : ℕ) (status : Status) → Says request (what.Done write status) → request ≡ requests.Done write status
+pub asks_done : (request : Request) (write : ℕ) (status : Status) → EventSays request (what.Done write status) → request ≡ requests.Done write status
 asks_done (requests.TakeBio set waits) write status h = absurd h
 asks_done requests.TakeVec write status h = absurd h
 asks_done (requests.TakeSlip dev) write status h = absurd h
@@ -104,7 +104,7 @@ asks_done requests.LookLeft write status h = absurd h
 asks_done requests.Rest write status h = absurd h
 
 -- and a round started by one
-pub asks_round : (request : Request) (number : ℕ) → Says request (what.Round number) → request ≡ requests.NextRound number
+pub asks_round : (request : Request) (number : ℕ) → EventSays request (what.Round number) → request ≡ requests.NextRound number
 asks_round (requests.TakeBio set waits) number h = absurd h
 asks_round requests.TakeVec number h = absurd h
 asks_round (requests.TakeSlip dev) number h = absurd h
@@ -125,7 +125,7 @@ asks_round requests.LookLeft number h = absurd h
 asks_round requests.Rest number h = absurd h
 
 -- all other requests keep statuses and the round
-pub tally_stays : (ledger : ℕ → LedgerId) (old new : Objects) (request : Request) (reply : Reply) (what : What) → Says request what → IsOther what → Serves ledger old request reply new
+pub tally_stays : (ledger : ℕ → LedgerId) (old new : Objects) (request : Request) (reply : Reply) (what : What) → EventSays request what → IsOther what → Serves ledger old request reply new
     → new.tally ≡ old.tally
 tally_stays ledger old new (requests.TakeBio set waits) reply what h other serves = ap (λ (o : Objects). o.tally) (one_object_changes ledger old new (requests.TakeBio set waits) reply serves)
 tally_stays ledger old new requests.TakeVec reply what h other serves = ap (λ (o : Objects). o.tally) (one_object_changes ledger old new requests.TakeVec reply serves)

@@ -17,7 +17,7 @@ use Rattle.block_core.specs.Levels.{HasLevels}
 use Rattle.block_core.specs.Images.{HasItsWord}
 use Rattle.block_core.specs.Sound.{EveryRunIsSound}
 use Rattle.block_core.proofs.sound.Facts.{own_of, Fair, Kept}
-use Rattle.block_core.proofs.start.FactsAtStart.{Begins, IsOpened, total_zero, start_opened}
+use Rattle.block_core.proofs.start.FactsAtStart.{Begins, IsStartState, total_zero, start_opened}
 use Rattle.block_core.proofs.moves.Devices.{ground}
 use Rattle.block_core.proofs.sound.EveryRun.{runs_whole, run_tallied, start_whole, start_leveled, none_waits_for_itself}
 use Rattle.block_core.proofs.sound.Lasting.{runs_keep}
@@ -72,7 +72,7 @@ begins_legless scene s (Rescuer dev submission) h = subst (λ (l : Submission). 
 begins_legless scene s (Completer disk carried) h = tt
 begins_legless scene s (Keeper keeping) h = tt
 
-opened_stands : (scene : Scene) (s : State) → IsOpened scene s → Stands scene none_was s
+opened_stands : (scene : Scene) (s : State) → IsStartState scene s → Stands scene none_was s
 opened_stands scene s o = record {
   right = (λ w k. false, total_zero scene s (misplaced (λ w k. false) none_was) (λ n todos. refl) o);
   all = λ w k.

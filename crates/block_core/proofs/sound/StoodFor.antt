@@ -17,7 +17,7 @@ use Rattle.run_machine.specs.Runs.{State, IsRun}
 use Rattle.block_core.specs.Weights.{Weight, total, one, task_weight, carried_weight, refs, under}
 use Rattle.block_core.specs.Touches.{touch_of, is_master, is_master_at, masters_after, were_masters}
 use Rattle.block_core.specs.Roles.{named, masters, children, legs_to_make}
-use Rattle.block_core.proofs.moves.Moves.{Move, place_of, touch_by, Can, after, lost, gained, limit_of, filled_of, vector_of, cut_lists, Tells}
+use Rattle.block_core.proofs.moves.Moves.{Move, place_of, touch_by, Can, after, lost, gained, limit_of, filled_of, vector_of, cut_lists, TellsNode}
 use Rattle.block_core.proofs.moves.Moves as moves
 use Rattle.block_core.proofs.moves.Sums.{upd-same, upd-other, same_or_not, one-same, one-other}
 use Rattle.block_core.proofs.sound.Facts.{own_part, own_of, Fair, Kept}
@@ -59,7 +59,7 @@ same_but : (was_master other : ℕ → Bool) (w k : ℕ) → IsSameButClosed (ma
 same_but was_master other w k = record { todo = refl; bio = refl; copy = refl; hand = refl; vector = refl; slip = refl; node = refl }
 
 -- a node that is told of an end by a part keeps it then, and else what it kept
-less_own : (writer key : ℕ) (status : Status) (part : Option (Item Pad)) (carried : Carried) (node : Node) → Tells carried writer key status part
+less_own : (writer key : ℕ) (status : Status) (part : Option (Item Pad)) (carried : Carried) (node : Node) → TellsNode carried writer key status part
     → ((bio : Item Pad) (ending : Status) → carried ≡ Brings bio ending → (node.held.bio ≡ None) × (own_part node.role None ≡ 1))
     → own_of (Some (lowered (told node status part))) ≤ own_of (Some node)
 less_own writer key status part carried node t none = omega (arith, told_own writer key status part carried node t none)

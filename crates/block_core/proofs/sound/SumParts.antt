@@ -6,7 +6,7 @@ use Rattle.stack_base.specs.declared.ids.DevId.{DevId}
 use Rattle.stack_base.specs.declared.ids.Status.{Status}
 use Rattle.stack_base.specs.declared.stack.Kind.{Kind}
 use Rattle.stack_base.specs.Tree.{Tree}
-use Rattle.mempool_core.specs.Move.{PoolState, Move as PoolMove, after_move, takes_ordinary, takes_spare, misses, gives, resizes}
+use Rattle.mempool_core.specs.Move.{PoolState, PoolMove, after_move, takes_ordinary, takes_spare, misses, gives, resizes}
 use Rattle.bio_records.specs.declared.bio.Bio.{Bio}
 use Rattle.bio_records.specs.declared.bio.Pad.{Pad}
 use Rattle.bio_records.specs.declared.tasks.TaskLists.{TaskLists}
@@ -22,7 +22,7 @@ use Rattle.run_machine.specs.Submissions.{Takes, Doing, Copies, rests, settled, 
 use Rattle.run_machine.specs.Tasks.{TaskState, Writer, Completer, Todo, Carried, Empty, Brings, Carries, Fails}
 use Rattle.run_machine.specs.Runs.{State}
 use Rattle.block_core.specs.Weights.{Weight, Lined, total, one, doing_weight, task_weight, submission_weight, carried_weight, elements_of_pool, holding_elements, names_node}
-use Rattle.block_core.proofs.moves.Moves.{limit_of, HasSubmission, gathered_of, filled_of, vector_of, cut_lists, IsTake, Tells, Hands, piece}
+use Rattle.block_core.proofs.moves.Moves.{limit_of, HasSubmission, gathered_of, filled_of, vector_of, cut_lists, IsTake, TellsNode, Hands, piece}
 use Rattle.block_core.proofs.moves.Sums.{weight-upd, one-same}
 use Rattle.block_core.proofs.moves.Totals.{task_part, submission_part as submission_in_task}
 use Rattle.block_core.proofs.moves.SubmissionWeights.{IsBlind, goes_weight, first_weight}
@@ -129,7 +129,7 @@ brought_away scene s place disk bio status node i lt is at =
     named_away scene s bio node i at (task_part scene (named bio.bio.writer bio.bio.node) s place (Completer disk (Brings bio status)) lt is)
 
 -- what a node holds once it was told
-pub told_elements : (q writer key : ℕ) (status : Status) (part : Option (Item Pad)) (carried : Carried) (node : Node) → Tells carried writer key status part
+pub told_elements : (q writer key : ℕ) (status : Status) (part : Option (Item Pad)) (carried : Carried) (node : Node) → TellsNode carried writer key status part
     → ((bio : Item Pad) (ending : Status) → carried ≡ Brings bio ending → node.held.bio ≡ None)
     → holding_elements q (told node status part).held ≡ holding_elements q node.held + carried_weight (elements_of_pool q) 0 carried
 told_elements q writer key status part (Brings bio ending) node t none =
@@ -139,10 +139,10 @@ told_elements q writer key status part Empty node t none = absurd t
 told_elements q writer key status part (Fails breach kept) node t none = absurd t
 
 pub is_away : (scene : Scene) (s : State) (place : ℕ) (disk : DevId) (carried : Carried) (writer key : ℕ) (status : Status) (part : Option (Item Pad)) (node : Node) → Kept scene s
-    → place < scene.tasks → s.task place ≡ Completer disk carried → Tells carried writer key status part → node_at (s.objects.book writer) key ≡ Some node
+    → place < scene.tasks → s.task place ≡ Completer disk carried → TellsNode carried writer key status part → node_at (s.objects.book writer) key ≡ Some node
     → (bio : Item Pad) (ending : Status) → carried ≡ Brings bio ending → (node.held.bio ≡ None) × (own_part node.role None ≡ 1)
 is_away scene s place disk carried writer key status part node i lt is t at bio ending same =
     let is2 : s.task place ≡ Completer disk (Brings bio ending) = is ∙ ap (Completer disk) same in
-    let t2 : Tells (Brings bio ending) writer key status part = subst (λ x. Tells x writer key status part) same t in
+    let t2 : TellsNode (Brings bio ending) writer key status part = subst (λ x. TellsNode x writer key status part) same t in
     let at2 : node_at (s.objects.book bio.bio.writer) bio.bio.node ≡ Some node = subst (λ k. node_at (s.objects.book bio.bio.writer) k ≡ Some node) t2.1 (subst (λ v. node_at (s.objects.book v) key ≡ Some node) t2.0 at) in
     brought_away scene s place disk bio ending node i lt is2 at2

@@ -53,7 +53,7 @@ none_in places k = elim (below_or k places) [
   | inr ge ↦ get_or_past (replicate places None) k None (omega (arith, length-replicate {A = Option Node} places None, ge))
 ]
 
-pub record IsOpened (scene : Scene) (s : State) : Type 0 where
+pub record IsStartState (scene : Scene) (s : State) : Type 0 where
   pub pools : (p : ℕ) → (s.objects.pool p).facts.out ≡ 0
   pub add_up : (p : ℕ) → AddsUp (s.objects.pool p).facts
   pub rescued : (dev : ℕ) → s.objects.rescue dev ≡ []
@@ -66,7 +66,7 @@ pub nodes_zero : (w : Weight) (writer : ℕ) (book : BookState) → ((k : ℕ) �
 nodes_zero w writer book h =
     sum_at-zero (λ place. weigh_option (w.node writer place)) (length book.nodes) (node_at book) (λ place. ap (weigh_option (w.node writer place)) (h place))
 
-pub total_zero : (scene : Scene) (s : State) (w : Weight) → ((n : ℕ) (todos : List Todo) → w.todo n todos NoBio ≡ 0) → IsOpened scene s → total scene w s ≡ 0
+pub total_zero : (scene : Scene) (s : State) (w : Weight) → ((n : ℕ) (todos : List Todo) → w.todo n todos NoBio ≡ 0) → IsStartState scene s → total scene w s ≡ 0
 total_zero scene s w none o =
     omega (
       arith,
@@ -88,7 +88,7 @@ begins_in scene (Rescuer dev submission) h = rw (h.1) tt
 begins_in scene (Completer disk carried) h = tt
 begins_in scene (Keeper keeping) h = tt
 
-pub opened_kept : (scene : Scene) (s : State) → IsOpened scene s → Kept scene s
+pub opened_kept : (scene : Scene) (s : State) → IsStartState scene s → Kept scene s
 opened_kept scene s o = record {
   pools = o.add_up;
   outs = λ p. o.pools p ∙ sym (total_zero scene s (elements_of_pool p) (λ n todos. refl) o);
@@ -169,7 +169,7 @@ module _ (s : Scenario) (good : IsScenario s) (ledger : ℕ → LedgerId) where
     | inr ge ↦ subst (Begins (scene s ledger)) (sym (get_or_past (opened_tasks s) place no_task ge)) tt
   ]
 
-  pub start_opened : IsOpened (scene s ledger) (start s)
+  pub start_opened : IsStartState (scene s ledger) (start s)
   start_opened = record {
     pools = λ p. refl;
     add_up = λ p. opened_adds_up (reserve_of s.stack (pool_of p)) (script_at s.scripts p);

@@ -13,7 +13,7 @@ use Rattle.bio_books.specs.declared.node.Role.{Role}
 use Rattle.bio_books.specs.declared.node.Role.TheVariants as role
 use Rattle.bio_books.specs.Books.{Node, BookState, node_at, with_node, top_node, child_node, master_node, leg_node, keeping, raised, kept_with, first_failing}
 use Rattle.bio_books.specs.Links.{Made, NoRoom, Stray, IsVacant, ChainsAt, MastersAt, LegsAt}
-use Rattle.bio_books.specs.Drops.{Ended, DropsAt}
+use Rattle.bio_books.specs.Drops.{DropOutcome, DropsAt}
 use Rattle.bio_books.specs.Drops as end
 use Rattle.run_machine.specs.declared.event.Event.{Event}
 use Rattle.run_machine.specs.declared.event.What.{What}
@@ -185,7 +185,7 @@ module _ (ledger : ℕ → LedgerId) (old new : Objects) (w k : ℕ) (ends : Lis
       (λ held. at_place (old.book writer) key v k ends (ends ++ status ∷ []) (within_book (old.book writer) key node at)
       (λ same. told_so (subst (KeepsAt ends) (ap (node_at (old.book writer)) (sym same) ∙ at) held)) held)
 
-  told_drop : (writer key : ℕ) (status : Status) (part : Option (Item Pad)) (ended : Ended) (found : Option Node) (what : What) → node_at (old.book writer) key ≡ found
+  told_drop : (writer key : ℕ) (status : Status) (part : Option (Item Pad)) (ended : DropOutcome) (found : Option Node) (what : What) → node_at (old.book writer) key ≡ found
       → what_of (requests.Drop writer key status part) (requests.DroppedTo ended) ≡ Some what → DropsAt (old.book writer) key found status part ended (new.book writer)
       → new ≡ record old { book = upd old.book writer (new.book writer) } → Keeps (what_of (requests.Drop writer key status part) (requests.DroppedTo ended))
   told_drop writer key status part end.Left (Some node) what at tells d is = drops writer key status node _ at d.1 is (λ keeps. keeps_more node.role ends node.status status keeps)

@@ -107,7 +107,7 @@ module _ (s : Scenario) (ledger : ℕ → LedgerId) (st : State) (own : (number 
   endings_stay (moves.Started place round later duties) c = goes place _ tt
 
 -- all that is known of statuses
-pub record IsTold (s : Scenario) (ledger : ℕ → LedgerId) (bios : ℕ → ℕ → Bio) (st : State) : Type 0 where
+pub record HasStatuses (s : Scenario) (ledger : ℕ → LedgerId) (bios : ℕ → ℕ → Bio) (st : State) : Type 0 where
   pub counted : total (scene s ledger) (misfits over) st ≡ 0
   pub own : (number : ℕ) → IsOwn s number (st.objects.disk number)
   pub endings : (place : ℕ) → HasEnding (fault_of s.stack) (st.task place)
@@ -120,7 +120,7 @@ pub record IsTold (s : Scenario) (ledger : ℕ → LedgerId) (bios : ℕ → ℕ
       → (1 ≤ total (scene s ledger) (stage number) st) ⊎ ((end : Status) × (slice_get st.objects.tally.statuses number ≡ Some end) × IsGiven s number end)
 
 -- what is left of a top node ends as its write may
-ends_given : (s : Scenario) (ledger : ℕ → LedgerId) (bios : ℕ → ℕ → Bio) (st : State) → IsTold s ledger bios st → (place : ℕ) (disk : DevId) (writer : ℕ) (closed : Closed)
+ends_given : (s : Scenario) (ledger : ℕ → LedgerId) (bios : ℕ → ℕ → Bio) (st : State) → HasStatuses s ledger bios st → (place : ℕ) (disk : DevId) (writer : ℕ) (closed : Closed)
     → Can (scene s ledger) st (moves.Ends place disk writer closed) → IsGiven s closed.write closed.status
 ends_given s ledger bios st t place disk writer closed c =
     let w = unallowed (setup_in s) (fault_of s.stack) (write_may s) t.mark closed.status in
@@ -144,7 +144,7 @@ module _ (s : Scenario) (ledger : ℕ → LedgerId) (f : Fair (scene s ledger)) 
   abbrev sc : Scene
   sc = scene s ledger
 
-  module _ (bios : ℕ → ℕ → Bio) (st : State) (i : Whole sc st) (t : IsTold s ledger bios st) where
+  module _ (bios : ℕ → ℕ → Bio) (st : State) (i : Whole sc st) (t : HasStatuses s ledger bios st) where
     Tallied : Move → ℕ → Type 0
     Tallied m number =
         (1 ≤ total sc (stage number) (after sc st m)) ⊎ ((end : Status) × (slice_get (after sc st m).objects.tally.statuses number ≡ Some end) × IsGiven s number end)
@@ -196,7 +196,7 @@ module _ (s : Scenario) (ledger : ℕ → LedgerId) (f : Fair (scene s ledger)) 
     long_after (moves.Ends place disk writer closed) = length-set st.objects.tally.statuses closed.write closed.status
     long_after m = refl
 
-    stays_told : (m : Move) → Can sc st m → IsTold s ledger (bios_after sc.setup (st.task (place_of m)) (touch_by m) bios) (after sc st m)
+    stays_told : (m : Move) → Can sc st m → HasStatuses s ledger (bios_after sc.setup (st.task (place_of m)) (touch_by m) bios) (after sc st m)
     unfolding Tallied
     stays_told m c = record {
       counted = no_misfits over over_follows sc st i.kept t.counted m c;
@@ -209,17 +209,17 @@ module _ (s : Scenario) (ledger : ℕ → LedgerId) (f : Fair (scene s ledger)) 
       tallied = tallied_after m c;
     }
 
-  pub runs_told : (st : State) (events : List Event) (new : State) (bios : ℕ → ℕ → Bio) → Whole sc st → IsTold s ledger bios st → (run : IsRun sc st events new)
-      → IsTold s ledger (node_bios sc st events new run bios) new
-  runs_told st [] new bios i t run = subst (IsTold s ledger bios) (sym run) t
+  pub runs_told : (st : State) (events : List Event) (new : State) (bios : ℕ → ℕ → Bio) → Whole sc st → HasStatuses s ledger bios st → (run : IsRun sc st events new)
+      → HasStatuses s ledger (node_bios sc st events new run bios) new
+  runs_told st [] new bios i t run = subst (HasStatuses s ledger bios) (sym run) t
   runs_told st (event ∷ events) new bios i t (next, (place, steps), run) =
       let moved = step_is_move sc st f i.kept place event next steps in
       let now : bios_after sc.setup (st.task place) (touch_of event.what) bios ≡ bios_after sc.setup (st.task (place_of moved.move)) (touch_by moved.move) bios =
       ap (λ touch. bios_after sc.setup (st.task place) touch bios) moved.touches ∙ ap (λ at. bios_after sc.setup (st.task at) (touch_by moved.move) bios) (sym moved.at) in
-      let told : IsTold s ledger (bios_after sc.setup (st.task (place_of moved.move)) (touch_by moved.move) bios) next =
-      subst (IsTold s ledger (bios_after sc.setup (st.task (place_of moved.move)) (touch_by moved.move) bios)) (sym moved.is) (stays_told bios st i t moved.move moved.can) in
+      let told : HasStatuses s ledger (bios_after sc.setup (st.task (place_of moved.move)) (touch_by moved.move) bios) next =
+      subst (HasStatuses s ledger (bios_after sc.setup (st.task (place_of moved.move)) (touch_by moved.move) bios)) (sym moved.is) (stays_told bios st i t moved.move moved.can) in
       runs_told next events new (bios_after sc.setup (st.task place) (touch_of event.what) bios) (runs_whole sc f g st (event ∷ []) next i (next, (place, steps), refl))
-      (subst (λ b. IsTold s ledger b next) (sym now) told) run
+      (subst (λ b. HasStatuses s ledger b next) (sym now) told) run
 
 -- each write is to begin at the start
 is_numbered : (w a n : ℕ) (rs : List ℕ) (ws : List Write) → length rs ≡ n → length ws ≡ n → a ≤ w → w < a + n
@@ -266,7 +266,7 @@ module _ (s : Scenario) (good : IsScenario s) (ledger : ℕ → LedgerId) where
         is_numbered number 0 (length s.writes) s.rounds s.writes good.rounds refl (omega arith) (omega (arith, lt)),
       )
 
-  pub start_told : IsTold s ledger no_bios (start s)
+  pub start_told : HasStatuses s ledger no_bios (start s)
   start_told =
       let o = start_opened s good ledger in
       record {
@@ -327,7 +327,7 @@ done_told : (w : ℕ) (end : Status) (writer : ℕ) (closed : Closed) (reply : R
 done_told w end writer closed requests.Did told = (cc, cc)
 done_told w end writer closed _ told = absurd cc
 
-module _ (s : Scenario) (ledger : ℕ → LedgerId) (bios : ℕ → ℕ → Bio) (st : State) (t : IsTold s ledger bios st) where
+module _ (s : Scenario) (ledger : ℕ → LedgerId) (bios : ℕ → ℕ → Bio) (st : State) (t : HasStatuses s ledger bios st) where
   ends_by : (m : Move) → Can (scene s ledger) st m → (w : ℕ) (end : Status) (reply : Reply) → done_by w m ≡ 1
       → what_of (request (setup_in s) (st.task (place_of m))) reply ≡ Some (what.Done w end) → IsGiven s w end
   ends_by (moves.Ends place disk writer closed) c w end reply done told =
@@ -339,7 +339,7 @@ module _ (s : Scenario) (ledger : ℕ → LedgerId) (bios : ℕ → ℕ → Bio)
   ends_by _ c w end reply done told = absurd (omega (arith, done))
 
 module _ (s : Scenario) (ledger : ℕ → LedgerId) (events : List Event) (state : State) (good : IsScenario s) (naming : IsNaming ledger) (run : IsRun (scene s ledger) (start s) events state) where
-  told : IsTold s ledger (node_bios (scene s ledger) (start s) events state run no_bios) state
+  told : HasStatuses s ledger (node_bios (scene s ledger) (start s) events state run no_bios) state
   told =
       let places = (setup_in s).places in
       runs_told s ledger (record { named = naming }) (ground s.stack good.stack places) (endings_by_parts s.stack good.stack places (fault_of s.stack)) (start s) events state no_bios

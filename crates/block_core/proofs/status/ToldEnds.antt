@@ -16,7 +16,7 @@ use Rattle.run_machine.specs.Runs.{State}
 use Rattle.block_core.specs.Weights.{Weight, total, one, carried_weight, refs, names_node, under, legs_left, count_of}
 use Rattle.block_core.specs.Fragments.{fragment_of}
 use Rattle.block_core.proofs.status.Marks.{is, bio_may, leg_may, Mark, IsMark, allowed, decides, lack, mismatch, above, unallowed, deciding, IsMarked}
-use Rattle.block_core.proofs.moves.Moves.{Can, after, Tells}
+use Rattle.block_core.proofs.moves.Moves.{Can, after, TellsNode}
 use Rattle.block_core.proofs.moves.Moves as moves
 use Rattle.block_core.proofs.moves.Sums.{upd-same, one-same}
 use Rattle.block_core.proofs.sound.Facts.{Kept}
@@ -94,7 +94,7 @@ module _ (scene : Scene) (ends : Fragment → Status) (written : ℕ → Status 
   teller_off end place disk carried here at = omega (arith, h.fits end, task_part scene (off_by mark end) s place (Completer disk carried) here at)
 
   pub told_may : (place : ℕ) (disk : DevId) (carried : Carried) (writer key : ℕ) (status : Status) (part : Option (Item Pad)) → place < scene.tasks → s.task place ≡ Completer disk carried
-      → Tells carried writer key status part → 1 ≤ allowed (mark writer key) status
+      → TellsNode carried writer key status part → 1 ≤ allowed (mark writer key) status
   told_may place disk (Brings bio ending) writer key status part here at t =
       let e = (subst (HasEnding ends) at (endings place)).1 in
       let own : is ending (ends (fragment_of bio.bio)) ≡ 1 = ap (is ending) (sym e) ∙ is_itself ending in
@@ -111,7 +111,7 @@ module _ (scene : Scene) (ends : Fragment → Status) (written : ℕ → Status 
 
   -- and decides as what it is
   pub told_weight : (master : Bool) (w k : ℕ) (place : ℕ) (disk : DevId) (carried : Carried) (writer key : ℕ) (status : Status) (part : Option (Item Pad)) → place < scene.tasks
-      → s.task place ≡ Completer disk carried → Tells carried writer key status part
+      → s.task place ≡ Completer disk carried → TellsNode carried writer key status part
       → carried_weight (deciding setup ends mark master w k) place carried ≡ one writer w * one key k * decides master (is Ok status)
   told_weight master w k place disk (Brings bio ending) writer key status part here at t =
       let e = (subst (HasEnding ends) at (endings place)).1 in

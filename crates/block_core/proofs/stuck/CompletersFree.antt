@@ -22,7 +22,7 @@ use Rattle.std.specs.Prelude.{IsSome}
 use Rattle.stack_base.specs.Fault.{status_eq, fault}
 use Rattle.stack_base.specs.declared.ids.Status.TheVariants.{Ok}
 use Rattle.model_disks.specs.Moves.{Completes, written}
-use Rattle.bio_books.specs.Drops.{Ended, Drops, DropsAt}
+use Rattle.bio_books.specs.Drops.{DropOutcome, Drops, DropsAt}
 use Rattle.bio_books.specs.Drops as end
 use Rattle.run_machine.specs.declared.event.What.{What}
 use Rattle.run_machine.specs.Requests as requests
@@ -59,7 +59,7 @@ module _ (scene : Scene) (s : State) (k : Kept scene s) where
   drop_free place here disk carried at w key status part asks some =
       let o = open_at scene s k w key some in by_count o.0 o.1 (below_or 1 o.0.count) o.2
     where
-      tell : (ended : Ended) (book : BookState) (told_it : What) → what_of (requests.Drop w key status part) (requests.DroppedTo ended) ≡ Some told_it → IsTrue (is_free told_it)
+      tell : (ended : DropOutcome) (book : BookState) (told_it : What) → what_of (requests.Drop w key status part) (requests.DroppedTo ended) ≡ Some told_it → IsTrue (is_free told_it)
           → Drops (s.objects.book w) key status part ended book → HasFree scene s
       tell ended book told_it is free drops =
           free_of scene s place here (Completer disk carried) at (requests.DroppedTo ended) told_it tt (ap (λ r. what_of r (requests.DroppedTo ended)) asks ∙ is) free (with_book s.objects w book)

@@ -16,7 +16,7 @@ use Rattle.block_core.proofs.moves.Sums.{upd-same}
 use Rattle.block_core.proofs.sound.TaskSubmissions.{IsBusy}
 use Rattle.std.specs.Prelude.{◌^◌}
 use Rattle.bio_books.specs.Links.{Linked}
-use Rattle.bio_books.specs.Drops.{Ended, Drops}
+use Rattle.bio_books.specs.Drops.{DropOutcome, Drops}
 use Rattle.run_machine.specs.declared.event.What.{What}
 use Rattle.run_machine.specs.Requests as requests
 use Rattle.run_machine.specs.Requests.{Reply, Opening}
@@ -85,7 +85,7 @@ module _ (scene : Scene) (s : State) where
       let same = upd-same s.objects.book w book in
       (subst (Opened (s.objects.book w) opening answer) (sym same) opened, ap (with_book s.objects w) (sym same))
 
-  pub drop_serves : (w key : ℕ) (status : Status) (part : Option (Item Pad)) (ended : Ended) (book : BookState) → Drops (s.objects.book w) key status part ended book
+  pub drop_serves : (w key : ℕ) (status : Status) (part : Option (Item Pad)) (ended : DropOutcome) (book : BookState) → Drops (s.objects.book w) key status part ended book
       → Serves scene.ledger s.objects (requests.Drop w key status part) (requests.DroppedTo ended) (with_book s.objects w book)
   drop_serves w key status part ended book drops =
       let same = upd-same s.objects.book w book in

@@ -19,7 +19,7 @@ use Rattle.layout_model.proofs.ByShape.{cuts_is, copies_is, keeps_is}
 use Rattle.run_machine.specs.Scene.{setup_of, rescuer_at}
 use Rattle.block_core.proofs.moves.Geometry.{at_device}
 use Rattle.block_core.proofs.stuck.Waits.{TaskWaits, Waits, AreRescued}
-use Rattle.block_core.proofs.start.FactsAtStart.{Begins, IsOpened}
+use Rattle.block_core.proofs.start.FactsAtStart.{Begins, IsStartState}
 
 module _ (stack : Stack) (good : IsStack stack) (places : ℕ → ℕ) (rescuers : HasRescuers stack) where
   pub are_rescued : AreRescued (setup_of stack places)
@@ -44,7 +44,7 @@ module _ (stack : Stack) (good : IsStack stack) (places : ℕ → ℕ) (rescuers
           ap rescuer_at found ∙ own
 
 -- nothing waits at the start
-pub opened_waits : (scene : Scene) (s : State) → IsOpened scene s → Waits scene.setup s
+pub opened_waits : (scene : Scene) (s : State) → IsStartState scene s → Waits scene.setup s
 opened_waits scene s o = record { tasks = λ place. begins_wait (s.task place) (o.tasks place); rescued = λ dev. inl (o.rescued dev) }
   where
     begins_wait : (x : TaskState) → Begins scene x → TaskWaits scene.setup x

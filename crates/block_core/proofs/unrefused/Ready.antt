@@ -13,7 +13,7 @@ use Rattle.bio_books.specs.declared.node.Role.{Role}
 use Rattle.bio_books.specs.declared.node.Role.TheVariants as role
 use Rattle.bio_books.specs.Books.{Node, BookState, VectorItem, SlipItem, node_at}
 use Rattle.bio_books.specs.Links.{HasNoVacant, Linked, Made, NoRoom, Stray, ChainsAt, MastersAt, LegsAt}
-use Rattle.bio_books.specs.Drops.{Ended, DropsAt}
+use Rattle.bio_books.specs.Drops.{DropOutcome, DropsAt}
 use Rattle.bio_books.specs.Drops as end
 use Rattle.run_machine.specs.Scene.{Scene, tree_at}
 use Rattle.run_machine.specs.Submissions.{Takes, Punts, Links, ToPush, ToCut, ToRecord, ToMaster, Doing, Rests, Drives, Copies, Breaks, Submission, submission_request}
@@ -107,7 +107,7 @@ module _ (ledger : ℕ → LedgerId) (old : Objects) (new : Objects) where
   leg_made book after master (NoRoom back) node vacant h = absurd (not_full book vacant h.0)
   leg_made book after master (Stray back) node vacant h = absurd h
 
-  drop_made : (book after : BookState) (place : ℕ) (status : Status) (part : Option (Item Pad)) (ended : Ended) (node : Node)
+  drop_made : (book after : BookState) (place : ℕ) (status : Status) (part : Option (Item Pad)) (ended : DropOutcome) (node : Node)
       → DropsAt book place (Some node) status part ended after → is_refusal (requests.DroppedTo ended) ≡ false
   drop_made book after place status part end.Left node h = refl
   drop_made book after place status part (end.Up closed) node h = refl
@@ -149,7 +149,7 @@ module _ (ledger : ℕ → LedgerId) (old : Objects) (new : Objects) where
   linked requests.LookLeft answer ready h = absurd h
   linked requests.Rest answer ready h = absurd h
 
-  dropped : (request : Request) (ended : Ended) → IsReady old request → Serves ledger old request (requests.DroppedTo ended) new → is_refusal (requests.DroppedTo ended) ≡ false
+  dropped : (request : Request) (ended : DropOutcome) → IsReady old request → Serves ledger old request (requests.DroppedTo ended) new → is_refusal (requests.DroppedTo ended) ≡ false
   dropped (requests.Drop writer node status part) ended ready h =
       drop_made (old.book writer) (new.book writer) node status part ended ready.node
       (subst (λ found. DropsAt (old.book writer) node found status part ended (new.book writer)) ready.is h.0)

@@ -21,12 +21,12 @@ use Rattle.block_core.specs.Replies.{IsEventOrNothing}
 use Rattle.run_machine.proofs.Idle.{IsFair, IsIdle, fair_task, same_pool, task_stays}
 use Rattle.block_core.proofs.unrefused.Ready.{IsReady, not_refused}
 
-abbrev IsTold : Request → Reply → Type 0
-IsTold request reply = (what : What) × (what_of request reply ≡ Some what)
+abbrev MakesEvent : Request → Reply → Type 0
+MakesEvent request reply = (what : What) × (what_of request reply ≡ Some what)
 
 module _ (ledger : ℕ → LedgerId) (old new : Objects) where
   told_or_idle : (request : Request) (reply : Reply) → IsReady old request → IsFair old request → Serves ledger old request reply new
-      → IsTold request reply ⊎ (IsIdle request reply × (new ≡ old))
+      → MakesEvent request reply ⊎ (IsIdle request reply × (new ≡ old))
   told_or_idle (requests.TakeBio set true) (requests.HadBio got bio) ready fair h = inl (_, refl)
   told_or_idle (requests.TakeBio set true) (requests.Missed true) ready fair h = inl (_, refl)
   told_or_idle (requests.TakeBio set true) (requests.Missed false) ready fair h = inr (tt, same_pool old new (pool_number (bios_of set)) h.0.1 h.1)

@@ -15,7 +15,7 @@ use Rattle.stack_base.specs.declared.ids.DevId.{DevId}
 use Rattle.stack_base.specs.declared.ids.SetId.TheVariants.{Of}
 use Rattle.bio_records.specs.declared.tasks.TaskLists.{TaskLists}
 use Rattle.task_steps.specs.Within.{IsWithinDevice, AreWithin, IsItemWithin, ListsAreWithin}
-use Rattle.bio_records.specs.Sorting.{is_lower, is_same, is_of}
+use Rattle.bio_records.specs.Sorting.{is_lower, is_for_device, is_of}
 use Rattle.bio_lists.specs.Submission.{submitted, order}
 use Rattle.bio_lists.specs.Punt.{punted}
 use Rattle.plain_core.specs.objects.Plain.{HasSize, HasPlacesForStack}
@@ -67,10 +67,10 @@ punted_within stack dev lists within =
 -- so is what is served next
 pub ordered_within : (stack : Stack) (dev : DevId) (lists : TaskLists) → ListsAreWithin stack lists → AreWithin stack (order dev lists)
 ordered_within stack dev lists within =
-    All-append (IsItemWithin stack) (filter (is_lower dev) lists.list0) (filter (is_same dev) lists.list0 ++ lists.list1)
+    All-append (IsItemWithin stack) (filter (is_lower dev) lists.list0) (filter (is_for_device dev) lists.list0 ++ lists.list1)
     (All-filter (is_lower dev) (IsItemWithin stack) lists.list0 within.0)
-    (All-append (IsItemWithin stack) (filter (is_same dev) lists.list0) lists.list1
-    (All-filter (is_same dev) (IsItemWithin stack) lists.list0 within.0) within.1)
+    (All-append (IsItemWithin stack) (filter (is_for_device dev) lists.list0) lists.list1
+    (All-filter (is_for_device dev) (IsItemWithin stack) lists.list0 within.0) within.1)
 
 pub next_within : (stack : Stack) (dev : DevId) (lists : TaskLists) (part : Item Pad) (rest : List (Item Pad)) → ListsAreWithin stack lists
     → order dev lists ≡ part ∷ rest → IsWithinDevice stack part.bio

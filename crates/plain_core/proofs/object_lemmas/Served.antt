@@ -245,7 +245,7 @@ join_failed old new writer opening what fault.NotEnabled t = link old new writer
 join_failed old new writer opening what fault.Memory t = (t.0, can_link old writer opening what t.1 t.2 t.3 t.4)
 
 not_dropped : (old : CoreObjects) (writer place : ℕ) (status : Status) (part : Option (Item Pad)) (what : What)
-    → ((end : End) (answer : drop.Ended) (book : BookState) → what ≡ told.Drop writer place status end → IsToldBy end answer
+    → ((end : End) (answer : drop.DropOutcome) (book : BookState) → what ≡ told.Drop writer place status end → IsToldBy end answer
     → Drops (core_book_at old writer) place status part answer book → ⊥) → Refuses old (Drop writer place status part) what
 not_dropped old writer place status part what never (DroppedTo drop.Left) new is serves = never ends.Left drop.Left (new.book writer) (one is) tt serves.0
 not_dropped old writer place status part what never (DroppedTo (drop.Up closed)) new is serves = never ends.Up (drop.Up closed) (new.book writer) (one is) tt serves.0

@@ -2,9 +2,9 @@
 use Rattle.std.proofs.Common.{◌≡◌, ◌≢◌, inl, inr, ℕ, refl, sym, ap, ◌∙◌, subst, eq-eqb, ne_eqb}
 use Rattle.std.proofs.lemmas.Bool.{cases_eq}
 use Rattle.std.proofs.lemmas.List.{get_or-set_other}
-use Rattle.mempool_core.specs.Move.{Move}
+use Rattle.mempool_core.specs.Move.{PoolMove}
 use Rattle.run_machine.specs.Maps.{upd}
-use Rattle.run_machine.specs.Objects.{PoolMoves}
+use Rattle.run_machine.specs.Objects.{MovesPool}
 use Rattle.plain_core.specs.objects.Plain.{CoreObjects, core_pool_at, with_pool, core_rescue_at, with_rescue, kept_disk, core_disk_at, disk_or, opened_disk, with_disk, core_book_at, with_book, objects_of_core}
 use Rattle.plain_core.specs.objects.Told.{CorePoolMoves}
 
@@ -47,6 +47,6 @@ disk_set old new n is =
     ∙ ap (λ (o : CoreObjects). record (objects_of_core old) { disk = upd (core_disk_at old) n (core_disk_at o n) }) (sym is)
 
 -- a move of a pool
-pub moves : (old new : CoreObjects) (n : ℕ) (move : Move) → CorePoolMoves old n move new → PoolMoves (objects_of_core old) n move (objects_of_core new)
+pub moves : (old new : CoreObjects) (n : ℕ) (move : PoolMove) → CorePoolMoves old n move new → MovesPool (objects_of_core old) n move (objects_of_core new)
 moves old new n move m =
     (m.0, pool_set old new n m.2 ∙ ap (λ pool. record (objects_of_core old) { pool = upd (core_pool_at old) n pool }) m.1)

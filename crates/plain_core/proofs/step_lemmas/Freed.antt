@@ -89,7 +89,7 @@ link_met old writer (Leg parent) (Made place) new told is o = leg_at old writer 
 link_met old writer opening (NoRoom back) new told is o = nothing_told is
 link_met old writer opening (Stray back) new told is o = nothing_told is
 
-end_met : (old : CoreObjects) (writer place : ℕ) (ending : Status) (part : Option (Item Pad)) (node : Option Node) (ended : drop.Ended) (new : BookState) (told : What)
+end_met : (old : CoreObjects) (writer place : ℕ) (ending : Status) (part : Option (Item Pad)) (node : Option Node) (ended : drop.DropOutcome) (new : BookState) (told : What)
     → node_at (core_book_at old writer) place ≡ node → drop_of writer place ending ended ≡ Some told → DropsAt (core_book_at old writer) place node ending part ended new
     → (n : Node) × (node_at (core_book_at old writer) place ≡ Some n) × (0 < n.count)
 end_met old writer place ending part (Some n) drop.Left new told is tells d = (n, is, omega (arith, d.0))
@@ -229,7 +229,7 @@ link_free old writer (Leg parent) m =
     let after = with_node (core_book_at old writer) m.0 (Some (leg_node m.1.write parent)) in
     linked old writer m.0 (Leg parent) after (subst (λ node. LegsAt (core_book_at old writer) parent node (Made m.0) after) (sym m.3) (m.2, refl))
 
-dropped : (old : CoreObjects) (writer place : ℕ) (ending : Status) (part : Option (Item Pad)) (ended : drop.Ended) (after : BookState) (told : What)
+dropped : (old : CoreObjects) (writer place : ℕ) (ending : Status) (part : Option (Item Pad)) (ended : drop.DropOutcome) (after : BookState) (told : What)
     → drop_of writer place ending ended ≡ Some told → IsTrue (is_free told) → Drops (core_book_at old writer) place ending part ended after → CanFree old (Drop writer place ending part)
 dropped old writer place ending part ended after told tells free is =
     let kept : upd (core_book_at old) writer after writer ≡ after = upd_same (core_book_at old) writer after in

@@ -14,7 +14,7 @@ use Rattle.plain_core.specs.declared.fault.CoreFault.{CoreFault}
 use Rattle.plain_core.specs.declared.fault.CoreFault.TheVariants as fault
 
 -- what an end left of a node, and how an event tells it
-abbrev pub ended_of_plain : NodeOutcome → drop.Ended
+abbrev pub ended_of_plain : NodeOutcome → drop.DropOutcome
 ended_of_plain ended.Left = drop.Left
 ended_of_plain (ended.Up closed) = drop.Up closed
 ended_of_plain (ended.Top closed) = drop.Top closed
@@ -24,7 +24,7 @@ end_of ended.Left = end.Left
 end_of (ended.Up closed) = end.Up
 end_of (ended.Top closed) = end.Top
 
-abbrev pub IsToldBy : End → drop.Ended → Type 0
+abbrev pub IsToldBy : End → drop.DropOutcome → Type 0
 IsToldBy end.Left drop.Left = Unit {0}
 IsToldBy end.Up (drop.Up closed) = Unit {0}
 IsToldBy end.Top (drop.Top closed) = Unit {0}
@@ -33,7 +33,7 @@ IsToldBy tells ended = ⊥
 -- a node was told of an end, or can't be told so that the event tells it
 abbrev pub IsEndTold : BookState → ℕ → Status → Option (Item Pad) → End → Option NodeOutcome → BookState → Type 0
 IsEndTold old place status part end None new =
-    (new ≡ old) × ((answer : drop.Ended) (new : BookState) → IsToldBy end answer → Drops old place status part answer new → ⊥)
+    (new ≡ old) × ((answer : drop.DropOutcome) (new : BookState) → IsToldBy end answer → Drops old place status part answer new → ⊥)
 IsEndTold old place status part end (Some ended) new = IsToldBy end (ended_of_plain ended) × Drops old place status part (ended_of_plain ended) new
 
 -- the node at this place was told of an end that was not its last

@@ -5,7 +5,7 @@ use Rattle.stack_base.specs.declared.ids.DevId.{DevId}
 use Rattle.bio_records.specs.declared.bio.Pad.{Pad}
 use Rattle.bio_records.specs.declared.tasks.TaskLists.{TaskLists}
 use Rattle.bio_records.specs.Items.{Item}
-use Rattle.bio_records.specs.Sorting.{is_lower, is_same}
+use Rattle.bio_records.specs.Sorting.{is_lower, is_for_device}
 use Rattle.plain_core.specs.declared.objects.lists.Lists.{Lists}
 
 abbrev pub lists_of : Lists → TaskLists
@@ -19,7 +19,7 @@ pub record ListsHaveCapacity (more : ℕ) (lists : Lists) : Type 0 where
 -- whether a bio is for another device than the one that is served, or for that one
 abbrev pub is_picked : Bool → DevId → Item Pad → Bool
 is_picked true dev item = is_lower dev item
-is_picked false dev item = is_same dev item
+is_picked false dev item = is_for_device dev item
 
 -- the first of these bios, if there is one, and those behind it
 abbrev pub IsFirstOfBios : List (Item Pad) → Option (Item Pad) → List (Item Pad) → Type 0

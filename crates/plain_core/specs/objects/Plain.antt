@@ -78,7 +78,7 @@ disk_or None other = other
 disk_or (Some disk) other = disk
 
 abbrev pub opened_disk : Stack → ℕ → DiskState
-opened_disk stack dev = disk.opened (at dev) (size (tree stack dev)) (bads_of stack dev)
+opened_disk stack dev = disk.blank_disk (at dev) (size (tree stack dev)) (bads_of stack dev)
 
 abbrev pub core_disk_at : CoreObjects → ℕ → DiskState
 core_disk_at o dev = disk_or (kept_disk o dev) (opened_disk o.stack dev)

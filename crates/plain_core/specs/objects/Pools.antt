@@ -1,7 +1,7 @@
 -- What a take of a pool had, as events tell it.
 use Rattle.std.specs.Prelude.{◌≡◌, Bool, true}
 use Rattle.mempool_core.specs.Position.{uses_entry}
-use Rattle.mempool_core.specs.Move.{PoolState, Move, takes_ordinary, takes_spare, misses, CanMove}
+use Rattle.mempool_core.specs.Move.{PoolState, PoolMove, takes_ordinary, takes_spare, misses, CanMove}
 use Rattle.run_machine.specs.declared.event.Got.{Got}
 use Rattle.run_machine.specs.declared.event.Got.TheVariants as got
 
@@ -10,7 +10,7 @@ abbrev pub uses : PoolState → Bool
 uses pool = uses_entry pool.script pool.facts.pos
 
 -- the move of a take that had this
-abbrev pub move_of : PoolState → Got → Move
+abbrev pub move_of : PoolState → Got → PoolMove
 move_of pool got.Ordinary = takes_ordinary
 move_of pool got.Spare = takes_spare
 move_of pool got.Missed = misses (uses pool)

@@ -7,7 +7,7 @@ use Rattle.stack_base.specs.declared.ids.SetId.TheVariants.{Of}
 use Rattle.bio_records.specs.declared.bio.Pad.{Pad}
 use Rattle.bio_records.specs.declared.tasks.TaskLists.{TaskLists}
 use Rattle.bio_records.specs.Items.{Item}
-use Rattle.mempool_core.specs.Move.{Move, CanMove, after_move}
+use Rattle.mempool_core.specs.Move.{PoolMove, CanMove, after_move}
 use Rattle.bio_lists.specs.Punt.{punted, unpunted}
 use Rattle.model_disks.specs.Disks.{DiskState}
 use Rattle.model_disks.specs.Moves.{pushed, Completes}
@@ -30,7 +30,7 @@ use Rattle.plain_core.specs.declared.fault.CoreFault.{CoreFault}
 use Rattle.plain_core.specs.declared.fault.CoreFault.TheVariants as fault
 
 -- the pool of this number makes a move
-abbrev pub CorePoolMoves : CoreObjects → ℕ → Move → CoreObjects → Type 0
+abbrev pub CorePoolMoves : CoreObjects → ℕ → PoolMove → CoreObjects → Type 0
 CorePoolMoves old number move new =
     CanMove (core_pool_at old number) move
     × (core_pool_at new number ≡ after_move (core_pool_at old number) move)
@@ -46,7 +46,7 @@ Takes old number pool waits what result new =
     result new
 
 -- the pool of this number makes a move that the event tells
-abbrev pub MovesAs : CoreObjects → ℕ → Move → What → What → Result (Unit {0}) CoreFault → CoreObjects → Type 0
+abbrev pub MovesAs : CoreObjects → ℕ → PoolMove → What → What → Result (Unit {0}) CoreFault → CoreObjects → Type 0
 MovesAs old number move tells what result new =
     AnswersIfEnabled old (λ done next. (what ≡ tells) × CorePoolMoves old number move next) (what ≡ tells → CanMove (core_pool_at old number) move → ⊥) result new
 
@@ -137,7 +137,7 @@ IsDrop old writer place status part what result new =
     (λ ended next. (what ≡ told.Drop writer place status (end_of ended))
     × Drops (core_book_at old writer) place status part (ended_of_plain ended) (core_book_at next writer)
     × (next ≡ with_book old writer (core_book_at next writer)))
-    ((end : End) (answer : drop.Ended) (book : BookState) → what ≡ told.Drop writer place status end → IsToldBy end answer
+    ((end : End) (answer : drop.DropOutcome) (book : BookState) → what ≡ told.Drop writer place status end → IsToldBy end answer
     → Drops (core_book_at old writer) place status part answer book → ⊥)
     result new
 

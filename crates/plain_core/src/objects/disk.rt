@@ -3,7 +3,7 @@ ghost use Rattle.std.specs.Prelude.{◌≡◌, ◌+◌, ◌*◌, ◌%◌, ◌^�
 ghost use Rattle.std.specs.List.{range_with_len};
 ghost use Rattle.stack_base.specs.declared.ids.Status.TheVariants.{Ok};
 ghost use Rattle.model_disks.specs.Disks.{DiskState};
-ghost use Rattle.model_disks.specs.Moves.{opened, pushed, written};
+ghost use Rattle.model_disks.specs.Moves.{blank_disk, pushed, written};
 ghost use Rattle.plain_core.specs.objects.Disks.{firsts_after, sector_of, image_after, CompletesOrNot};
 
 use crate::objects::part::Part;
@@ -104,7 +104,7 @@ impl Disk {
     /// Where there is no memory.
     #[tactic(auto, using(crate::proofs::object_lemmas::Sectors::zeros))]
     pub fn open(alloc: Global, dev: DevId, sectors: u64, bad: &[Bad]) -> Result<Disk, AllocError>
-        ensures { IfOk result (λ disk. disk ≡ opened dev sectors bad.now) }
+        ensures { IfOk result (λ disk. disk ≡ blank_disk dev sectors bad.now) }
     {
         let bad = Vec::from_slice(alloc, bad)?;
         Ok(Disk {

@@ -43,7 +43,7 @@ use Rattle.run_machine.specs.Runs.{State, IsRun, HasEnded}
 pub use Rattle.run_machine.proofs.cases.OneDisk.{a}
 pub use Rattle.run_machine.proofs.cases.OneMirror.{b, m, mirror, setup, write, todo, reserve, scripts, objects, stack, scenario, setup_is, objects_are}
 use Rattle.run_machine.proofs.Beginnings.{state_by, runs_as}
-use Rattle.run_machine.proofs.Texts.{Says, sound_at}
+use Rattle.run_machine.proofs.Texts.{SaysScenario, sound_at}
 use Rattle.run_machine.proofs.Turns.{Turn, follow, AreTurns, turns_run, takes, rescues, on_disk, in_book, all_home}
 
 abbrev pub tasks : List TaskState
@@ -264,7 +264,7 @@ module _ (memory : Global) where
   text_runs : (some : LedgerId) → IsRun (texts.scene (scenario memory true) (ledger some)) (texts.start (scenario memory true)) (events some) (follow (setup true) start (turns some))
   text_runs some = runs_as _ _ _ _ (events some) (follow (setup true) start (turns some)) (scene_is some) start_is (mirror_runs some)
 
-  says : Says text (scenario memory true)
+  says : SaysScenario text (scenario memory true)
   unfolding refusal without_empty_end first_found command_of is_name number_of meaning pool_at over_shape size_of smallest needed begins
   says = record {
     right = refl;

@@ -14,7 +14,7 @@ use Rattle.bio_books.specs.Links.{Linked, Made, NoRoom, Stray, ChainsAt, Masters
 use Rattle.bio_books.specs.Drops.{DropsAt}
 use Rattle.bio_books.specs.Drops as end
 use Rattle.bio_books.specs.Books.{SlipItem}
-use Rattle.mempool_core.specs.Move.{Move, misses, gives, resizes, after_move}
+use Rattle.mempool_core.specs.Move.{PoolMove, misses, gives, resizes, after_move}
 use Rattle.mempool_core.specs.Pool.{LedgerPool, PoolMoves}
 use Rattle.model_disks.specs.Disks.{DiskState}
 use Rattle.run_machine.specs.declared.event.Got.{Got}
@@ -36,7 +36,7 @@ has_one old new got.Ordinary h = (h.moves.can, h.moves.after)
 has_one old new got.Spare h = (h.moves.can, h.moves.after)
 has_one old new got.Missed h = absurd h
 
-goes : (old new : LedgerPool) (move : Move) → PoolMoves old move new → PoolGoes old.state move new.state
+goes : (old new : LedgerPool) (move : PoolMove) → PoolMoves old move new → PoolGoes old.state move new.state
 goes old new move h = (h.moves.can, h.moves.after)
 
 resized : (old new : LedgerPool) (min out : ℕ) → ((out ≡ 0) × PoolMoves old (resizes min) new) ⊎ ((0 < out) × (new ≡ old))

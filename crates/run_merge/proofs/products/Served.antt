@@ -3,7 +3,7 @@ use Rattle.std.proofs.Common.{◌≡◌, ◌==◌, ◌++◌, if◌then◌else◌
 use Rattle.stack_base.specs.declared.ids.PoolId.TheVariants.{FsVecs, Records}
 use Rattle.stack_base.specs.PoolId.{pool_number}
 use Rattle.elem_ledger.specs.Ledger.{LedgerId}
-use Rattle.mempool_core.specs.Move.{PoolState, Move, takes_ordinary, takes_spare, misses, gives, resizes, after_move}
+use Rattle.mempool_core.specs.Move.{PoolState, PoolMove, takes_ordinary, takes_spare, misses, gives, resizes, after_move}
 use Rattle.bio_records.specs.declared.bio.Pad.{Pad}
 use Rattle.bio_records.specs.Items.{Item}
 use Rattle.bioset_pools.specs.Sets.{bios_of}
@@ -15,7 +15,7 @@ use Rattle.run_machine.specs.declared.event.Got.TheVariants as got
 use Rattle.run_machine.specs.Laws.{Object, OfPool, OfRescuer, OfDisk, OfBook, OfTally, OfNone, object_of, with_object}
 use Rattle.run_machine.specs.Maps.{upd}
 use Rattle.run_machine.specs.Requests.{Request, Reply, TakeBio, TakeVec, TakeSlip, GiveBio, GiveVec, GiveSlip, Punt, Pop, Push, Complete, Link, Drop, Done, Resize, NextRound, LookRound, LookLeft, Rest, HadBio, HadVec, HadSlip, Missed, Did, Popped, Completed, LinkedTo, DroppedTo, OutIs, Present, LeftOver, Nothing}
-use Rattle.run_machine.specs.Objects.{Objects, Opened, PoolMoves, Has, Serves}
+use Rattle.run_machine.specs.Objects.{Objects, Opened, MovesPool, Has, Serves}
 use Rattle.run_machine.proofs.Frames.{upd_same, one_object_changes}
 use Rattle.shared_objects.specs.Calls.{struck}
 use Rattle.run_merge.specs.Machines.{PoolGoes, PoolHas, ServesAt}
@@ -36,7 +36,7 @@ others_stay ledger o request reply new serves = one_object_changes ledger o new 
     by_name OfNone = refl
 
 -- and this one goes on by its own machine
-pool_goes : (o new : Objects) (number : ℕ) (move : Move) → PoolMoves o number move new → PoolGoes (o.pool number) move (new.pool number)
+pool_goes : (o new : Objects) (number : ℕ) (move : PoolMove) → MovesPool o number move new → PoolGoes (o.pool number) move (new.pool number)
 pool_goes o new number move (can, is) = (can, ap (λ (x : Objects). x.pool number) is ∙ upd_same o.pool number (after_move (o.pool number) move))
 
 pool_has : (o new : Objects) (number : ℕ) (from : Got) → Has o number from new → PoolHas (o.pool number) from (new.pool number)

@@ -8,8 +8,8 @@ use Rattle.std.proofs.lemmas.List.{append-nil, append_assoc, length-append, map-
 use Rattle.std.proofs.lemmas.List.Elements.{All-head, All-tail, Contains-append_cases, Contains-append_right, Contains-get_or}
 use Rattle.std.proofs.lemmas.List.Sorted.{Contains-permutation, IsPermutation-append_right, IsPermutation-refl, IsPermutation-sym, IsPermutation-trans, length_permutation}
 use Rattle.run_merge.specs.declared.heads.Head.{Head}
-use Rattle.run_merge.specs.Heads.{TakesHead, Stands, winner_of, head_at, node, rest, rows}
-use Rattle.run_merge.specs.Joining.{IsJoined, all_in}
+use Rattle.run_merge.specs.Heads.{TakesHead, IsTournamentAt, winner_of, head_at, node, rest, rows}
+use Rattle.run_merge.specs.Joining.{IsJoinedByTicket, all_in}
 use Rattle.run_merge.proofs.tournament.Rest.{rest_taken}
 use Rattle.run_merge.proofs.tournament.Winner.{IsFirst, first_is, nothing_left}
 
@@ -19,7 +19,7 @@ places count nodes list = (node nodes (count + list)).at
 
 -- these are the values of what was taken, in order, none of which is behind what is left
 pub record Joins {T : Type 0} (rows : List (List (ℕ × T))) (nodes : List Head) (values : List T) : Type 0 where
-  pub stands : Stands rows (places (length rows) nodes) nodes
+  pub stands : IsTournamentAt rows (places (length rows) nodes) nodes
   pub taken : List (ℕ × T)
   pub same : IsPermutation (rest (λ list. 0) rows) (taken ++ rest (places (length rows) nodes) rows)
   pub rises : IsNonDecreasingBy (λ (e : ℕ × T). e.0) taken
@@ -83,7 +83,7 @@ all_left [] = refl
 all_left (v ∷ lists) = ap (λ l. v.items ++ l) (all_left lists)
 
 module _ {T : Type 0} (rows : List (List (ℕ × T))) (rising : (list : ℕ) → IsNonDecreasingBy (λ (e : ℕ × T). e.0) (get_or rows list [])) where
-  pub joins_first : (nodes : List Head) → Stands rows (λ list. 0) nodes → Joins rows nodes []
+  pub joins_first : (nodes : List Head) → IsTournamentAt rows (λ list. 0) nodes → Joins rows nodes []
   joins_first nodes s =
       let opened : (list : ℕ) → list < length rows → places (length rows) nodes list ≡ 0 = λ list less. ap (λ (h : Head). h.at) (s.leaf list less) in
       record {
@@ -171,7 +171,7 @@ module _ {T : Type 0} (rows : List (List (ℕ × T))) (rising : (list : ℕ) →
     less_left d = let long = length_permutation (rest was rows) (entry d ∷ rest now rows) (left d) in omega (arith, long)
 
 pub are_joined : {T : Type 0} (lists : List (Vec (ℕ × T))) (nodes : List Head) (values : List T) → Joins (rows lists) nodes values → winner_of nodes ≡ None
-    → IsJoined (all_in lists) values
+    → IsJoinedByTicket (all_in lists) values
 are_joined lists nodes values j none =
     let empty = nothing_left (rows lists) (places (length (rows lists)) nodes) nodes j.stands none in
     record {

@@ -6,7 +6,7 @@ use Rattle.std.specs.Option.{unwrap_or}
 use Rattle.std.proofs.lemmas.Bool.{ltb-false, ltb-true}
 use Rattle.std.proofs.lemmas.Option.{none-some, slice_get_cases, slice_get-get_or, get_or_from_slice_get}
 use Rattle.run_merge.specs.declared.heads.Head.{Head}
-use Rattle.run_merge.specs.Heads.{Stands, ticketed_head, winner_of, head_at, is_before, no_head, node, rest, smaller, ticket_in, with_ticket}
+use Rattle.run_merge.specs.Heads.{IsTournamentAt, ticketed_head, winner_of, head_at, is_before, no_head, node, rest, smaller, ticket_in, with_ticket}
 use Rattle.run_merge.proofs.tournament.Rest.{left_is, none_left}
 
 -- no ticket is behind any, and else the smaller one is not behind
@@ -93,7 +93,7 @@ none_behind : (ticket first : Option ℕ) → first ≡ None → IsNotBefore tic
 none_behind None first none behind = refl
 none_behind (Some ticket) first none behind = absurd (subst (IsNotBefore (Some ticket)) none behind)
 
-module _ {T : Type 0} (rows : List (List (ℕ × T))) (at : ℕ → ℕ) (nodes : List Head) (s : Stands rows at nodes) where
+module _ {T : Type 0} (rows : List (List (ℕ × T))) (at : ℕ → ℕ) (nodes : List Head) (s : IsTournamentAt rows at nodes) where
   -- the root comes before each node
   before_all : (fuel number : ℕ) → number ≤ fuel → 1 ≤ number → number < length rows + length rows → IsNotBefore (node nodes number).ticket (node nodes 1).ticket
   before_all zero number le some less = absurd (omega (arith, le, some))

@@ -9,7 +9,7 @@ use Rattle.std.proofs.lemmas.List.Elements.{All-head, All-tail, All-cons, All-ni
 use Rattle.std.proofs.lemmas.List.Sums.{sum_by-cons, sum_by-append, sum-map}
 use Rattle.std.proofs.lemmas.Option.{slice_get_cases}
 use Rattle.tick_clock.specs.declared.ticking.Ticket.{Ticket}
-use Rattle.tick_clock.specs.Tickets.{PassState, hit, times}
+use Rattle.tick_clock.specs.Tickets.{PassState, hit, ticket_count}
 use Rattle.tick_clock.proofs.Rows.{pass_once}
 use Rattle.run_machine.specs.Laws.{Object}
 use Rattle.run_machine.specs.Opened.{Scenario, setup}
@@ -50,7 +50,7 @@ sum_least f g (x ∷ xs) each =
     let rest = sum_least f g xs (λ place y at. each (suc place) y at) in
     omega (arith, here, rest, sum_by-cons f x xs, sum_by-cons g x xs)
 
-times_is : (number : ℕ) (ts : List Ticket) → hits number (numbers_of ts) ≡ times number ts
+times_is : (number : ℕ) (ts : List Ticket) → hits number (numbers_of ts) ≡ ticket_count number ts
 times_is number [] = refl
 times_is number (t ∷ ts) =
     let rest = times_is number ts in

@@ -26,7 +26,7 @@ use Rattle.shared_objects.specs.Noting.{notes_of}
 use Rattle.shared_objects.proofs.tickets.TicketsOfCalls.{flat_there}
 use Rattle.shared_objects.proofs.tickets.CallOwners.{logged}
 use Rattle.run_merge.specs.Entries.{entries_in}
-use Rattle.run_merge.specs.Joining.{IsJoined}
+use Rattle.run_merge.specs.Joining.{IsJoinedByTicket}
 use Rattle.run_merge.specs.Merging.{Ticketed, all_of, done_by, without_tickets, sorted}
 use Rattle.run_merge.specs.Tracing.{notes_in, NotesAreRuns}
 use Rattle.run_merge.proofs.enough_shown.TaskCounts.{first_is, done_at}
@@ -124,7 +124,7 @@ module _ (s : Scenario) (ledger : ℕ → LedgerId) (plain : Plain) (names : Lis
       let few = keys_fewer (setup s) number task.first (ticketed_events task.log) in
       omega (arith, same, few)))
 
-  module _ (joined : List Event) (j : IsJoined (notes_in (setup s) tasks) joined) (events : List Event) (last : State) (run : IsRun (scene s ledger) (start s) events last)
+  module _ (joined : List Event) (j : IsJoinedByTicket (notes_in (setup s) tasks) joined) (events : List Event) (last : State) (run : IsRun (scene s ledger) (start s) events last)
       (is : entries_in (scene s ledger) (start s) events last run ≡ without_tickets entries) where
     in_order : j.ordered ≡ led
     in_order =
@@ -145,4 +145,4 @@ notes_are_runs opened names history left tasks pass is firsts c joined last j (e
     let same = histories_are names history shows in
     joined_is s ledger opened.objects names history left tasks pass
     (subst (λ setup. ClosesAs setup opened.objects names history left tasks pass) is.setup c) (firsts ∙ is.tasks) joined
-    (subst (λ setup. IsJoined (notes_in setup tasks) joined) is.setup j) events last run (entries ∙ ap (λ histories. without_tickets (sorted (all_of histories))) same)
+    (subst (λ setup. IsJoinedByTicket (notes_in setup tasks) joined) is.setup j) events last run (entries ∙ ap (λ histories. without_tickets (sorted (all_of histories))) same)

@@ -8,7 +8,7 @@ use Rattle.seat_lock.specs.Seats.{LockId, SeatState, own}
 use Rattle.run_machine.specs.Laws.{Object}
 use Rattle.run_machine.specs.Maps.{upd}
 use Rattle.run_machine.specs.Requests.{Request}
-use Rattle.task_core.specs.Tables.{is_entry_of, IsAt}
+use Rattle.task_core.specs.Tables.{is_entry_of, IsEntryAt}
 use Rattle.task_core.proofs.NumberTests.{same_by, apart_by}
 use Rattle.task_core.proofs.TableLemmas.{key_is, looked, changed}
 use Rattle.object_things.specs.Histories.{Call}
@@ -54,7 +54,7 @@ module _ {K T : Type 0} {key : K → ℕ} {mark : T → MarkState} {name : ℕ �
       subst (λ (e : K × LockId T). IsNamed mark common (name (key e.0)) e.1) (sym lock_is) (locked.named i lock there)
       ∙ ap (λ m. record { common = common; name = name m }) (key_is lock_key table locks n i (locked.placed n is) place lock lock_is)
 
-  seats_placed : IsAt seat_key table seats n
+  seats_placed : IsEntryAt seat_key table seats n
   seats_placed = record {
     there = subst (λ k. slice_index_or table n 0 < k) (sym seated.lens) (locked.placed n is).there;
     first = (locked.placed n is).first

@@ -31,7 +31,7 @@ use Rattle.shared_objects.proofs.steps.NothingFound.{idle}
 use Rattle.shared_objects.proofs.logs.OneMoreCall.{one_call}
 use Rattle.shared_objects.proofs.steps.GlanceStays.{event_struck, glance_struck, glance_kinds, glance_stays}
 use Rattle.shared_objects.proofs.steps.BrokenRests.{broken_rests, stop_breaks, spent_breaks_off}
-use Rattle.shared_objects.proofs.logs.StepTells.{Tells, seen_made, tells_one, quiet_first, tells_further, no_event, shows_further, shows_step, rests_shows, idle_shows, nothing_none}
+use Rattle.shared_objects.proofs.logs.StepTells.{ShowsEvent, seen_made, tells_one, quiet_first, tells_further, no_event, shows_further, shows_step, rests_shows, idle_shows, nothing_none}
 
 -- a look of the task stands among its calls, and lets it ask
 abbrev Let : List Call → TaskState → Option Request → Type 0
@@ -104,7 +104,7 @@ module _ (setup : Setup) (first : TaskState) where
 
   plain : (stage : Stage) (log : List Call) (task : TaskState) (old new : DeskState) (asked : Request) (reply : Reply) → asked ≡ request setup task → IsLogged setup first log task old
       → Let log task (look_of task) → HasCalled old (struck asked) reply new → (object_of (struck asked) ≡ OfNone → ⊥) → Owes stage asked reply
-      → LogGoesOn log (answered setup task reply) new (Tells (what_of asked reply) asked reply (seen_by new.pass))
+      → LogGoesOn log (answered setup task reply) new (ShowsEvent (what_of asked reply) asked reply (seen_by new.pass))
   plain stage log task old new asked reply same is l calls apart owed =
       let made = called stage log task old new asked reply (is_glance asked reply) refl same is l calls apart owed in (
         made.0 ∷ [],
@@ -120,16 +120,16 @@ module _ (setup : Setup) (first : TaskState) where
 
   completes : (stage : Stage) (log : List Call) (task : TaskState) (old new : DeskState) (disk : DevId) (reply : Reply) → Complete disk ≡ request setup task
       → IsLogged setup first log task old → Let log task (look_of task) → LooksAndCompletes old disk reply new → answered setup task Nothing ≡ task
-      → Owes stage (Complete disk) reply → LogGoesOn log (answered setup task reply) new (Tells (what_of (Complete disk) reply) (Complete disk) reply (seen_by new.pass))
+      → Owes stage (Complete disk) reply → LogGoesOn log (answered setup task reply) new (ShowsEvent (what_of (Complete disk) reply) (Complete disk) reply (seen_by new.pass))
   completes stage log task old new disk reply same is l c idle owed =
       let look = glanced log task old c.between (Complete disk) (LeftOver c.count) is c.looks (λ e. cc) refl in
-      let Tell : List Call → Type 0 = Tells (what_of (Complete disk) reply) (Complete disk) reply (seen_by new.pass) in
+      let Tell : List Call → Type 0 = ShowsEvent (what_of (Complete disk) reply) (Complete disk) reply (seen_by new.pass) in
       let on : (calls : List Call) → Tell calls → Tell (look.0 ∷ calls) =
       λ calls tells. tells_further (what_of (Complete disk) reply) look.0 (Complete disk) reply (seen_by new.pass) calls look.3 tells in
       elim c.goes [
         | inl none ↦ further log look.0 (answered setup task reply) new Tell Tell on
             (stays (log ++ look.0 ∷ []) task (answered setup task reply) c.between new Tell look.2 (ap (answered setup task) none.1 ∙ idle) none.2
-            (subst (λ r. Tells (what_of (Complete disk) r) (Complete disk) r (seen_by new.pass) []) (sym none.1) refl))
+            (subst (λ r. ShowsEvent (what_of (Complete disk) r) (Complete disk) r (seen_by new.pass) []) (sym none.1) refl))
         | inr some ↦ further log look.0 (answered setup task reply) new Tell Tell on
             (plain stage (log ++ look.0 ∷ []) task c.between new (Complete disk) reply same look.2 (let_later log (look.0 ∷ []) task (look_of task) l) some.1 (λ e. cc) owed)
       ]
@@ -137,7 +137,7 @@ module _ (setup : Setup) (first : TaskState) where
   -- the calls of what the task asks for
   one_ask : (stage : Stage) (log : List Call) (task : TaskState) (old new : DeskState) (asked : Request) (reply : Reply) → asked ≡ request setup task
       → IsLogged setup first log task old → Let log task (look_of task) → DeskServes old asked reply new → answered setup task Nothing ≡ task → Owes stage asked reply
-      → LogGoesOn log (answered setup task reply) new (Tells (what_of asked reply) asked reply (seen_by new.pass))
+      → LogGoesOn log (answered setup task reply) new (ShowsEvent (what_of asked reply) asked reply (seen_by new.pass))
   one_ask stage log task old new Rest reply same is l serves idle owed = absurd serves
   one_ask stage log task old new (Complete disk) reply same is l serves idle owed = completes stage log task old new disk reply same is l serves idle owed
   one_ask stage log task old new asked reply same is l serves idle owed = plain stage log task old new asked reply same is l serves (λ e. cc) owed
@@ -154,11 +154,11 @@ module _ (setup : Setup) (first : TaskState) where
 
   -- there was nothing, and what it has looked at stands behind
   in_vain : (log : List Call) (task next : TaskState) (asked : Request) (middle new : DeskState) (step : Step) (left : ℕ)
-      → LogGoesOn log next middle (Tells (what_of asked Nothing) asked Nothing (seen_by middle.pass)) → HasCalled middle LookLeft (LeftOver left) new → step ≡ idle_step left
+      → LogGoesOn log next middle (ShowsEvent (what_of asked Nothing) asked Nothing (seen_by middle.pass)) → HasCalled middle LookLeft (LeftOver left) new → step ≡ idle_step left
       → LogGoesOn log next new (λ calls. ShowsStep setup task next (seen_by new.pass) calls step)
   in_vain log task next asked middle new step left g looked tells =
       let look = looks_left (log ++ g.0) task next asked middle new left step g.1 looked tells in
-      let quiet : events_in g.0 ≡ [] = subst (λ told. Tells told asked Nothing (seen_by middle.pass) g.0) (nothing_none asked) g.2 in (
+      let quiet : events_in g.0 ≡ [] = subst (λ told. ShowsEvent told asked Nothing (seen_by middle.pass) g.0) (nothing_none asked) g.2 in (
         g.0 ++ look.0,
         subst (λ l. IsLogged setup first l next new) (append_assoc log g.0 look.0) look.1,
         shows_behind g.0 look.0 quiet look.2,
@@ -178,7 +178,7 @@ module _ (setup : Setup) (first : TaskState) where
 
   -- there was a reply that the step tells
   told_of : (log : List Call) (task next : TaskState) (asked : Request) (reply : Reply) (middle new : DeskState) (step : Step) → asked ≡ request setup task
-      → (asked ≡ Rest → ⊥) → next ≡ answered setup task reply → LogGoesOn log next middle (Tells (what_of asked reply) asked reply (seen_by middle.pass))
+      → (asked ≡ Rest → ⊥) → next ≡ answered setup task reply → LogGoesOn log next middle (ShowsEvent (what_of asked reply) asked reply (seen_by middle.pass))
       → new ≡ middle → step ≡ step_of setup (id_of task) asked reply → LogGoesOn log next new (λ calls. ShowsStep setup task next (seen_by new.pass) calls step)
   told_of log task next asked reply middle new step same apart goes_on g stays tells =
       let apart_task : request setup task ≡ Rest → ⊥ = λ rests. apart (same ∙ rests) in
@@ -188,7 +188,7 @@ module _ (setup : Setup) (first : TaskState) where
         subst (λ n. IsLogged setup first (log ++ g.0) next n) (sym stays) g.1,
         subst (ShowsStep setup task next (seen_by new.pass) g.0) (sym tells)
             (shows_step setup task next (seen_by new.pass) g.0 (what_of asked reply) asked reply same refl
-            (subst (λ d. Tells (what_of asked reply) asked reply (seen_by d.pass) g.0) (sym stays) g.2)
+            (subst (λ d. ShowsEvent (what_of asked reply) asked reply (seen_by d.pass) g.0) (sym stays) g.2)
             (λ spent. rests (subst (λ r. is_broken (answered setup task r) ≡ true) (sym spent) (spent_breaks_off setup task apart_task)))
             (λ stop. rests (stop_breaks setup task reply apart_task (subst (λ a. is_stop a reply ≡ true) same stop)))),
       )
@@ -199,12 +199,12 @@ module _ (setup : Setup) (first : TaskState) where
   asks stage log task next old new step is l idle a =
       let asked = request setup task in
       let g = one_ask stage log task old a.middle asked a.reply refl is l a.replied idle a.owed in
-      let to : LogGoesOn log next a.middle (Tells (what_of asked a.reply) asked a.reply (seen_by a.middle.pass)) =
+      let to : LogGoesOn log next a.middle (ShowsEvent (what_of asked a.reply) asked a.reply (seen_by a.middle.pass)) =
       (g.0, subst (λ t. IsLogged setup first (log ++ g.0) t a.middle) (sym a.goes_on) g.1, g.2) in
       elim a.follows [
         | inl told ↦ told_of log task next asked a.reply a.middle new step refl a.any a.goes_on to told.1 told.2
         | inr nothing ↦ in_vain log task next asked a.middle new step nothing.1.0
-            (subst (λ r. LogGoesOn log next a.middle (Tells (what_of asked r) asked r (seen_by a.middle.pass))) nothing.0 to) nothing.1.1 nothing.1.2
+            (subst (λ r. LogGoesOn log next a.middle (ShowsEvent (what_of asked r) asked r (seen_by a.middle.pass))) nothing.0 to) nothing.1.1 nothing.1.2
       ]
 
   look_call : (look : Request) → (look ≡ LookRound) ⊎ (look ≡ LookLeft) → (old new : DeskState) (reply : Reply) → DeskServes old look reply new

@@ -32,9 +32,9 @@ use Rattle.shared_objects.proofs.steps.GlanceStays.{event_struck, glance_struck,
 use Rattle.shared_objects.proofs.steps.BrokenRests.{broken_rests, stop_breaks, spent_breaks_off}
 
 -- what the calls for a request show of the event that it is, if it is one
-abbrev pub Tells : Option What → Request → Reply → ℕ → List Call → Type 0
-Tells None asked reply seen calls = events_in calls ≡ []
-Tells (Some what) asked reply seen calls = (call : Call) × (events_in calls ≡ call ∷ []) × (call.asked ≡ struck asked) × (call.told.reply ≡ reply)
+abbrev pub ShowsEvent : Option What → Request → Reply → ℕ → List Call → Type 0
+ShowsEvent None asked reply seen calls = events_in calls ≡ []
+ShowsEvent (Some what) asked reply seen calls = (call : Call) × (events_in calls ≡ call ∷ []) × (call.asked ≡ struck asked) × (call.told.reply ≡ reply)
     × IfSome call.told.drawn (λ n. n ≡ seen)
 
 -- a ticket is the last thing that its pass has seen
@@ -55,7 +55,7 @@ event_alone : (call : Call) (b : Bool) → is_event call.asked call.told.reply �
 event_alone call b is = ap (λ (e : Bool). cond e (call ∷ []) []) is
 
 pub tells_one : (told : Option What) (call : Call) (asked : Request) (reply : Reply) (seen : ℕ) → what_of asked reply ≡ told → call.asked ≡ struck asked
-    → call.told.reply ≡ reply → IfSome call.told.drawn (λ n. n ≡ seen) → Tells told asked reply seen (call ∷ [])
+    → call.told.reply ≡ reply → IfSome call.told.drawn (λ n. n ≡ seen) → ShowsEvent told asked reply seen (call ∷ [])
 tells_one None call asked reply seen is asks replies last = event_alone call false (same_event call asked reply asks replies ∙ ap is_some is)
 tells_one (Some what) call asked reply seen is asks replies last =
     (call, event_alone call true (same_event call asked reply asks replies ∙ ap is_some is), asks, replies, last)
@@ -65,7 +65,7 @@ pub quiet_first : (look : Call) (calls : List Call) → is_event look.asked look
 quiet_first look calls is = ap (λ (e : Bool). cond e (look ∷ events_in calls) (events_in calls)) is
 
 pub tells_further : (told : Option What) (look : Call) (asked : Request) (reply : Reply) (seen : ℕ) (calls : List Call) → is_event look.asked look.told.reply ≡ false
-    → Tells told asked reply seen calls → Tells told asked reply seen (look ∷ calls)
+    → ShowsEvent told asked reply seen calls → ShowsEvent told asked reply seen (look ∷ calls)
 tells_further None look asked reply seen calls quiet tells = quiet_first look calls quiet ∙ tells
 tells_further (Some what) look asked reply seen calls quiet tells = (tells.0, quiet_first look calls quiet ∙ tells.1, tells.2, tells.3, tells.4)
 
@@ -109,7 +109,7 @@ silent_shows setup task next seen calls (TakeSlip dev) (Missed used) none quiet 
 silent_shows setup task next seen calls asked reply none quiet spent stop = quiet
 
 pub shows_step : (setup : Setup) (task next : TaskState) (seen : ℕ) (calls : List Call) (told : Option What) (asked : Request) (reply : Reply) → asked ≡ request setup task
-    → what_of asked reply ≡ told → Tells told asked reply seen calls → (reply ≡ Spent → request setup next ≡ Rest) → (is_stop asked reply ≡ true → request setup next ≡ Rest)
+    → what_of asked reply ≡ told → ShowsEvent told asked reply seen calls → (reply ≡ Spent → request setup next ≡ Rest) → (is_stop asked reply ≡ true → request setup next ≡ Rest)
     → ShowsStep setup task next seen calls (step_by (id_of task) told (silent_step setup asked reply))
 shows_step setup task next seen calls None asked reply same is tells spent stop = silent_shows setup task next seen calls asked reply is tells spent stop
 shows_step setup task next seen calls (Some what) asked reply same is tells spent stop =

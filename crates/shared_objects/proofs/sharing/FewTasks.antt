@@ -11,7 +11,7 @@ use Rattle.stack_base.specs.declared.stack.Stack.{Stack}
 use Rattle.stack_base.specs.Stack.{IsStack}
 use Rattle.stack_base.specs.Tree.{shape_of, tree}
 use Rattle.layout_model.proofs.ByShape.{cuts_is, copies_is}
-use Rattle.decl_text.specs.Accepting.{what_of}
+use Rattle.decl_text.specs.Accepting.{what_of_kind}
 use Rattle.decl_text.specs.Fit.{HasReserves, IsFitStack}
 use Rattle.decl_text.proofs.Fits.{accepted_fit}
 use Rattle.run_machine.specs.Submissions.{rests}
@@ -51,7 +51,7 @@ right_of false b e = absurd (true≢false (sym e))
 
 -- a disk has no rescuer
 module _ (stack : Stack) (good : IsStack stack) (fit : IsFitStack stack) (number : ℕ) where
-  by_kind : (device : Device) → slice_get stack.devices.items number ≡ Some device → (kind : Kind) → device.kind ≡ kind → HasReserves (what_of kind) device.reserve device.rescuer
+  by_kind : (device : Device) → slice_get stack.devices.items number ≡ Some device → (kind : Kind) → device.kind ≡ kind → HasReserves (what_of_kind kind) device.reserve device.rescuer
       → device.rescuer ≡ true → keeps_data (tree stack number) ≡ true → ⊥
   by_kind device found (Disk sectors bad) e has rescuer keeps = clash device.rescuer rescuer has.1
   by_kind device found Linear e has rescuer keeps = clash (keeps_data (tree stack number)) keeps (ap keeps_data (cuts_is stack good number device found (ap shape_of e)))

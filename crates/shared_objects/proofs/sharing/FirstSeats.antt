@@ -4,16 +4,16 @@ use Rattle.seat_lock.specs.Seats.{LockId, SeatState}
 use Rattle.object_things.specs.Stamps.{CommonState, Held}
 use Rattle.shared_objects.specs.Guards.{guarded}
 use Rattle.shared_objects.specs.Opening.{IsFirstAt, guarded_row}
-use Rattle.shared_objects.specs.Rows.{Abreast, AbreastThree, IsOpened}
+use Rattle.shared_objects.specs.Rows.{Abreast, AbreastThree, IsLockOf}
 use Rattle.shared_objects.specs.Sharing.{AreRound}
 use Rattle.shared_objects.proofs.row_lemmas.AbreastRows.{first_two, last_two, of_made}
 
-module _ {K T A R : Type 0} (things : List (K × T)) (locks : List (K × LockId T)) (firsts : List (K × SeatState T A R)) (are : AbreastThree IsOpened things locks firsts) where
+module _ {K T A R : Type 0} (things : List (K × T)) (locks : List (K × LockId T)) (firsts : List (K × SeatState T A R)) (are : AbreastThree IsLockOf things locks firsts) where
   pub round_things : AreRound (λ thing. thing) things locks
-  round_things = first_two IsOpened things locks firsts are _ (λ thing lock first is. (is.keys.0, is.value))
+  round_things = first_two IsLockOf things locks firsts are _ (λ thing lock first is. (is.keys.0, is.value))
 
   pub firsts_of : Abreast (IsFirstAt 0) locks firsts
-  firsts_of = last_two IsOpened things locks firsts are (IsFirstAt 0) (λ thing lock first is. (is.keys.1 ∙ sym is.keys.0, is.first_is))
+  firsts_of = last_two IsLockOf things locks firsts are (IsFirstAt 0) (λ thing lock first is. (is.keys.1 ∙ sym is.keys.0, is.first_is))
 
 -- locks round things are round the objects that these were made of
 module _ {K O : Type 0} (common : CommonState) (objects : List (K × O)) (things : List (K × Held O)) (locks : List (K × LockId (Held O))) where

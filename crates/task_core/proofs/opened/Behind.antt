@@ -18,7 +18,7 @@ use Rattle.layout_model.specs.May.{bads_of, kind_bads}
 use Rattle.layout_model.specs.NeedCounts.{elements, nodes}
 use Rattle.layout_model.specs.Writes.{IsWrite}
 use Rattle.model_disks.specs.Disks.{IsBadRange}
-use Rattle.decl_text.specs.Accepting.{bad_of, shown_devices, what_of}
+use Rattle.decl_text.specs.Accepting.{bad_of, shown_devices, what_of_kind}
 use Rattle.decl_text.specs.Fit.{IsFitBad, IsFitStack}
 use Rattle.decl_text.specs.Known.{sectors_of}
 use Rattle.decl_text.specs.declared.accepted.Accepted.{Accepted}
@@ -107,7 +107,7 @@ bads_are stack good fit dev = by_found (slice_get stack.devices.items dev) refl
     by_found (Some device) q =
         subst (λ o. All (IsBadRange (size (tree stack dev))) (option_map_or (λ (d : Device). kind_bads d.kind) o [])) (sym q)
         (bads_by stack good dev device q device.kind refl
-        (All-weaker (Contains (bad_of device.kind)) (λ bad. IsFitBad (sectors_of (what_of device.kind)) bad) (λ bad in_it. fit.bad dev device bad q in_it)
+        (All-weaker (Contains (bad_of device.kind)) (λ bad. IsFitBad (sectors_of (what_of_kind device.kind)) bad) (λ bad in_it. fit.bad dev device bad q in_it)
         (bad_of device.kind) (All-contains_itself (bad_of device.kind))))
 
 -- writes

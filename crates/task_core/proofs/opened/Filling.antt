@@ -6,7 +6,7 @@ use Rattle.std.proofs.lemmas.List.{append-nil, get_or-set_same, get_or-set_other
 use Rattle.std.proofs.lemmas.List.Elements.{filter-append}
 use Rattle.std.proofs.lemmas.List.Folds.{find_at, find-append, position_or_len_push}
 use Rattle.std.proofs.lemmas.Option.{slice_get-get_or, none-some}
-use Rattle.task_core.specs.Tables.{is_entry_of, IsAt}
+use Rattle.task_core.specs.Tables.{is_entry_of, IsEntryAt}
 use Rattle.task_core.specs.opened.Filled.{AreMade, IsNext}
 use Rattle.task_core.proofs.NumberTests.{is_itself, is_apart, clash, lt_or}
 use Rattle.stack_base.proofs.ListLemmas.{range_more}
@@ -104,9 +104,9 @@ module _ {E : Type 0} (key : E → ℕ) (number : ℕ → ℕ) (is_used : ℕ �
           subst (λ j. (e : E) × (find (is_entry_of key (number j)) (entries ++ entry ∷ []) ≡ Some e) × IsMade j e) (sym last) (entry, now_found, made)
     ]
 
-    old_at : (i : ℕ) → i < n → is_used i ≡ true → IsAt key (set table (number n) (length entries)) (entries ++ entry ∷ []) (number i)
+    old_at : (i : ℕ) → i < n → is_used i ≡ true → IsEntryAt key (set table (number n) (length entries)) (entries ++ entry ∷ []) (number i)
     old_at i lt is =
-        let old : IsAt key table entries (number i) = all.entered i lt is in
+        let old : IsEntryAt key table entries (number i) = all.entered i lt is in
         let stays : get_or (set table (number n) (length entries)) (number i) 0 ≡ get_or table (number i) 0 =
         get_or-set_other table (number n) (number i) (length entries) 0 (apart i lt) in
         let there = old.there in
@@ -116,7 +116,7 @@ module _ {E : Type 0} (key : E → ℕ) (number : ℕ → ℕ) (is_used : ℕ �
           first = stays ∙ old.first ∙ sym (place_stays (is_entry_of key (number i)) entries entry (subst (λ k. k < length entries) old.first old.there));
         }
 
-    new_at : IsAt key (set table (number n) (length entries)) (entries ++ entry ∷ []) (number n)
+    new_at : IsEntryAt key (set table (number n) (length entries)) (entries ++ entry ∷ []) (number n)
     new_at =
         let now : get_or (set table (number n) (length entries)) (number n) 0 ≡ length entries =
         get_or-set_same table (number n) (length entries) 0 inside in
@@ -135,7 +135,7 @@ module _ {E : Type 0} (key : E → ℕ) (number : ℕ → ℕ) (is_used : ℕ �
           made = made_at;
           entered = λ i lt is. elim (below_or_last i n lt) [
             | inl before ↦ old_at i before is
-            | inr last ↦ subst (λ j. IsAt key (set table (number n) (length entries)) (entries ++ entry ∷ []) (number j)) (sym last) new_at
+            | inr last ↦ subst (λ j. IsEntryAt key (set table (number n) (length entries)) (entries ++ entry ∷ []) (number j)) (sym last) new_at
           ];
           no_other = λ k none.
               not_found (is_entry_of key k) entries entry (all.no_other k (λ i lt is. none i (omega (arith, lt)) is))

@@ -36,7 +36,7 @@ use Rattle.task_core.specs.Plains.{set_number, records_number, no_pool, list_num
 use Rattle.task_steps.specs.Routed.{Routing, places_at, routing_setup}
 use Rattle.run_machine.specs.Scene.{has_set}
 use Rattle.task_steps.specs.Stage.{Stage, IsServed}
-use Rattle.task_core.specs.Tables.{look_up, IsAt, AreAt}
+use Rattle.task_core.specs.Tables.{look_up, IsEntryAt, AreAt}
 use Rattle.run_machine.proofs.Frames.{pools_are_numbered}
 use Rattle.task_core.proofs.NumberTests.{lt_or, below_by, same_by, apart_by, and_parts}
 
@@ -176,13 +176,13 @@ module _ (routing : Routing) (good : IsStack routing.stack) (scripts : List (Poo
             let is : has_set (routing_setup routing) (number / 2) ≡ true = ap (has_set (routing_setup routing)) half ∙ used in cc
 
     sets_entered : (number : ℕ) (fs even : Bool) → (number == 65) ≡ fs → (number % 2 == 0) ≡ even
-        → (fs || even && has_set (routing_setup routing) (number / 2)) ≡ true → IsAt set_number table bios number
-    sets_entered number true even q r is = subst (IsAt set_number table bios) (sym (same_by number 65 q)) (all.entered 0 (omega arith) refl)
+        → (fs || even && has_set (routing_setup routing) (number / 2)) ≡ true → IsEntryAt set_number table bios number
+    sets_entered number true even q r is = subst (IsEntryAt set_number table bios) (sym (same_by number 65 q)) (all.entered 0 (omega arith) refl)
     sets_entered number false true q r is =
         let zero_left = same_by (number % 2) 0 r in
         let lt = set_below (number / 2) is in
         let whole : 2 * (number / 2) ≡ number = omega (arith, zero_left) in
-        subst (IsAt set_number table bios) whole (all.entered (suc (number / 2)) (omega (arith, lt)) is)
+        subst (IsEntryAt set_number table bios) whole (all.entered (suc (number / 2)) (omega (arith, lt)) is)
     sets_entered number false false q r is = absurd (cc_false is)
       where
         cc_false : false ≡ true → ⊥
@@ -211,11 +211,11 @@ module _ (routing : Routing) (good : IsStack routing.stack) (scripts : List (Poo
             let is : uses_slips routing (number / 2) ≡ true = ap (uses_slips routing) half ∙ used in cc
 
     slips_entered : (number : ℕ) (odd : Bool) → (number % 2 == 1) ≡ odd → (odd && uses_slips routing (number / 2)) ≡ true
-        → IsAt records_number table records number
+        → IsEntryAt records_number table records number
     slips_entered number true r is =
         let one_left = same_by (number % 2) 1 r in
         let whole : 2 * (number / 2) + 1 ≡ number = omega (arith, one_left) in
-        subst (IsAt records_number table records) whole (all.entered (number / 2) (slips_below (number / 2) is) is)
+        subst (IsEntryAt records_number table records) whole (all.entered (number / 2) (slips_below (number / 2) is) is)
     slips_entered number false r is = absurd (cc_false is)
       where
         cc_false : false ≡ true → ⊥

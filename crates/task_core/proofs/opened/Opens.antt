@@ -171,7 +171,7 @@ abbrev objects_by : Stack → (ℕ → ℕ) → List (PoolId × Answers) → Tal
 objects_by stack places scripts tally = record {
   pool = λ number. pool.opened (reserve_of stack (pool_of number)) (script_at scripts number);
   rescue = λ dev. [];
-  disk = λ dev. disk.opened (at dev) (size (tree stack dev)) (bads_of stack dev);
+  disk = λ dev. disk.blank_disk (at dev) (size (tree stack dev)) (bads_of stack dev);
   book = λ writer. record { writer = writer; nodes = replicate (places writer) None };
   tally = tally;
 }

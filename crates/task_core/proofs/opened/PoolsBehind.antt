@@ -18,9 +18,9 @@ use Rattle.stack_base.specs.Tree.{Shape, Keeps, Cuts, Copies, shape_of, size, tr
 use Rattle.layout_model.specs.May.{kind_bads}
 use Rattle.layout_model.proofs.ByShape.{cuts_is, copies_is, keeps_is}
 use Rattle.model_disks.specs.Disks.{IsBadRange}
-use Rattle.decl_text.specs.Accepting.{bad_of, shown, shown_devices, what_of}
+use Rattle.decl_text.specs.Accepting.{bad_of, shown, shown_devices, what_of_kind}
 use Rattle.decl_text.specs.Fit.{HasReserves, IsFitBad}
-use Rattle.decl_text.specs.Known.{Declared, bios_of, pool_if, records_of, sectors_of}
+use Rattle.decl_text.specs.Known.{Declared, bios_pool_of, pool_if, records_pool_of, sectors_of}
 use Rattle.decl_text.specs.declared.item.What.{What}
 use Rattle.work_text.specs.Fit.{IsPoolIn}
 use Rattle.run_machine.specs.Opened.{records_of as records_at}
@@ -31,7 +31,7 @@ use Rattle.task_steps.specs.Stage.{Stage, is_pool}
 use Rattle.task_core.proofs.NumberTests.{is_below}
 
 -- kinds
-pub kind_sets : (kind : Kind) (number : ℕ) (pool : PoolId) → bios_of number (what_of kind) ≡ Some pool → keeps (shape_of kind) ≡ false
+pub kind_sets : (kind : Kind) (number : ℕ) (pool : PoolId) → bios_pool_of number (what_of_kind kind) ≡ Some pool → keeps (shape_of kind) ≡ false
 kind_sets (Disk sectors bad) number pool e = absurd (none-some pool e)
 kind_sets Linear number pool e = refl
 kind_sets (Stripe chunk) number pool e = refl
@@ -39,7 +39,7 @@ kind_sets (Zoned chunk) number pool e = refl
 kind_sets (Limit longest chunk) number pool e = refl
 kind_sets (Mirror records) number pool e = refl
 
-pub kind_slips : (kind : Kind) (number : ℕ) (pool : PoolId) → records_of number (what_of kind) ≡ Some pool → copies_bios (shape_of kind) ≡ true
+pub kind_slips : (kind : Kind) (number : ℕ) (pool : PoolId) → records_pool_of number (what_of_kind kind) ≡ Some pool → copies_bios (shape_of kind) ≡ true
 kind_slips (Disk sectors bad) number pool e = absurd (none-some pool e)
 kind_slips Linear number pool e = absurd (none-some pool e)
 kind_slips (Stripe chunk) number pool e = absurd (none-some pool e)
@@ -47,7 +47,7 @@ kind_slips (Zoned chunk) number pool e = absurd (none-some pool e)
 kind_slips (Limit longest chunk) number pool e = absurd (none-some pool e)
 kind_slips (Mirror records) number pool e = refl
 
-pub bios_kept : (kind : Kind) (reserve : ℕ) (rescuer : Bool) → keeps (shape_of kind) ≡ false → HasReserves (what_of kind) reserve rescuer → 1 ≤ reserve
+pub bios_kept : (kind : Kind) (reserve : ℕ) (rescuer : Bool) → keeps (shape_of kind) ≡ false → HasReserves (what_of_kind kind) reserve rescuer → 1 ≤ reserve
 bios_kept (Disk sectors bad) reserve rescuer e fit = absurd (true≢false e)
 bios_kept Linear reserve rescuer e fit = fit.0
 bios_kept (Stripe chunk) reserve rescuer e fit = fit.0
@@ -55,7 +55,7 @@ bios_kept (Zoned chunk) reserve rescuer e fit = fit.0
 bios_kept (Limit longest chunk) reserve rescuer e fit = fit.0
 bios_kept (Mirror records) reserve rescuer e fit = fit.1.0
 
-pub slips_kept : (kind : Kind) (reserve : ℕ) (rescuer : Bool) → copies_bios (shape_of kind) ≡ true → HasReserves (what_of kind) reserve rescuer → 1 ≤ records_at kind
+pub slips_kept : (kind : Kind) (reserve : ℕ) (rescuer : Bool) → copies_bios (shape_of kind) ≡ true → HasReserves (what_of_kind kind) reserve rescuer → 1 ≤ records_at kind
 slips_kept (Disk sectors bad) reserve rescuer e fit = absurd (true≢false (sym e))
 slips_kept Linear reserve rescuer e fit = absurd (true≢false (sym e))
 slips_kept (Stripe chunk) reserve rescuer e fit = absurd (true≢false (sym e))
@@ -63,7 +63,7 @@ slips_kept (Zoned chunk) reserve rescuer e fit = absurd (true≢false (sym e))
 slips_kept (Limit longest chunk) reserve rescuer e fit = absurd (true≢false (sym e))
 slips_kept (Mirror records) reserve rescuer e fit = fit.0.0
 
-pub disks_keep_none : (kind : Kind) (reserve : ℕ) (rescuer : Bool) → keeps (shape_of kind) ≡ true → HasReserves (what_of kind) reserve rescuer → reserve ≡ 0
+pub disks_keep_none : (kind : Kind) (reserve : ℕ) (rescuer : Bool) → keeps (shape_of kind) ≡ true → HasReserves (what_of_kind kind) reserve rescuer → reserve ≡ 0
 disks_keep_none (Disk sectors bad) reserve rescuer e fit = fit.0
 disks_keep_none Linear reserve rescuer e fit = absurd (true≢false (sym e))
 disks_keep_none (Stripe chunk) reserve rescuer e fit = absurd (true≢false (sym e))
@@ -91,7 +91,7 @@ module _ (stack : Stack) (good : IsStack stack) (number : ℕ) (device : Device)
   mirror_by Cuts e = ap is_mirror (cuts_is stack good number device found e)
   mirror_by Copies e = ap is_mirror (copies_is stack good number device found e)
 
-  pub bads_by : (kind : Kind) → device.kind ≡ kind → All (λ bad. IsFitBad (sectors_of (what_of kind)) bad) (bad_of kind)
+  pub bads_by : (kind : Kind) → device.kind ≡ kind → All (λ bad. IsFitBad (sectors_of (what_of_kind kind)) bad) (bad_of kind)
       → All (IsBadRange (size (tree stack number))) (kind_bads kind)
   bads_by (Disk sectors bad) e all =
       let wide : size (tree stack number) ≡ sectors = ap size (keeps_is stack good number device found sectors (ap shape_of e)) in
@@ -105,7 +105,7 @@ module _ (stack : Stack) (good : IsStack stack) (number : ℕ) (device : Device)
 
 -- what a number is told to have is what the device with it has
 told_device : (own : ℕ → What → Option PoolId) (stack : Stack) (number : ℕ) (pool : PoolId) → pool_if own (shown_devices stack) number ≡ Some pool
-    → (device : Device) × (slice_get stack.devices.items number ≡ Some device) × (own number (what_of device.kind) ≡ Some pool)
+    → (device : Device) × (slice_get stack.devices.items number ≡ Some device) × (own number (what_of_kind device.kind) ≡ Some pool)
 told_device own stack number pool is = by_found (slice_get stack.devices.items number) refl
   where
     at_found : (o : Option Device) → slice_get stack.devices.items number ≡ o → option_and_then (λ (d : Declared). own number d.what) (option_map shown o) ≡ Some pool
@@ -113,21 +113,21 @@ told_device own stack number pool is = by_found (slice_get stack.devices.items n
         ap (option_and_then (λ (d : Declared). own number d.what)) (sym (slice_get-map shown stack.devices.items number ∙ ap (option_map shown) q)) ∙ is
 
     by_found : (o : Option Device) → slice_get stack.devices.items number ≡ o
-        → (device : Device) × (slice_get stack.devices.items number ≡ Some device) × (own number (what_of device.kind) ≡ Some pool)
+        → (device : Device) × (slice_get stack.devices.items number ≡ Some device) × (own number (what_of_kind device.kind) ≡ Some pool)
     by_found None q = absurd (none-some pool (at_found None q))
     by_found (Some device) q = (device, q, at_found (Some device) q)
 
 module _ (routing : Routing) (good : IsStack routing.stack) where
   set_in : (dev : DevId) → IsPoolIn (shown_devices routing.stack) (Bios dev) → has_set (routing_setup routing) dev.0 ≡ true
   set_in dev is =
-      let told = told_device bios_of routing.stack dev.0 (Bios dev) is in
+      let told = told_device bios_pool_of routing.stack dev.0 (Bios dev) is in
       let lt = slice_get_within routing.stack.devices.items dev.0 told.0 told.1 in
       let keeps_none = data_by routing.stack good dev.0 told.0 told.1 (shape_of told.0.kind) refl ∙ kind_sets told.0.kind dev.0 (Bios dev) told.2 in
       rw (is_below dev.0 (length routing.stack.devices.items) lt, keeps_none) refl
 
   slips_in : (dev : DevId) → IsPoolIn (shown_devices routing.stack) (Records dev) → uses_slips routing dev.0 ≡ true
   slips_in dev is =
-      let told = told_device records_of routing.stack dev.0 (Records dev) is in
+      let told = told_device records_pool_of routing.stack dev.0 (Records dev) is in
       let lt = slice_get_within routing.stack.devices.items dev.0 told.0 told.1 in
       let copies_all = mirror_by routing.stack good dev.0 told.0 told.1 (shape_of told.0.kind) refl ∙ kind_slips told.0.kind dev.0 (Records dev) told.2 in
       rw (is_below dev.0 (length routing.stack.devices.items) lt, copies_all) refl
@@ -186,11 +186,11 @@ pub number_small : (stack : Stack) → IsStack stack → (pool : PoolId) → IsP
 number_small stack good FsBios is = omega arith
 number_small stack good FsVecs is = omega arith
 number_small stack good (Bios dev) is =
-    let told = told_device bios_of stack dev.0 (Bios dev) is in
+    let told = told_device bios_pool_of stack dev.0 (Bios dev) is in
     let lt = slice_get_within stack.devices.items dev.0 told.0 told.1 in
     let few = good.few in omega (arith, lt, few)
 number_small stack good (Records dev) is =
-    let told = told_device records_of stack dev.0 (Records dev) is in
+    let told = told_device records_pool_of stack dev.0 (Records dev) is in
     let lt = slice_get_within stack.devices.items dev.0 told.0 told.1 in
     let few = good.few in omega (arith, lt, few)
 
@@ -199,10 +199,10 @@ pub of_stack : (stack : Stack) → IsStack stack → (pool : PoolId) → IsPoolI
 of_stack stack good FsBios is = tt
 of_stack stack good FsVecs is = tt
 of_stack stack good (Bios dev) is =
-    let told = told_device bios_of stack dev.0 (Bios dev) is in
+    let told = told_device bios_pool_of stack dev.0 (Bios dev) is in
     let lt = slice_get_within stack.devices.items dev.0 told.0 told.1 in
     let few = good.few in omega (arith, lt, few)
 of_stack stack good (Records dev) is =
-    let told = told_device records_of stack dev.0 (Records dev) is in
+    let told = told_device records_pool_of stack dev.0 (Records dev) is in
     let lt = slice_get_within stack.devices.items dev.0 told.0 told.1 in
     let few = good.few in omega (arith, lt, few)

@@ -16,7 +16,7 @@ use Rattle.stack_base.specs.declared.stack.Stack.{Stack}
 use Rattle.stack_base.specs.PoolId.{IsOfStack, pool_number}
 use Rattle.stack_base.specs.Stack.{IsStack}
 use Rattle.decl_text.specs.Accepting.{IsDeclaredSo, device_pools, pools, script_of, scripts_of, shown_devices}
-use Rattle.decl_text.specs.Known.{Declared, bios_of, nothing, pool_if, records_of}
+use Rattle.decl_text.specs.Known.{Declared, bios_pool_of, nothing, pool_if, records_pool_of}
 use Rattle.decl_text.specs.Refusals.{known_after}
 use Rattle.decl_text.specs.declared.item.What.{What}
 use Rattle.decl_text.specs.declared.item.What.TheVariants as what
@@ -42,11 +42,11 @@ device_in : (devices : List Declared) (number : ℕ) (device : Declared) → sli
     → All (IsPoolIn devices) (device_pools number does)
 device_in devices number device found does e = by_kind does e
   where
-    set : {does : What} → device.what ≡ does → pool_if bios_of devices number ≡ bios_of number does
-    set e = ap (option_and_then (λ (d : Declared). bios_of number d.what)) found ∙ ap (bios_of number) e
+    set : {does : What} → device.what ≡ does → pool_if bios_pool_of devices number ≡ bios_pool_of number does
+    set e = ap (option_and_then (λ (d : Declared). bios_pool_of number d.what)) found ∙ ap (bios_pool_of number) e
 
-    slips : {does : What} → device.what ≡ does → pool_if records_of devices number ≡ records_of number does
-    slips e = ap (option_and_then (λ (d : Declared). records_of number d.what)) found ∙ ap (records_of number) e
+    slips : {does : What} → device.what ≡ does → pool_if records_pool_of devices number ≡ records_pool_of number does
+    slips e = ap (option_and_then (λ (d : Declared). records_pool_of number d.what)) found ∙ ap (records_pool_of number) e
 
     by_kind : (does : What) → device.what ≡ does → All (IsPoolIn devices) (device_pools number does)
     by_kind (what.Disk sectors) e = All-nil (IsPoolIn devices)

@@ -143,12 +143,12 @@ no_event : {X : Type 0} (event : Event) (step : Step) → Stepped event ≡ step
 no_event event step e none = absurd (true≢false (ap is_event e ∙ none))
 
 -- a step that is told is told of the reply
-record IsTold (task : TaskId) (told : Option What) (event : Event) : Type 0 where
+record TellsReply (task : TaskId) (told : Option What) (event : Event) : Type 0 where
   by : event.task ≡ task
   what : told ≡ Some event.what
 
 told_by : (task : TaskId) (told : Option What) (silent : Step) (event : Event) → is_event silent ≡ false → Stepped event ≡ step_by task told silent
-    → IsTold task told event
+    → TellsReply task told event
 told_by task (Some what) silent event none e =
     let same : event ≡ record { task = task; what = what } = stepped_same event (record { task = task; what = what }) e in
     record { by = ap (λ (e : Event). e.task) same; what = ap (λ (e : Event). Some e.what) (sym same) }

@@ -11,7 +11,7 @@ use Rattle.bio_records.specs.Items.{Item, item_of, IsAlone}
 use Rattle.bio_records.specs.Rescue.{Rescue}
 use Rattle.bio_books.specs.Books.{BookState}
 use Rattle.bio_books.specs.Links.{Linked}
-use Rattle.bio_books.specs.Drops.{Ended, Drops}
+use Rattle.bio_books.specs.Drops.{DropOutcome, Drops}
 use Rattle.model_disks.specs.Disks.{DiskState}
 use Rattle.model_disks.specs.Moves.{pushed, Completes}
 use Rattle.task_core.specs.declared.plain.Plain.{Plain}
@@ -160,7 +160,7 @@ module _ (plain : Plain) (holds : Holds plain) (writer : ℕ) (is : IsTrue (has_
         kept_by plain (with_books plain i entry.0 x) (Link writer opening) (LinkedTo answer) holds (is, fits) refl
         (books_entered plain holds writer i is place entry value x) link_served
 
-  module _ (node : ℕ) (status : Status) (part : Option (Item Pad)) (fits : IsBioHome (stage_of plain) part) (ended : Ended)
+  module _ (node : ℕ) (status : Status) (part : Option (Item Pad)) (fits : IsBioHome (stage_of plain) part) (ended : DropOutcome)
       (drops : Drops entry.1 node status part ended x) where
     pub drop_served : Serves (stage_of plain).ledger (objects_of plain) (Drop writer node status part) (DroppedTo ended) (objects_of (with_books plain i entry.0 x))
     drop_served = (

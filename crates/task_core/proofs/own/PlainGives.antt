@@ -12,7 +12,7 @@ use Rattle.bio_records.specs.Items.{Item}
 use Rattle.bio_books.specs.Books.{VectorItem, SlipItem}
 use Rattle.task_core.specs.declared.plain.Plain.{Plain}
 use Rattle.run_machine.specs.Requests.{GiveBio, GiveVec, GiveSlip, Did}
-use Rattle.run_machine.specs.Objects.{PoolMoves, Serves}
+use Rattle.run_machine.specs.Objects.{MovesPool, Serves}
 use Rattle.task_steps.specs.Stage.{is_bios, is_vecs, is_slips, IsHome}
 use Rattle.task_core.specs.Plains.{pool_at, objects_of, stage_of, Holds}
 use Rattle.task_core.proofs.own.PlainLemmas.{kept_by, with_bios, with_records, with_vecs, bios_there, bios_entered, bios_move, bios_stage, records_there, records_entered, records_move, records_stage, vecs_entered, vecs_move, vecs_stage}
@@ -60,7 +60,7 @@ module _ (plain : Plain) (holds : Holds plain) (vector : VectorItem) (fits : IsH
 
   module _ (x : LedgerPool) (moves : pool.PoolMoves plain.vecs gives x) where
     pub vec_given : Serves (stage_of plain).ledger (objects_of plain) (GiveVec vector) Did (objects_of (with_vecs plain x))
-    vec_given = subst (λ n. PoolMoves (objects_of plain) n gives (objects_of (with_vecs plain x))) (sym numbered) (vecs_move plain x gives moves)
+    vec_given = subst (λ n. MovesPool (objects_of plain) n gives (objects_of (with_vecs plain x))) (sym numbered) (vecs_move plain x gives moves)
 
     pub vec_given_kept : Holds (with_vecs plain x) × (stage_of (with_vecs plain x) ≡ stage_of plain)
     vec_given_kept =

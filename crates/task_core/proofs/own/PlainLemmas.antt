@@ -9,7 +9,7 @@ use Rattle.stack_base.specs.Stack.{IsStack}
 use Rattle.mempool_core.specs.declared.Taken.{Taken}
 use Rattle.mempool_core.specs.declared.Taken.TheVariants as taken
 use Rattle.mempool_core.specs.Taken.{TakeOf}
-use Rattle.mempool_core.specs.Move.{Move, takes_ordinary, takes_spare, misses}
+use Rattle.mempool_core.specs.Move.{PoolMove, takes_ordinary, takes_spare, misses}
 use Rattle.mempool_core.specs.Pool.{LedgerPool}
 use Rattle.mempool_core.specs.Pool as pool
 use Rattle.bio_records.specs.Rescue.{Rescue}
@@ -19,7 +19,7 @@ use Rattle.task_core.specs.declared.plain.Plain.{Plain}
 use Rattle.run_machine.specs.Maps.{upd}
 use Rattle.task_core.specs.Tables.{look_up}
 use Rattle.run_machine.specs.Requests.{Request, Reply}
-use Rattle.run_machine.specs.Objects.{Objects, PoolMoves, Serves}
+use Rattle.run_machine.specs.Objects.{Objects, MovesPool, Serves}
 use Rattle.run_machine.specs.Opened.{at}
 use Rattle.task_steps.specs.Stage.{Stage, has_rescuer, has_disk, has_book, is_bios, is_slips, RequestFits, Owes}
 use Rattle.task_core.specs.ObjectsOf.{AreObjectsOf, AreNumbered}
@@ -69,7 +69,7 @@ owed_by old new request reply holds fits serves =
 
 -- a take is a move
 pub take_moves : {P : Type 0} (is_clear : P → Type 0) (old new : LedgerPool) (result : Taken P) → TakeOf is_clear old result new
-    → (move : Move) × pool.PoolMoves old move new
+    → (move : PoolMove) × pool.PoolMoves old move new
 take_moves is_clear old new (taken.Ordinary element) takes = (takes_ordinary, takes.0)
 take_moves is_clear old new (taken.Spare element) takes = (takes_spare, takes.0)
 take_moves is_clear old new (taken.Miss used) takes = (misses used, takes)
@@ -104,11 +104,11 @@ module _ (plain : Plain) (holds : Holds plain) (n i : ℕ) (is : IsTrue (is_bios
       order = holds.entered.order;
     }
 
-    module _ (move : Move) (moves : pool.PoolMoves entry.1 move x) where
+    module _ (move : PoolMove) (moves : pool.PoolMoves entry.1 move x) where
       bios_moves : pool.PoolMoves (pool_at plain n) move x
       bios_moves = subst (λ p. pool.PoolMoves p move x) bios_there moves
 
-      pub bios_move : PoolMoves (objects_of plain) n move (objects_of (with_bios plain i entry.0 x))
+      pub bios_move : MovesPool (objects_of plain) n move (objects_of (with_bios plain i entry.0 x))
       bios_move = moves_pool plain (with_bios plain i entry.0 x) n x bios_are refl refl move bios_moves
 
       pub bios_stage : stage_of (with_bios plain i entry.0 x) ≡ stage_of plain
@@ -144,25 +144,25 @@ module _ (plain : Plain) (holds : Holds plain) (n i : ℕ) (is : IsTrue (is_slip
       order = holds.entered.order;
     }
 
-    module _ (move : Move) (moves : pool.PoolMoves entry.1 move x) where
+    module _ (move : PoolMove) (moves : pool.PoolMoves entry.1 move x) where
       records_moves : pool.PoolMoves (pool_at plain n) move x
       records_moves = subst (λ p. pool.PoolMoves p move x) records_there moves
 
-      pub records_move : PoolMoves (objects_of plain) n move (objects_of (with_records plain i entry.0 x))
+      pub records_move : MovesPool (objects_of plain) n move (objects_of (with_records plain i entry.0 x))
       records_move = moves_pool plain (with_records plain i entry.0 x) n x records_are refl refl move records_moves
 
       pub records_stage : stage_of (with_records plain i entry.0 x) ≡ stage_of plain
       records_stage = stage_kept plain (with_records plain i entry.0 x) n x records_are refl refl move records_moves
 
 -- the pool of vectors
-module _ (plain : Plain) (x : LedgerPool) (move : Move) (moves : pool.PoolMoves plain.vecs move x) where
+module _ (plain : Plain) (x : LedgerPool) (move : PoolMove) (moves : pool.PoolMoves plain.vecs move x) where
   vecs_are : pool_at (with_vecs plain x) ≡ upd (pool_at plain) 64 x
   vecs_are =
       ap (λ (l : LedgerId). by_kind x (look_up set_number (λ e. e.1) (no_pool plain.stage.value.stack l) plain.bios.items)
       (look_up records_number (λ e. e.1) (no_pool plain.stage.value.stack l) plain.records.items)) moves.ledger
       ∙ vecs_change plain.vecs (bios_at plain) (records_at plain) x
 
-  pub vecs_move : PoolMoves (objects_of plain) 64 move (objects_of (with_vecs plain x))
+  pub vecs_move : MovesPool (objects_of plain) 64 move (objects_of (with_vecs plain x))
   vecs_move = moves_pool plain (with_vecs plain x) 64 x vecs_are refl refl move moves
 
   pub vecs_stage : stage_of (with_vecs plain x) ≡ stage_of plain

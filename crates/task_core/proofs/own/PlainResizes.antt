@@ -16,7 +16,7 @@ use Rattle.task_core.specs.declared.plain.Plain.{Plain}
 use Rattle.run_machine.specs.Maps.{upd}
 use Rattle.task_core.specs.Tables.{look_up}
 use Rattle.run_machine.specs.Requests.{Resize, OutIs}
-use Rattle.run_machine.specs.Objects.{Objects, PoolMoves, Serves}
+use Rattle.run_machine.specs.Objects.{Objects, MovesPool, Serves}
 use Rattle.task_steps.specs.Stage.{Stage, is_bios, is_slips, RequestFits}
 use Rattle.task_core.specs.Resizing.{Resizes}
 use Rattle.task_core.specs.Plains.{set_number, records_number, no_pool, by_kind, bios_at, records_at, pool_at, objects_of, stage_of, Holds}
@@ -26,7 +26,7 @@ use Rattle.task_core.proofs.own.PlainFacts.{set_is}
 use Rattle.task_core.proofs.NumberTests.{is_itself}
 
 -- a resize that was a move, or changed nothing, as what is served
-moved_so : (old new : Objects) (n min out : ℕ) → out ≡ 0 → PoolMoves old n (resizes min) new
+moved_so : (old new : Objects) (n min out : ℕ) → out ≡ 0 → MovesPool old n (resizes min) new
     → new ≡ (if out == 0 then record old { pool = upd old.pool n (after_move (old.pool n) (resizes min)) } else old)
 moved_so old new n min out zero move = rw (is_itself out 0 zero) (move.1)
 

@@ -1,7 +1,7 @@
 -- How objects of one kind are opened: one behind the other, each with its place in a table.
 use Rattle.std.specs.Prelude.{◌≡◌, ◌≢◌, ◌⊎◌, ◌<◌, ◌≤◌, ◌++◌, ℕ, Bool, true, false, List, [], ◌∷◌, length, map, filter, find, slice_set, Some, None}
 use Rattle.std.specs.List.{range_with_len}
-use Rattle.task_core.specs.Tables.{is_entry_of, IsAt}
+use Rattle.task_core.specs.Tables.{is_entry_of, IsEntryAt}
 
 -- Of the first indices up to a bound, each that is used has its entry, which is as it should be and stands where the table says; no other number
 -- has one, and entries stand in the order of indices.
@@ -10,7 +10,7 @@ pub record AreMade {E : Type 0} (key : E → ℕ) (number : ℕ → ℕ) (is_use
   pub few : length entries ≤ bound
   pub made : (index : ℕ) → index < bound → is_used index ≡ true
       → (entry : E) × (find (is_entry_of key (number index)) entries ≡ Some entry) × IsMade index entry
-  pub entered : (index : ℕ) → index < bound → is_used index ≡ true → IsAt key table entries (number index)
+  pub entered : (index : ℕ) → index < bound → is_used index ≡ true → IsEntryAt key table entries (number index)
   pub no_other : (other : ℕ) → ((index : ℕ) → index < bound → is_used index ≡ true → number index ≢ other)
       → find (is_entry_of key other) entries ≡ None
   pub order : map key entries ≡ map number (filter is_used (range_with_len 0 bound))

@@ -2,7 +2,7 @@
 ghost use Rattle.std.specs.Prelude.{◌≡◌, Option, None, Some};
 ghost use Rattle.bio_records.specs.Items.{item_of, IsAlone};
 ghost use Rattle.bio_books.specs.Books.{nothing_held};
-ghost use Rattle.bio_books.specs.Views.{bio_of, ended_of, IsDroppedAlone};
+ghost use Rattle.bio_books.specs.Views.{bio_of, drop_outcome_of, IsDroppedAlone};
 ghost use Rattle.run_machine.specs.declared.event.Breach.TheVariants as Breach';
 ghost use Rattle.run_machine.specs.declared.event.TaskId.TheVariants as TaskId';
 ghost use Rattle.run_machine.specs.declared.event.What.TheVariants as What';
@@ -63,8 +63,8 @@ impl Carried {
     ) -> Step
         requires empty { self.old ≡ Empty }
         requires alone { IsDroppedAlone dropped }
-        ensures carried { self.new ≡ after_drop writer node (ended_of dropped) }
-        ensures step { TellsDrop disk writer node status (ended_of dropped) result }
+        ensures carried { self.new ≡ after_drop writer node (drop_outcome_of dropped) }
+        ensures step { TellsDrop disk writer node status (drop_outcome_of dropped) result }
     {
         match dropped {
             Dropped::Left => drops(disk, writer, node, status, End::Left),

@@ -9,7 +9,7 @@ use Rattle.bio_records.specs.Items.{Item}
 use Rattle.bio_books.specs.declared.node.Role.{Role}
 use Rattle.bio_books.specs.declared.node.Role.TheVariants as role
 use Rattle.bio_books.specs.Books.{Node, BookState, SlipItem, node_at, with_node, parent_of, top_node, child_node, master_node, leg_node, keeping, raised, kept_with, closing, told, lowered}
-use Rattle.bio_books.specs.Drops.{Ended, DropsAt, Drops}
+use Rattle.bio_books.specs.Drops.{DropOutcome, DropsAt, Drops}
 use Rattle.bio_books.specs.Drops as end
 use Rattle.bio_books.specs.Links.{Made, IsVacant, ChainsAt, MastersAt, LegsAt}
 use Rattle.run_machine.specs.Maps.{upd}
@@ -235,7 +235,7 @@ module _ (to : Places) (writer : ℕ) (named : ℕ → Option ℕ) (opened : ℕ
   here = to writer
 
   -- what a book answers to a drop, by what it leaves of the names
-  abbrev Dropped : ℕ → Status → Option (Item Pad) → Ended → BookState → (ℕ → Option ℕ) → Type 0
+  abbrev Dropped : ℕ → Status → Option (Item Pad) → DropOutcome → BookState → (ℕ → Option ℕ) → Type 0
   Dropped key status part ended now names =
       (like : BookState) × (fresh : ℕ) × Drops other (here key) status (option_map (item_to to) part) (ended_to here fresh ended) like × BookAlike here names opened now like
 

@@ -10,7 +10,7 @@ use Rattle.bio_records.specs.declared.bio.Bio.{Bio}
 use Rattle.bio_records.specs.declared.bio.Pad.{Pad}
 use Rattle.bio_records.specs.declared.tasks.TaskLists.{TaskLists}
 use Rattle.bio_records.specs.Items.{Item}
-use Rattle.bio_records.specs.Sorting.{is_lower, is_same, is_of, is_of_other}
+use Rattle.bio_records.specs.Sorting.{is_lower, is_for_device, is_of, is_of_other}
 use Rattle.bio_lists.specs.Submission.{submitted, order}
 use Rattle.bio_lists.specs.Punt.{punted, unpunted}
 use Rattle.run_machine.specs.Scene.{Setup, tree_at}
@@ -36,11 +36,11 @@ module _ (to : Places) where
   pub order_to : (dev : DevId) (lists : TaskLists) → order dev (lists_to to lists) ≡ all (order dev lists)
   order_to dev lists =
       let low = filter_map (is_lower dev) (item_to to) (λ x. refl) lists.list0 in
-      let same = filter_map (is_same dev) (item_to to) (λ x. refl) lists.list0 in
-      ap (λ l. l ++ (filter (is_same dev) (all lists.list0) ++ all lists.list1)) low
+      let same = filter_map (is_for_device dev) (item_to to) (λ x. refl) lists.list0 in
+      ap (λ l. l ++ (filter (is_for_device dev) (all lists.list0) ++ all lists.list1)) low
       ∙ ap (λ l. all (filter (is_lower dev) lists.list0) ++ (l ++ all lists.list1)) same
-      ∙ ap (λ l. all (filter (is_lower dev) lists.list0) ++ l) (sym (map-append (item_to to) (filter (is_same dev) lists.list0) lists.list1))
-      ∙ sym (map-append (item_to to) (filter (is_lower dev) lists.list0) (filter (is_same dev) lists.list0 ++ lists.list1))
+      ∙ ap (λ l. all (filter (is_lower dev) lists.list0) ++ l) (sym (map-append (item_to to) (filter (is_for_device dev) lists.list0) lists.list1))
+      ∙ sym (map-append (item_to to) (filter (is_lower dev) lists.list0) (filter (is_for_device dev) lists.list0 ++ lists.list1))
 
   pub punted_to : (dev : DevId) (lists : TaskLists) → punted (Of dev) (lists_to to lists) ≡ all (punted (Of dev) lists)
   punted_to dev lists =

@@ -11,7 +11,7 @@ use Rattle.bio_records.specs.Items.{Item}
 use Rattle.bio_books.specs.declared.node.Role.{Role}
 use Rattle.bio_books.specs.declared.node.Role.TheVariants as role
 use Rattle.bio_books.specs.Books.{VectorItem, SlipItem, Holding, Node}
-use Rattle.bio_books.specs.Drops.{Closed, Ended}
+use Rattle.bio_books.specs.Drops.{Closed, DropOutcome}
 use Rattle.bio_books.specs.Drops as end
 use Rattle.bio_books.specs.Links.{Linked, Made, NoRoom, Stray}
 use Rattle.model_disks.specs.Disks.{DiskState}
@@ -140,7 +140,7 @@ linked_to to (Made place) = Made (to place)
 linked_to to (NoRoom back) = NoRoom back
 linked_to to (Stray back) = Stray back
 
-abbrev pub ended_to : (ℕ → ℕ) → ℕ → Ended → Ended
+abbrev pub ended_to : (ℕ → ℕ) → ℕ → DropOutcome → DropOutcome
 ended_to to gone end.Left = end.Left
 ended_to to gone (end.Up closed) = end.Up (closed_to to gone closed)
 ended_to to gone (end.Top closed) = end.Top (closed_to to gone closed)

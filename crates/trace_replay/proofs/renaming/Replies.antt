@@ -13,7 +13,7 @@ use Rattle.bio_records.specs.Items.{Item}
 use Rattle.bio_lists.specs.Submission.{submitted}
 use Rattle.bio_split.specs.Split.{split_front, split_rest}
 use Rattle.bio_books.specs.Books.{VectorItem, SlipItem}
-use Rattle.bio_books.specs.Drops.{Ended}
+use Rattle.bio_books.specs.Drops.{DropOutcome}
 use Rattle.bio_books.specs.Drops as end
 use Rattle.bio_books.specs.Links.{Made, NoRoom, Stray}
 use Rattle.run_machine.specs.declared.event.What.{What}
@@ -167,9 +167,9 @@ module _ (setup : Setup) (to : Places) (gone fresh : ℕ) (ledger : ℕ → Ledg
   abbrev CarriedGoes : Carried → ℕ → Reply → Type 0
   CarriedGoes carried writer reply = (rest : ℕ) × (carried_answered (carried_to to gone carried) (reply_to to writer fresh reply) ≡ carried_to to rest (carried_answered carried reply))
 
-  told_goes : (carried : Carried) (writer : ℕ) (node : ℕ) (status : Status) (part : Option (Item Pad)) (ended : Ended) → what_of (Drop writer node status part) (DroppedTo ended) ≡ Some event
-      → ((e : Ended) → carried_answered carried (DroppedTo e) ≡ after_drop writer node e)
-      → ((e : Ended) → carried_answered (carried_to to gone carried) (DroppedTo e) ≡ after_drop writer (to writer node) e)
+  told_goes : (carried : Carried) (writer : ℕ) (node : ℕ) (status : Status) (part : Option (Item Pad)) (ended : DropOutcome) → what_of (Drop writer node status part) (DroppedTo ended) ≡ Some event
+      → ((e : DropOutcome) → carried_answered carried (DroppedTo e) ≡ after_drop writer node e)
+      → ((e : DropOutcome) → carried_answered (carried_to to gone carried) (DroppedTo e) ≡ after_drop writer (to writer node) e)
       → CarriedGoes carried writer (DroppedTo ended)
   told_goes carried writer node status part end.Left is one other = (gone, other end.Left ∙ ap (carried_to to gone) (sym (one end.Left)))
   told_goes carried writer node status part (end.Up closed) is one other =

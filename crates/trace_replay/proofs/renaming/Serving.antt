@@ -13,7 +13,7 @@ use Rattle.bio_records.specs.declared.bio.Bio.{Bio}
 use Rattle.bio_records.specs.declared.bio.Pad.{Pad}
 use Rattle.bio_records.specs.Items.{Item}
 use Rattle.bio_books.specs.Books.{Node, BookState, VectorItem, SlipItem, node_at}
-use Rattle.bio_books.specs.Drops.{Ended, Drops, DropsAt}
+use Rattle.bio_books.specs.Drops.{DropOutcome, Drops, DropsAt}
 use Rattle.bio_books.specs.Drops as end
 use Rattle.bio_books.specs.Links.{IsVacant, Made, NoRoom, Stray, ChainsAt, MastersAt, LegsAt}
 use Rattle.model_disks.specs.Disks.{DiskState}
@@ -270,7 +270,7 @@ module _ (ledger : ℕ → LedgerId) (naming : (number : ℕ) → (ledger number
       )
 
   -- what is left of a drop
-  dropped : (writer key : ℕ) (status : Status) (part : Option (Item Pad)) (ended : Ended) (event : What) (named : ℕ → Option ℕ)
+  dropped : (writer key : ℕ) (status : Status) (part : Option (Item Pad)) (ended : DropOutcome) (event : What) (named : ℕ → Option ℕ)
       → now ≡ record one { book = upd one.book writer (now.book writer) }
       → (like : BookState) × (fresh : ℕ) × Drops (other.book writer) (to writer key) status (option_map (item_to to) part) (ended_to (to writer) fresh ended) like
       × BookAlike (to writer) named (names.opened writer) (now.book writer) like
@@ -299,7 +299,7 @@ module _ (ledger : ℕ → LedgerId) (naming : (number : ℕ) → (ledger number
   named_open writer key status end event node at told =
       subst (IsPlaced to names) (ap (λ o. unwrap_or o event) told) (ap (option_map (λ place. what.Drop writer place status end)) ((alike.books writer).names key node at))
 
-  drops : (writer key : ℕ) (status : Status) (part : Option (Item Pad)) (ended : Ended) (event : What) → Serves ledger one (Drop writer key status part) (DroppedTo ended) now
+  drops : (writer key : ℕ) (status : Status) (part : Option (Item Pad)) (ended : DropOutcome) (event : What) → Serves ledger one (Drop writer key status part) (DroppedTo ended) now
       → what_of (Drop writer key status part) (DroppedTo ended) ≡ Some event → Served (Drop writer key status part) (DroppedTo ended) event
   -- the node waits for others, and keeps its name
   drops writer key status part end.Left event serves told =

@@ -1,5 +1,5 @@
 use Rattle.std.proofs.Common.{rules, ◌≡◌, ◌<◌, ℕ, [], Some, None, length, get_or, sym, subst, arith, ap}
-use Rattle.run_merge.specs.Heads.{TakesHead, Stands, winner_of, rows}
+use Rattle.run_merge.specs.Heads.{TakesHead, IsTournamentAt, winner_of, rows}
 use Rattle.run_merge.proofs.tournament.Joined.{Joins, are_joined, joins_first, joins_on, less_left, places, rising_rows, rows_long}
 use Rattle.run_merge.proofs.tournament.Winner.{first_is}
 use Rattle.run_merge.proofs.joining.join_by_ticket.Goals as goal
@@ -7,7 +7,7 @@ use Rattle.run_merge.proofs.joining.join_by_ticket.Goals as goal
 -- src/joining.rt:25:5
 pub joining-init : goal.joining-init
 joining-init g c =
-    let s : Stands (rows c.args.lists.items) (λ list. 0) c.in_ok-heads.heads.items = search rules in
+    let s : IsTournamentAt (rows c.args.lists.items) (λ list. 0) c.in_ok-heads.heads.items = search rules in
     subst (Joins (rows c.args.lists.items) c.in_ok-heads.heads.items) (sym c.in_ok-joined.ensures.items)
     (joins_first (rows c.args.lists.items) (rising_rows c.args.lists.items c.requires.rises) c.in_ok-heads.heads.items s)
 

@@ -1,6 +1,6 @@
 -- What stands there, followed by the writes that are left, is the whole.
 use Rattle.std.proofs.Common.{◌≡◌, ◌≤◌, ◌+◌, ◌++◌, ◌-◌, ◌∷◌, ℕ}
-use Rattle.work_text.specs.Generated.{counts, runs, text_of, writes_from}
+use Rattle.work_text.specs.Generated.{counts, runs, text_of, words_of_runs}
 use Rattle.work_text.proofs.generator.add_writes.Given as goal
 
 abbrev pub invariant-loop-start : goal.invariant-loop-start
@@ -10,8 +10,8 @@ invariant-loop-start l = record {
   within : l.start ≤ l.sectors;
   numbered : l.number ≤ l.start;
   whole : (left : ℕ) → l.number + left ≡ l.sectors
-      → l.text.items ++ text_of (writes_from l.number (runs l.sectors l.start (l.count ∷ counts left l.words)))
-      ≡ l.fn.text.items ++ text_of (writes_from 0 (runs l.sectors 0 (counts (l.sectors + 1) l.fn.words)));
+      → l.text.items ++ text_of (words_of_runs l.number (runs l.sectors l.start (l.count ∷ counts left l.words)))
+      ≡ l.fn.text.items ++ text_of (words_of_runs 0 (runs l.sectors 0 (counts (l.sectors + 1) l.fn.words)));
 }
 
 abbrev pub decreases-loop-start : goal.decreases-loop-start

@@ -1,7 +1,7 @@
 -- Each device shows sectors of a disk, as many of both as the shorter stretch has.
 use Rattle.std.proofs.Common.{◌≡◌, ◌≤◌, not, length, arith}
 use Rattle.stack_base.specs.Tree.{size, tree}
-use Rattle.image_lanes.specs.Lanes.{is_same}
+use Rattle.image_lanes.specs.Lanes.{equal_words}
 use Rattle.model_disks.specs.Disks.{DiskState}
 use Rattle.mirror_scrub.proofs.SeenLemmas.{there_is, shows_one, low_one, within_one}
 use Rattle.mirror_scrub.proofs.pair.Pair.stretch.Goals as goal
@@ -36,7 +36,7 @@ returns c =
         low = omega (arith, one, low_one p.stack.now p.disks.now p.one.0 c.args.start _ here.result disk.result.now here.ensures disk.ensures pair.stack);
         also = omega (arith, other, low_one p.stack.now p.disks.now p.other.0 c.args.start _ there.result disk_there.result.now there.ensures disk_there.ensures pair.stack);
       };
-      same = λ i lt k. not (is_same
+      same = λ i lt k. not (equal_words
           (shows_one p.stack.now p.disks.now p.one.0 c.args.start _ here.result disk.result.now here.ensures disk.ensures i (omega (arith, lt, one)) k)
           (shows_one p.stack.now p.disks.now p.other.0 c.args.start _ there.result disk_there.result.now there.ensures disk_there.ensures i (omega (arith, lt, other)) k));
     }

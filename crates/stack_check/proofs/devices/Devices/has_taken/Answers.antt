@@ -1,7 +1,7 @@
 use Rattle.std.proofs.Common.{◌||◌, map, ap, subst, sym, ◌∙◌, length-set, arith}
 use Rattle.decl_text.specs.Known.{all_members, number_in}
 use Rattle.decl_text.specs.Checks.{is_among, repeats}
-use Rattle.stack_check.specs.Sound.{IsKept}
+use Rattle.stack_check.specs.Sound.{AreTalliedDevices}
 use Rattle.stack_check.proofs.Flags.{flag, any_agree_map, clash_more, clash_found, clash_none}
 use Rattle.stack_check.proofs.DeviceLemmas.{number_in_small}
 use Rattle.stack_check.proofs.devices.Devices.has_taken.Goals as goal
@@ -11,7 +11,7 @@ loop-name-init c =
     let devices = c.args.self.now in
     let names = c.args.names.now in
     let inside = c.self.inside in
-    let kept = subst (IsKept inside.sizes.items inside.taken inside.disks inside.sectors) c.self.view_is c.self.invariant in
+    let kept = subst (AreTalliedDevices inside.sizes.items inside.taken inside.disks inside.sectors) c.self.view_is c.self.invariant in
     record {
       room = kept.1.room;
       rest = ap (λ b. b || repeats (map (number_in devices) names))
