@@ -22,13 +22,13 @@ pub struct Few<T: Drop> {
 
 impl<T: Drop> Model for Few<T> {
     ghost use Rattle.std.specs.Prelude.{List, All};
-    ghost use Rattle.bio_workers.specs.Somes.{somes, There};
+    ghost use Rattle.bio_workers.specs.Somes.{somes, HoldsOne};
 
     ghost Value = { List T };
 
     ghost view = { λ f. somes f.slots.items };
 
-    ghost invariant = { λ f. All There f.slots.items };
+    ghost invariant = { λ f. All HoldsOne f.slots.items };
 }
 
 impl<T: Drop> Few<T> {

@@ -8,7 +8,7 @@ use Rattle.stack_base.specs.declared.stack.Device.{Device}
 use Rattle.stack_base.specs.declared.stack.Stack.{Stack}
 use Rattle.stack_base.specs.Tree.{size, Keeps, Copies, shape_of, tree}
 use Rattle.stack_base.specs.Stack.{IsStack}
-use Rattle.layout_model.specs.Way.{Fits, place, heads}
+use Rattle.layout_model.specs.Way.{FitsWay, place, heads}
 use Rattle.layout_model.proofs.ByShape.{copies_is, keeps_is, member_is}
 use Rattle.layout_model.proofs.MirrorLemmas.{leg_fits, leg_place}
 
@@ -21,12 +21,12 @@ module _ (stack : Stack) (good : IsStack stack) (number : ℕ) (device : Device)
     (copies : shape_of device.kind ≡ Copies) where
   -- a choice leads on where the others do so from its member
   fits_leg : (s choice : ℕ) (choices : List ℕ) (m : DevId) → slice_get device.members.items choice ≡ Some m
-      → Fits (tree stack m.0) s choices → Fits (tree stack number) s (choice ∷ choices)
-  unfolding Fits
+      → FitsWay (tree stack m.0) s choices → FitsWay (tree stack number) s (choice ∷ choices)
+  unfolding FitsWay
   fits_leg s choice choices m at_choice fits =
-      subst (λ t. Fits t s (choice ∷ choices)) (sym (copies_is stack good number device found copies)) (
+      subst (λ t. FitsWay t s (choice ∷ choices)) (sym (copies_is stack good number device found copies)) (
         omega (arith, slice_get_within device.members.items choice m at_choice, length-map device.members.items (λ (m : DevId). size (tree stack m.0))),
-        subst (λ t. Fits t s choices) (sym (member_is stack good number device found choice m at_choice)) fits,
+        subst (λ t. FitsWay t s choices) (sym (member_is stack good number device found choice m at_choice)) fits,
       )
 
   -- a mirror's own head is the start of the run
@@ -39,10 +39,10 @@ module _ (stack : Stack) (good : IsStack stack) (number : ℕ) (device : Device)
 
   -- the same by the first of a list of choices, and the others
   pub leg_asks : (s : ℕ) (choices : List ℕ) (m : DevId) → 1 ≤ length choices → slice_get device.members.items (get_or choices 0 0) ≡ Some m
-      → Fits (tree stack number) s choices ↔ Fits (tree stack m.0) s (take (length choices - 1) (drop 1 choices))
+      → FitsWay (tree stack number) s choices ↔ FitsWay (tree stack m.0) s (take (length choices - 1) (drop 1 choices))
   leg_asks s [] m some there = absurd (omega arith)
   leg_asks s (choice ∷ choices) m some there =
-      subst (λ others. Fits (tree stack number) s (choice ∷ choices) ↔ Fits (tree stack m.0) s others)
+      subst (λ others. FitsWay (tree stack number) s (choice ∷ choices) ↔ FitsWay (tree stack m.0) s others)
       (sym (take_all (length (choice ∷ choices) - 1) choices (omega arith)))
       (leg_fits stack good number device found copies s choice choices m there, fits_leg s choice choices m there)
 
@@ -60,11 +60,11 @@ module _ (stack : Stack) (good : IsStack stack) (number : ℕ) (device : Device)
 module _ (stack : Stack) (good : IsStack stack) (number : ℕ) (device : Device) (found : slice_get stack.devices.items number ≡ Some device)
     (sectors : ℕ) (keeps : shape_of device.kind ≡ Keeps sectors) where
   -- at a disk there is no choice
-  pub disk_asks : (s : ℕ) (choices : List ℕ) → Fits (tree stack number) s choices ↔ (length choices ≡ 0)
-  unfolding Fits
-  disk_asks s [] = (λ fits. refl, λ none. subst (λ t. Fits t s []) (sym (keeps_is stack good number device found sectors keeps)) refl)
+  pub disk_asks : (s : ℕ) (choices : List ℕ) → FitsWay (tree stack number) s choices ↔ (length choices ≡ 0)
+  unfolding FitsWay
+  disk_asks s [] = (λ fits. refl, λ none. subst (λ t. FitsWay t s []) (sym (keeps_is stack good number device found sectors keeps)) refl)
   disk_asks s (choice ∷ choices) = (
-    λ fits. let none = subst (λ t. Fits t s (choice ∷ choices)) (keeps_is stack good number device found sectors keeps) fits in ap length none,
+    λ fits. let none = subst (λ t. FitsWay t s (choice ∷ choices)) (keeps_is stack good number device found sectors keeps) fits in ap length none,
     λ none. absurd (omega arith),
   )
 

@@ -16,7 +16,7 @@ use Rattle.stack_base.proofs.Heads.{head_bounds}
 use Rattle.stack_base.proofs.Inside.{IsInside, kind_inside}
 use Rattle.stack_base.proofs.KindCuts.{kind_cuts}
 use Rattle.stack_base.proofs.Unfolded.{size-tree}
-use Rattle.layout_model.specs.Way.{Fits, place, heads}
+use Rattle.layout_model.specs.Way.{FitsWay, place, heads}
 use Rattle.layout_model.proofs.Over.{can_cut}
 use Rattle.layout_model.proofs.ByShape.{cuts_is, member_is}
 use Rattle.biostack_tests.specs.Slow.{IsStep}
@@ -39,8 +39,8 @@ module _ (head : ℕ → ℕ → ℕ) (next : ℕ → ℕ) (slot : ℕ → Slot)
 
 -- at a device that cuts, the same choices lead the sector on in its member
 asks_on : (number : ℕ) (kind : Kind) (sizes : List ℕ) (members : ℕ → Tree) (s : ℕ) (choices : List ℕ)
-    → Fits (Split number kind sizes members) s choices ↔ Fits (members (slot kind sizes s).member) (slot kind sizes s).at choices
-unfolding Fits
+    → FitsWay (Split number kind sizes members) s choices ↔ FitsWay (members (slot kind sizes s).member) (slot kind sizes s).at choices
+unfolding FitsWay
 asks_on number kind sizes members s choices = (λ fits. fits, λ fits. fits)
 
 -- to the same place
@@ -106,9 +106,9 @@ module _ (stack : Stack) (good : IsStack stack) (number : ℕ) (device : Device)
         inside = omega (arith, inside.1);
         before = omega (arith, ap (λ (to : Slot). to.at) along, ap (λ (to : Slot). to.at) is, ap (λ (to : Slot). to.at) lies);
         asks = λ choices.
-            subst (λ t. Fits (tree stack number) s choices ↔ Fits t at choices) leg (
-            subst (λ t. Fits t s choices ↔ Fits (members member) at choices) (sym whole) (
-            subst (λ (to : Slot). Fits (Split number device.kind sizes members) s choices ↔ Fits (members to.member) to.at choices) is
+            subst (λ t. FitsWay (tree stack number) s choices ↔ FitsWay t at choices) leg (
+            subst (λ t. FitsWay t s choices ↔ FitsWay (members member) at choices) (sym whole) (
+            subst (λ (to : Slot). FitsWay (Split number device.kind sizes members) s choices ↔ FitsWay (members to.member) to.at choices) is
             (asks_on number device.kind sizes members s choices)));
         leads = λ choices. ap (λ t. place t s choices) whole
             ∙ leads_on number device.kind sizes members s choices

@@ -2,7 +2,7 @@
 use Rattle.std.specs.Prelude.{◌≡◌, ◌↔◌, ◌<◌, ◌≤◌, ℕ, List, ◌∷◌, length}
 use Rattle.stack_base.specs.declared.stack.Stack.{Stack}
 use Rattle.stack_base.specs.Tree.{tree, size}
-use Rattle.layout_model.specs.Way.{Fits, place, heads}
+use Rattle.layout_model.specs.Way.{FitsWay, place, heads}
 use Rattle.biostack_tests.specs.declared.slow.Step.{Step}
 
 -- `to` is the step of sector `sector` from device `dev`, in a run from `start` on
@@ -14,7 +14,7 @@ pub record IsStep (stack : Stack) (dev start sector : ℕ) (to : Step) : Type 0 
   -- its piece begins there, not behind it
   pub before : to.start ≤ to.sector
   -- the sector's way goes on there
-  pub asks : (choices : List ℕ) → Fits (tree stack dev) sector choices ↔ Fits (tree stack to.dev.0) to.sector choices
+  pub asks : (choices : List ℕ) → FitsWay (tree stack dev) sector choices ↔ FitsWay (tree stack to.dev.0) to.sector choices
   pub leads : (choices : List ℕ) → place (tree stack dev) sector choices ≡ place (tree stack to.dev.0) to.sector choices
   -- and after the head of the device come those from there on
   pub goes_on : (choices : List ℕ) → heads (tree stack dev) start sector choices ≡ to.head ∷ heads (tree stack to.dev.0) to.start to.sector choices

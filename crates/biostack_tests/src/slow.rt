@@ -4,7 +4,7 @@ ghost use Rattle.std.specs.Prelude.{◌≡◌, ◌↔◌, ◌<◌, ◌≤◌, �
 ghost use Rattle.stack_base.specs.Mapping.{among, head, size_of, slot};
 ghost use Rattle.stack_base.specs.Stack.{HasShape, IsStack};
 ghost use Rattle.stack_base.specs.Tree.{Cuts, shape_of, size, tree};
-ghost use Rattle.layout_model.specs.Way.{Fits, heads, place};
+ghost use Rattle.layout_model.specs.Way.{FitsWay, heads, place};
 ghost use Rattle.biostack_tests.specs.Slow.{IsStep};
 
 use arrayvec::ArrayVec;
@@ -150,7 +150,7 @@ pub fn fits(stack: &Stack, dev: DevId, sector: u64, choices: &[u32]) -> bool
     requires stack { IsStack stack.now }
     requires device { dev.0 < length stack.now.devices.items }
     requires within { sector < size (tree stack.now dev.0) }
-    ensures { IsTrue result ↔ Fits (tree stack.now dev.0) sector choices.now }
+    ensures { IsTrue result ↔ FitsWay (tree stack.now dev.0) sector choices.now }
 {
     let device = stack.device(dev);
     match device.kind {
@@ -175,8 +175,8 @@ pub fn is_way(stack: &Stack, dev: DevId, sector: u64, choices: &[u32]) -> bool
     requires { IsStack stack.now }
     ensures known { IsTrue result → dev.0 < length stack.now.devices.items }
     ensures within { IsTrue result → sector < size (tree stack.now dev.0) }
-    ensures fits { IsTrue result → Fits (tree stack.now dev.0) sector choices.now }
-    ensures all { dev.0 < length stack.now.devices.items → sector < size (tree stack.now dev.0) → Fits (tree stack.now dev.0) sector choices.now → IsTrue result }
+    ensures fits { IsTrue result → FitsWay (tree stack.now dev.0) sector choices.now }
+    ensures all { dev.0 < length stack.now.devices.items → sector < size (tree stack.now dev.0) → FitsWay (tree stack.now dev.0) sector choices.now → IsTrue result }
 {
     (dev.0 as usize) < stack.devices.len()
         && sector < stack.size(dev)
@@ -203,7 +203,7 @@ pub fn walk(
     requires device { dev.0 < length stack.now.devices.items }
     requires in_run { start ≤ sector }
     requires within { sector < size (tree stack.now dev.0) }
-    requires fits { Fits (tree stack.now dev.0) sector choices.now }
+    requires fits { FitsWay (tree stack.now dev.0) sector choices.now }
     ensures heads { OnOk result (into.new.items ≡ into.old.items ++ heads (tree stack.now dev.0) start sector choices.now) }
     ensures place { IfOk result (λ to. place (tree stack.now dev.0) sector choices.now ≡ record { disk = to.0.0; at = to.1 }) }
 {

@@ -29,10 +29,11 @@ use Rattle.trace_replay.proofs.Exact.{from_start}
 use Rattle.biostack_top.specs.Replaying.{ComeTo, TellsReplay, replay_refusal}
 use Rattle.biostack_top.specs.Scene.{SaysBy}
 
--- the scenario of a text is refused as the text is, where that is not too long
-not_long : {X : Type 0} (n : ℕ) (long short : X) → n ≤ most_bytes → (if nat_lt most_bytes n then long else short) ≡ short
+-- a text that is not too long is refused, or is not, as its lines are
+pub not_long : {X : Type 0} (n : ℕ) (long short : X) → n ≤ most_bytes → (if nat_lt most_bytes n then long else short) ≡ short
 not_long n long short few = ap (λ b. if b then long else short) (le-ltb most_bytes n few)
 
+-- the scenario of a text is refused as the text is, where that is not too long
 pub refused_before : (text scenario events : List ℕ) (first : ℕ) → AreTextParts text scenario events first → length text ≤ most_bytes
     → replay_refusal text ≡ text_refusal_by true scenario
 refused_before text scenario events first parts few =

@@ -2,7 +2,6 @@
 use Rattle.std.proofs.Common.{◌≡◌, ◌<◌, ◌≤◌, ◌++◌, if◌then◌else◌, nat_lt, ℕ, Bool, true, false, List, [], ◌∷◌, length, map, None, Some, refl, sym, ap, ◌∙◌, subst, arith}
 use Rattle.std.specs.Prelude.{All, is_none}
 use Rattle.std.specs.List.{flat_map}
-use Rattle.std.proofs.lemmas.Bool.{le-ltb}
 use Rattle.std.proofs.lemmas.List.{length-map}
 use Rattle.stack_base.specs.declared.stack.Stack.{Stack}
 use Rattle.layout_model.specs.declared.write.Write.{Write}
@@ -37,13 +36,10 @@ use Rattle.biostack_top.specs.Running.{Maker}
 use Rattle.biostack_top.specs.Scene.{TextSays}
 use Rattle.biostack_top.specs.Tracing.{event_lines}
 use Rattle.biostack_top.proofs.LooseTexts.{loosely}
-use Rattle.biostack_top.proofs.ReplayLemmas.{read_loosely}
+use Rattle.biostack_top.proofs.ReplayLemmas.{not_long, read_loosely}
 use Rattle.biostack_top.proofs.RunningLemmas.{read_behind}
 use Rattle.biostack_top.proofs.SameRuns.{runs_too}
 use Rattle.biostack_top.proofs.SameWords.{all_too, same_line}
-
-not_long : {X : Type 0} (n : ℕ) (long short : X) → n ≤ most_bytes → (if nat_lt most_bytes n then long else short) ≡ short
-not_long n long short few = ap (λ b. if b then long else short) (le-ltb most_bytes n few)
 
 -- writes and changes are what was read of them
 abbrev write_of : Written → Write

@@ -23,7 +23,7 @@ use Rattle.run_machine.specs.Named.{FitsEvent, IsEventOf}
 use Rattle.serial_run.specs.Schedule.{FollowsSchedule}
 use Rattle.bio_workers.specs.Gates.{IsOfClosed, Showing}
 use Rattle.run_merge.specs.Entries.{Entry, entries_in}
-use Rattle.run_merge.specs.Merging.{all_of, without_tickets, sorted}
+use Rattle.run_merge.specs.Merging.{all_of, without_tickets, sorted_by_ticket}
 use Rattle.run_merge.specs.SharedObjects.{entry_histories}
 use Rattle.run_merge.specs.declared.outcome.Outcome.{Outcome}
 use Rattle.report_text.specs.CheckText.{steps_bound}
@@ -53,7 +53,7 @@ ledger_in shown = (stage_of shown.opened.objects).ledger
 
 -- what its histories come to: all their entries that carry a ticket, in the order of the tickets
 abbrev pub merged_in : Showing → List Entry
-merged_in shown = without_tickets (sorted (all_of (entry_histories shown.names shown.history)))
+merged_in shown = without_tickets (sorted_by_ticket (all_of (entry_histories shown.names shown.history)))
 
 -- It has made this run: the run follows the words of the number, and each event has numbers that fit its fields; or its
 -- entries are the merge of the histories that the gate was shown.

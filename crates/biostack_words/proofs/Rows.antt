@@ -6,7 +6,7 @@ use Rattle.std.specs.Prelude.{slice_get}
 use Rattle.std.specs.Str.{bytes_eq}
 use Rattle.clap.specs.Walk.{Row, Text, first_of, has_row, more_values, one_of, reading_by, row_text, with_default, with_values}
 use Rattle.clap.specs.declared.parser.matches.ValueSource.TheVariants.{DefaultValue}
-use Rattle.biostack_words.specs.Grammar.{Given, Kind, Setting, Word, given_in, has, is_setting_of, kind_word, place, seed, text, trace, setting_value, workers}
+use Rattle.biostack_words.specs.Grammar.{GivenWords, Kind, Setting, Word, given_in, has, is_setting_of, kind_word, place, seed, text, trace, setting_value, workers}
 use Rattle.biostack_words.specs.Reading.{IsSeen, flag_text}
 use Rattle.biostack_words.proofs.Parsing.{has_row_for, id_of, is_valued, row_for, rows_for, rule_for, rules}
 use Rattle.biostack_words.proofs.Uses.{neither, row_missing}
@@ -197,7 +197,7 @@ text_seen all =
     ∙ flag_seen text all (with_default (rows_for all) (rule_for trace)) refl refl (other_stays trace (id_of text) (rows_for all) refl refl)
 
 -- what is read of the rows of these settings is what they give
-pub seen_is : (all : List Setting) (seen : Given) → IsSeen (all_rows (rows_for all)) seen → seen ≡ given_in all
+pub seen_is : (all : List Setting) (seen : GivenWords) → IsSeen (all_rows (rows_for all)) seen → seen ≡ given_in all
 seen_is all seen is = λ i. record {
   seed = (is.seed ∙ value_seen seed all refl refl refl) i;
   workers = (is.workers ∙ value_seen workers all refl refl refl) i;

@@ -6,14 +6,14 @@ use Rattle.std.specs.Str.{bytes_eq}
 use Rattle.clap.specs.Walk.{Held, Row, Rule, Text, Walk, has_row, idle, option as for_option, reacted, settled, settled_rows, used}
 use Rattle.clap.specs.Kinds.{Kinds}
 use Rattle.clap.specs.Faults.{defaults_fault, settle_fault, default_fault, use_fault, walk_fault}
-use Rattle.biostack_words.specs.Grammar.{Given, Kind, Setting, Word, given_once, has, are_once, kind_word, place, seed, settings_from, text, trace, with_value, workers}
+use Rattle.biostack_words.specs.Grammar.{GivenWords, Kind, Setting, Word, given_once, has, are_once, kind_word, place, seed, settings_from, text, trace, with_value, workers}
 use Rattle.biostack_words.proofs.Parsing.{IsFlag, Takes, ends, fails, holding, id_of, is_valued, last, rows_for, rule_for, rules, standing, use_values}
 use Rattle.biostack_words.proofs.Uses.{Fits, first_use, has_on, one_more, or_no, or_yes, repeated, second_use}
 
 -- ---- what the parser says, by the grammar
 
 -- the settings so far are followed by those of the words, and no two are of one kind
-abbrev pub given_on : List Setting → Option (List Setting) → Option Given
+abbrev pub given_on : List Setting → Option (List Setting) → Option GivenWords
 given_on done rest = option_and_then (λ more. given_once (done ++ more)) rest
 
 -- both refuse, or both read the same

@@ -9,7 +9,7 @@ use Rattle.clap.specs.Kinds.{HasKind, IsAmong, Kinds}
 use Rattle.clap.specs.Values.{kind_of}
 use Rattle.clap.specs.declared.error.Error.{Error}
 use Rattle.clap.specs.declared.error.kind.ErrorKind.{ErrorKind}
-use Rattle.biostack_words.specs.Grammar.{WordForm, Given, Kind, Reading, Setting, Word, are_once, dashed, followed, form_of_word, given_by_words, given_in, given_once, is, is_dashed, is_dashed_form, option, plain, reading, settings, settings_from, value_reading, waits, wrong}
+use Rattle.biostack_words.specs.Grammar.{WordForm, GivenWords, Kind, Reading, Setting, Word, are_once, dashed, followed, form_of_word, given_by_words, given_in, given_once, is, is_dashed, is_dashed_form, option, plain, reading, settings, settings_from, value_reading, waits, wrong}
 use Rattle.biostack_words.specs.Reading.{IsSeen, ReadsGiven, fault_for}
 use Rattle.biostack_words.specs.Parser.{parser}
 use Rattle.biostack_words.specs.declared.WordFault.{WordFault}
@@ -31,7 +31,7 @@ given_of : (all : List Setting) (words : List Word) → settings words ≡ Some 
 given_of all words are once = ap (option_and_then given_once) are ∙ rw once refl
 
 -- no fault, and this is read of the rows
-pub read_is : (words : List Word) (seen : Given) → list_any is_dashed words ≡ false → fault_of parser words ≡ [] → IsSeen (matches_of parser words) seen → given_by_words words ≡ Some seen
+pub read_is : (words : List Word) (seen : GivenWords) → list_any is_dashed words ≡ false → fault_of parser words ≡ [] → IsSeen (matches_of parser words) seen → given_by_words words ≡ Some seen
 read_is words seen clear passes sees = go (parses words clear)
   where
     go : AgreesAt [] None first words → given_by_words words ≡ Some seen

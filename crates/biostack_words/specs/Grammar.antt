@@ -163,14 +163,14 @@ are_once [] = true
 are_once (setting ∷ more) = not (has setting.kind more) && are_once more
 
 -- what is given
-pub record Given : Type 0 where
+pub record GivenWords : Type 0 where
   pub seed : Option Word
   pub workers : Option Word
   pub trace : Bool
   pub text : Bool
   pub number : Option Word
 
-abbrev pub given_in : List Setting → Given
+abbrev pub given_in : List Setting → GivenWords
 given_in all = record {
   seed = setting_value seed all;
   workers = setting_value workers all;
@@ -179,10 +179,10 @@ given_in all = record {
   number = setting_value place all;
 }
 
-abbrev pub given_once : List Setting → Option Given
+abbrev pub given_once : List Setting → Option GivenWords
 given_once all = if are_once all then Some (given_in all) else None
 
-abbrev pub given_by_words : List Word → Option Given
+abbrev pub given_by_words : List Word → Option GivenWords
 given_by_words words = option_and_then given_once (settings words)
 
 -- ---- orders
@@ -200,7 +200,7 @@ order_by command.Scrub None None false false None = Some (order.Scrub 0)
 order_by command.Scrub (Some n) None false false None = option_map order.Scrub (number_of n)
 order_by _ _ _ _ _ _ = None
 
-abbrev pub order_of : Command → Given → Option Order
+abbrev pub order_of : Command → GivenWords → Option Order
 order_of command given = order_by command given.seed given.workers given.trace given.text given.number
 
 -- the order that the words give, where they give one

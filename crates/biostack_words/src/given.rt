@@ -31,7 +31,7 @@ pub(crate) struct Given<'a> {
 
 impl<'a> Model for Given<'a> {
     ghost use Rattle.std.specs.Option.{option_map};
-    ghost use Rattle.biostack_words.specs.Grammar.{Given as Shown};
+    ghost use Rattle.biostack_words.specs.Grammar.{GivenWords as Shown};
 
     ghost Value = { Shown };
 

@@ -15,9 +15,9 @@ pub struct Lines<'a> {
 
 impl<'a> Model for Lines<'a> {
     ghost use Rattle.std.specs.Prelude.{◌≤◌, length};
-    ghost use Rattle.decl_text.specs.Places.{At};
+    ghost use Rattle.decl_text.specs.Places.{TextPlace};
 
-    ghost Value = { At };
+    ghost Value = { TextPlace };
 
     ghost view = { λ lines. record { text = lines.text.now; place = lines.place } };
 

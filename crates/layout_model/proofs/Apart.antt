@@ -7,7 +7,7 @@ use Rattle.stack_base.specs.Mapping.{slot}
 use Rattle.stack_base.specs.Cutting.{next}
 use Rattle.stack_base.specs.Tree.{Tree, Leaf, Split, Mirrored}
 use Rattle.layout_model.specs.declared.fragment.Fragment.{Fragment}
-use Rattle.layout_model.specs.Way.{Fits, Place, place}
+use Rattle.layout_model.specs.Way.{FitsWay, Place, place}
 use Rattle.layout_model.specs.Fragments.{AreOther}
 use Rattle.layout_model.specs.Plan.{frags}
 use Rattle.layout_model.proofs.Sound.{Sound, cut_of_split, sound_piece, sound_leg}
@@ -29,8 +29,8 @@ Apart (Mirrored number sizes members) =
     ((j k disk : ℕ) → j < k → k < length sizes → HasDisk (members j) disk → HasDisk (members k) disk → ⊥) × ((k : ℕ) → Apart (members k))
 
 -- a way ends at a disk of the tree
-pub place_has : (t : Tree) (s : ℕ) (choices : List ℕ) → Fits t s choices → HasDisk t (place t s choices).disk
-unfolding Fits place HasDisk
+pub place_has : (t : Tree) (s : ℕ) (choices : List ℕ) → FitsWay t s choices → HasDisk t (place t s choices).disk
+unfolding FitsWay place HasDisk
 place_has (Leaf number sectors) s choices fits = refl
 place_has (Split number kind sizes members) s choices fits = ((slot kind sizes s).member, place_has (members (slot kind sizes s).member) (slot kind sizes s).at choices fits)
 place_has (Mirrored number sizes members) s [] fits = absurd fits

@@ -7,7 +7,7 @@ use Rattle.stack_base.specs.Cutting.{next, IsCut}
 use Rattle.stack_base.specs.Tree.{Tree, Leaf, Split, Mirrored}
 use Rattle.layout_model.specs.Need.{begun, needed, ended, fragments_of}
 use Rattle.layout_model.proofs.RangeSums.{sum_same, sum_of_zero, sum_of_first, sum_swapped}
-use Rattle.layout_model.proofs.Counted.{counted, total, total_piece, total_more, total_legs, counted_none}
+use Rattle.layout_model.proofs.Counted.{counted, run_total, total_piece, total_more, total_legs, counted_none}
 
 -- a run at a disk needs nothing besides its own bio
 pub needed_disk : (number sectors r len : ℕ) → needed (Leaf number sectors) r len ≡ 0
@@ -45,7 +45,7 @@ fragments_of_disk number sectors r len some = sum_of_first r len 1 some
 
 -- where a device cuts, no fragment begins but in a member
 fragments_of_split : (number : ℕ) (kind : Kind) (sizes : List ℕ) (members : ℕ → Tree) (r len : ℕ)
-    → fragments_of (Split number kind sizes members) r len ≡ total (counted (head kind sizes) (slot kind sizes) 0 (λ m. ended (members m))) r len
+    → fragments_of (Split number kind sizes members) r len ≡ run_total (counted (head kind sizes) (slot kind sizes) 0 (λ m. ended (members m))) r len
 unfolding ended fragments_of
 fragments_of_split number kind sizes members r len =
     sum_same (λ s. ended (members (slot kind sizes s).member) (slot kind sizes (head kind sizes r s)).at (slot kind sizes s).at)
@@ -70,7 +70,7 @@ unfolding fragments_of
 fragments_of_more number kind sizes members r len n cut is more =
     fragments_of_split number kind sizes members r len
     ∙ total_more (head kind sizes) (next kind sizes) (slot kind sizes) cut 0 (λ m. ended (members m)) r len n is more
-    ∙ ap (λ rest. total (ended (members (slot kind sizes r).member)) (slot kind sizes r).at n + rest)
+    ∙ ap (λ rest. run_total (ended (members (slot kind sizes r).member)) (slot kind sizes r).at n + rest)
     (zero-add _ ∙ sym (fragments_of_split number kind sizes members (r + n) (len - n)))
 
 -- a run at a mirror has the fragments of each member

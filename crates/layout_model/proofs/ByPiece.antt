@@ -8,7 +8,7 @@ use Rattle.stack_base.specs.Cutting.{next, IsCut}
 use Rattle.stack_base.specs.Piece.{IsPiece}
 use Rattle.stack_base.specs.Tree.{Tree, Split}
 use Rattle.stack_base.proofs.Pieces.{piece_len}
-use Rattle.layout_model.specs.Way.{Fits, place}
+use Rattle.layout_model.specs.Way.{FitsWay, place}
 use Rattle.layout_model.specs.Need.{needed, fragments_of}
 use Rattle.layout_model.specs.Shown.{shown_sector}
 use Rattle.layout_model.proofs.Begun.{needed_piece, needed_more, fragments_of_piece, fragments_of_more}
@@ -73,6 +73,6 @@ module _ (number : ℕ) (kind : Kind) (sizes : List ℕ) (members : ℕ → Tree
       ∙ ap (λ n. record { member = piece.member; at = piece.at + n }) (omega arith))
 
   -- by the same choices
-  pub fits_of_piece : (choices : List ℕ) → Fits (Split number kind sizes members) start choices → Fits (members piece.member) piece.at choices
-  unfolding Fits
-  fits_of_piece choices fits = subst (λ (to : Slot). Fits (members to.member) to.at choices) is.place fits
+  pub fits_of_piece : (choices : List ℕ) → FitsWay (Split number kind sizes members) start choices → FitsWay (members piece.member) piece.at choices
+  unfolding FitsWay
+  fits_of_piece choices fits = subst (λ (to : Slot). FitsWay (members to.member) to.at choices) is.place fits

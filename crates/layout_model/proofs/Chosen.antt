@@ -8,7 +8,7 @@ use Rattle.stack_base.specs.declared.stack.Device.{Device}
 use Rattle.stack_base.specs.declared.stack.Stack.{Stack}
 use Rattle.stack_base.specs.Tree.{size, Copies, shape_of, tree}
 use Rattle.stack_base.specs.Stack.{IsStack}
-use Rattle.layout_model.specs.Way.{Fits}
+use Rattle.layout_model.specs.Way.{FitsWay}
 use Rattle.layout_model.specs.Pieces.{IsChosen}
 use Rattle.layout_model.proofs.MirrorLemmas.{leg_size, leg_asked, leg_chosen, leg_fits, leg_place}
 
@@ -22,13 +22,13 @@ module _ (stack : Stack) (good : IsStack stack) (number : ℕ) (device : Device)
       (below, omega (arith, slice_get_within stack.devices.items number device found), leg_size stack good number device found copies k m at_k)
 
   -- there is a choice, and it is the place of a member
-  pub choice_there : (s : ℕ) (choices : List ℕ) → Fits (tree stack number) s choices
+  pub choice_there : (s : ℕ) (choices : List ℕ) → FitsWay (tree stack number) s choices
       → (1 ≤ length choices) × (get_or choices 0 0 < length device.members.items)
   choice_there s [] fits = absurd (leg_asked stack good number device found copies s fits)
   choice_there s (choice ∷ choices) fits = (omega arith, leg_chosen stack good number device found copies s choice choices fits)
 
   -- the member of the choice, and the other choices
-  pub chosen_is : (s : ℕ) (choices : List ℕ) (m : DevId) → Fits (tree stack number) s choices
+  pub chosen_is : (s : ℕ) (choices : List ℕ) (m : DevId) → FitsWay (tree stack number) s choices
       → slice_get device.members.items (get_or choices 0 0) ≡ Some m
       → IsChosen stack number s choices m (take (length choices - 1) (drop 1 choices))
   chosen_is s [] m fits there = absurd (leg_asked stack good number device found copies s fits)

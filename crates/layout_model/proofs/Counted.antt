@@ -31,8 +31,8 @@ abbrev pub counted : (ℕ → ℕ → ℕ) → (ℕ → Slot) → ℕ → (ℕ �
 counted head slot each inner r s = cut_at each (head r s) r s + inner (slot s).member (slot (head r s)).at (slot s).at
 
 -- and at all sectors of the run
-abbrev pub total : (ℕ → ℕ → ℕ) → ℕ → ℕ → ℕ
-total f r len = sum_by (λ s. f r s) (range_with_len r len)
+abbrev pub run_total : (ℕ → ℕ → ℕ) → ℕ → ℕ → ℕ
+run_total f r len = sum_by (λ s. f r s) (range_with_len r len)
 
 module _ (head : ℕ → ℕ → ℕ) (next : ℕ → ℕ) (slot : ℕ → Slot) (cut : IsCut head next slot) (each : ℕ) (inner : ℕ → ℕ → ℕ → ℕ) where
   -- at a sector of the first piece that is what counts in the member
@@ -54,40 +54,40 @@ module _ (head : ℕ → ℕ → ℕ) (next : ℕ → ℕ) (slot : ℕ → Slot)
       ∙ add_assoc (cond (q == s) each 0) _ _
 
   -- the sum over a first piece, or a part of it
-  total_here : (r n : ℕ) → r + n ≤ next r → total (counted head slot each inner) r n ≡ total (inner (slot r).member) (slot r).at n
+  total_here : (r n : ℕ) → r + n ≤ next r → run_total (counted head slot each inner) r n ≡ run_total (inner (slot r).member) (slot r).at n
   total_here r n within =
       sum_moved (counted head slot each inner r) (inner (slot r).member (slot r).at) r (slot r).at n (λ i lt.
       let on : r + i - r ≡ i = omega arith in
       counted_here r (r + i) (omega arith) (omega arith) ∙ ap (λ j. inner (slot r).member (slot r).at ((slot r).at + j)) on)
 
   -- the sum over what is behind the first piece
-  total_later : (r q len : ℕ) → q ≡ next r → 0 < len → sum_by (λ s. counted head slot each inner r s) (range_with_len q len) ≡ each + total (counted head slot each inner) q len
+  total_later : (r q len : ℕ) → q ≡ next r → 0 < len → sum_by (λ s. counted head slot each inner r s) (range_with_len q len) ≡ each + run_total (counted head slot each inner) q len
   total_later r q len is some =
       sum_moved (counted head slot each inner r) (λ s. cond (q == s) each 0 + counted head slot each inner q s) q q len
       (λ i lt. counted_later r q (q + i) is (omega arith))
       ∙ sum_of_two (λ s. cond (q == s) each 0) (counted head slot each inner q) (range_with_len q len)
-      ∙ ap (λ one. one + total (counted head slot each inner) q len) (sum_of_first q len each some)
+      ∙ ap (λ one. one + run_total (counted head slot each inner) q len) (sum_of_first q len each some)
 
   -- the sum over a run that is one piece
   pub total_piece : (r len n : ℕ) → n ≡ min (next r - r) len → n ≡ len
-      → total (counted head slot each inner) r len ≡ total (inner (slot r).member) (slot r).at len
+      → run_total (counted head slot each inner) r len ≡ run_total (inner (slot r).member) (slot r).at len
   total_piece r len n is whole = total_here r len (omega (arith, cut.ahead r))
 
   -- the sum over a run with more pieces
   pub total_more : (r len n : ℕ) → n ≡ min (next r - r) len → n < len
-      → total (counted head slot each inner) r len ≡ total (inner (slot r).member) (slot r).at n + (each + total (counted head slot each inner) (r + n) (len - n))
+      → run_total (counted head slot each inner) r len ≡ run_total (inner (slot r).member) (slot r).at n + (each + run_total (counted head slot each inner) (r + n) (len - n))
   total_more r len n is more =
       let ends : r + n ≡ next r = omega (arith, cut.ahead r) in
       let both : len ≡ n + (len - n) = omega arith in
-      ap (total (counted head slot each inner) r) both
+      ap (run_total (counted head slot each inner) r) both
       ∙ sum_joined (counted head slot each inner r) r n (len - n)
       ∙ ap (λ front. front + sum_by (counted head slot each inner r) (range_with_len (r + n) (len - n))) (total_here r n (omega arith))
-      ∙ ap (λ rest. total (inner (slot r).member) (slot r).at n + rest) (total_later r (r + n) (len - n) ends (omega arith))
+      ∙ ap (λ rest. run_total (inner (slot r).member) (slot r).at n + rest) (total_later r (r + n) (len - n) ends (omega arith))
 
 -- the sum over a run that a mirror copies: once where it begins, and in each member
 pub total_legs : (each : ℕ) (inner : ℕ → ℕ → ℕ → ℕ) (count r len : ℕ) → 0 < len
     → sum_by (λ s. cond (r == s) each 0 + sum_by (λ k. inner k r s) (range_with_len 0 count)) (range_with_len r len)
-    ≡ each + sum_by (λ k. total (inner k) r len) (range_with_len 0 count)
+    ≡ each + sum_by (λ k. run_total (inner k) r len) (range_with_len 0 count)
 total_legs each inner count r len some =
     sum_of_two (λ s. cond (r == s) each 0) (λ s. sum_by (λ k. inner k r s) (range_with_len 0 count)) (range_with_len r len)
     ∙ ap (λ one. one + sum_by (λ s. sum_by (λ k. inner k r s) (range_with_len 0 count)) (range_with_len r len)) (sum_of_first r len each some)

@@ -6,7 +6,7 @@ use Rattle.stack_base.specs.Mapping.{slot, head}
 use Rattle.stack_base.specs.Cutting.{next, IsCut}
 use Rattle.stack_base.specs.Tree.{Tree, Leaf, Split, Mirrored}
 use Rattle.layout_model.specs.declared.fragment.Fragment.{Fragment}
-use Rattle.layout_model.specs.Way.{Fits}
+use Rattle.layout_model.specs.Way.{FitsWay}
 use Rattle.layout_model.specs.Fragments.{IsIn}
 use Rattle.layout_model.specs.Plan.{frags}
 use Rattle.layout_model.specs.Laws.{FragmentsCover}
@@ -20,9 +20,9 @@ InSome : Tree → ℕ → ℕ → ℕ → ℕ → List ℕ → ℕ → Type 0
 InSome t write offset r len choices j = (f : Fragment) × IsIn t write offset r len choices j f
 
 -- at a disk the run is one fragment
-in_disk : (number sectors write offset r len j : ℕ) (choices : List ℕ) → j < len → Fits (Leaf number sectors) (r + j) choices
+in_disk : (number sectors write offset r len j : ℕ) (choices : List ℕ) → j < len → FitsWay (Leaf number sectors) (r + j) choices
     → InSome (Leaf number sectors) write offset r len choices j
-unfolding InSome Fits frags from_disk
+unfolding InSome FitsWay frags from_disk
 in_disk number sectors write offset r len j choices lt fits =
     let f : Fragment = record { write = write; offset = offset; len = len; disk = record { 0 = number }; at = r } in (
       f,
@@ -36,9 +36,9 @@ in_disk number sectors write offset r len j choices lt fits =
 
 -- where a run is copied, the fragment of the member that the first choice names
 module _ (number : ℕ) (sizes : List ℕ) (members : ℕ → Tree) (write offset r len j : ℕ) where
-  in_leg : (choices : List ℕ) → ((k : ℕ) (others : List ℕ) → Fits (members k) (r + j) others → InSome (members k) write offset r len others j)
-      → Fits (Mirrored number sizes members) (r + j) choices → InSome (Mirrored number sizes members) write offset r len choices j
-  unfolding InSome Fits from_leg
+  in_leg : (choices : List ℕ) → ((k : ℕ) (others : List ℕ) → FitsWay (members k) (r + j) others → InSome (members k) write offset r len others j)
+      → FitsWay (Mirrored number sizes members) (r + j) choices → InSome (Mirrored number sizes members) write offset r len choices j
+  unfolding InSome FitsWay from_leg
   in_leg [] below fits = absurd fits
   in_leg (k ∷ others) below fits =
       let found = below k others fits.1 in
@@ -88,8 +88,8 @@ module _ (number : ℕ) (kind : Kind) (sizes : List ℕ) (members : ℕ → Tree
 
   -- a sector of the first piece
   in_first : (write offset r len n j : ℕ) (choices : List ℕ) → n ≡ min (next kind sizes r - r) len → j < n
-      → ((k at : ℕ) → Fits (members k) (at + j) choices → InSome (members k) write offset at n choices j)
-      → Fits (Split number kind sizes members) (r + j) choices
+      → ((k at : ℕ) → FitsWay (members k) (at + j) choices → InSome (members k) write offset at n choices j)
+      → FitsWay (Split number kind sizes members) (r + j) choices
       → InSome (Split number kind sizes members) write offset r len choices j
   in_first write offset r len n j choices is early below fits =
       in_piece write offset r len n j choices is
@@ -97,21 +97,21 @@ module _ (number : ℕ) (kind : Kind) (sizes : List ℕ) (members : ℕ → Tree
       (subst (λ (X : Type 0). X) (fits_here number kind sizes members cut r j choices (omega arith)) fits))
 
 -- by the tree
-covered : (t : Tree) → Sound t → (write offset r len j : ℕ) (choices : List ℕ) → j < len → Fits t (r + j) choices → InSome t write offset r len choices j
+covered : (t : Tree) → Sound t → (write offset r len j : ℕ) (choices : List ℕ) → j < len → FitsWay t (r + j) choices → InSome t write offset r len choices j
 covered (Leaf number sectors) sound write offset r len j choices lt fits = in_disk number sectors write offset r len j choices lt fits
 covered (Split number kind sizes members) sound write offset r len j choices lt fits =
     let cut = cut_of_split number kind sizes members sound in
-    let below : (offset n j : ℕ) → j < n → (k at : ℕ) → Fits (members k) (at + j) choices → InSome (members k) write offset at n choices j =
+    let below : (offset n j : ℕ) → j < n → (k at : ℕ) → FitsWay (members k) (at + j) choices → InSome (members k) write offset at n choices j =
     λ offset n j lt k at fits. covered (members k) (sound_piece number kind sizes members sound k) write offset at n j choices lt fits in
     by_pieces (next kind sizes)
-    (λ r len. (offset j : ℕ) → j < len → Fits (Split number kind sizes members) (r + j) choices → InSome (Split number kind sizes members) write offset r len choices j)
+    (λ r len. (offset j : ℕ) → j < len → FitsWay (Split number kind sizes members) (r + j) choices → InSome (Split number kind sizes members) write offset r len choices j)
     cut.ahead
     (λ r len n is begins whole offset j lt fits.
     in_first number kind sizes members cut write offset r len n j choices is (omega arith) (below offset n j (omega arith)) fits)
     (λ r len n is begins more rest offset j lt fits. elim (cases_lt j n) [
       | inl early ↦ in_first number kind sizes members cut write offset r len n j choices is early (below offset n j early) fits
       | inr late ↦ in_rest number kind sizes members cut write offset r len n j choices is late
-          (rest (offset + n) (j - n) (omega arith) (subst (λ s. Fits (Split number kind sizes members) s choices) (omega arith) fits))
+          (rest (offset + n) (j - n) (omega arith) (subst (λ s. FitsWay (Split number kind sizes members) s choices) (omega arith) fits))
     ])
     r len (omega arith) offset j lt fits
 covered (Mirrored number sizes members) sound write offset r len j choices lt fits =

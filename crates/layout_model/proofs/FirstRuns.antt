@@ -13,7 +13,7 @@ use Rattle.stack_base.specs.Tree.{Cuts, shape_of, member_at, size, tree}
 use Rattle.stack_base.specs.Stack.{HasShape, IsStack}
 use Rattle.stack_base.proofs.KindCuts.{kind_cuts}
 use Rattle.stack_base.proofs.Unfolded.{size-tree}
-use Rattle.layout_model.specs.Way.{Fits, place}
+use Rattle.layout_model.specs.Way.{FitsWay, place}
 use Rattle.layout_model.specs.Need.{needed, fragments_of}
 use Rattle.layout_model.specs.Pieces.{IsFirstRun}
 use Rattle.layout_model.specs.Shown.{shown_sector}
@@ -89,6 +89,6 @@ module _ (stack : Stack) (good : IsStack stack) (number : ℕ) (device : Device)
         leads = λ choices. ap (λ t. place t start choices) whole
             ∙ place_of_piece number device.kind sizes members cut start len piece is choices
             ∙ ap (λ t. place t piece.at choices) leg;
-        asks = λ choices fits. subst (λ t. Fits t piece.at choices) leg
-            (fits_of_piece number device.kind sizes members cut start len piece is choices (subst (λ t. Fits t start choices) whole fits));
+        asks = λ choices fits. subst (λ t. FitsWay t piece.at choices) leg
+            (fits_of_piece number device.kind sizes members cut start len piece is choices (subst (λ t. FitsWay t start choices) whole fits));
       }

@@ -11,7 +11,7 @@ use Rattle.stack_base.specs.declared.stack.Stack.{Stack}
 use Rattle.stack_base.specs.Tree.{Tree, size, Keeps, Copies, shape_of, member_at, tree}
 use Rattle.stack_base.specs.Stack.{IsStack}
 use Rattle.stack_base.proofs.Smallest.{smallest_le}
-use Rattle.layout_model.specs.Way.{Fits, place}
+use Rattle.layout_model.specs.Way.{FitsWay, place}
 use Rattle.layout_model.specs.Need.{needed, fragments_of}
 use Rattle.layout_model.specs.Shown.{keeps_data, shown_sector}
 use Rattle.layout_model.proofs.RangeSums.{sum_next}
@@ -79,24 +79,24 @@ module _ (stack : Stack) (good : IsStack stack) (number : ℕ) (device : Device)
       )
 
   -- the way of a sector asks for a choice at a mirror
-  pub leg_asked : (s : ℕ) → Fits (tree stack number) s [] → ⊥
-  unfolding Fits
-  leg_asked s fits = subst (λ t. Fits t s []) (copies_is stack good number device found copies) fits
+  pub leg_asked : (s : ℕ) → FitsWay (tree stack number) s [] → ⊥
+  unfolding FitsWay
+  leg_asked s fits = subst (λ t. FitsWay t s []) (copies_is stack good number device found copies) fits
 
   -- the choice is the place of a member
-  pub leg_chosen : (s choice : ℕ) (choices : List ℕ) → Fits (tree stack number) s (choice ∷ choices) → choice < length device.members.items
-  unfolding Fits
+  pub leg_chosen : (s choice : ℕ) (choices : List ℕ) → FitsWay (tree stack number) s (choice ∷ choices) → choice < length device.members.items
+  unfolding FitsWay
   leg_chosen s choice choices fits =
-      let both = subst (λ t. Fits t s (choice ∷ choices)) (copies_is stack good number device found copies) fits in
+      let both = subst (λ t. FitsWay t s (choice ∷ choices)) (copies_is stack good number device found copies) fits in
       omega (arith, both.0, length-map device.members.items (λ (m : DevId). size (tree stack m.0)))
 
   -- the other choices lead the sector on from that member
   pub leg_fits : (s choice : ℕ) (choices : List ℕ) (m : DevId) → slice_get device.members.items choice ≡ Some m
-      → Fits (tree stack number) s (choice ∷ choices) → Fits (tree stack m.0) s choices
-  unfolding Fits
+      → FitsWay (tree stack number) s (choice ∷ choices) → FitsWay (tree stack m.0) s choices
+  unfolding FitsWay
   leg_fits s choice choices m at_choice fits =
-      subst (λ t. Fits t s choices) (member_is stack good number device found choice m at_choice)
-      (subst (λ t. Fits t s (choice ∷ choices)) (copies_is stack good number device found copies) fits).1
+      subst (λ t. FitsWay t s choices) (member_is stack good number device found choice m at_choice)
+      (subst (λ t. FitsWay t s (choice ∷ choices)) (copies_is stack good number device found copies) fits).1
 
   -- to the same place
   pub leg_place : (s choice : ℕ) (choices : List ℕ) (m : DevId) → slice_get device.members.items choice ≡ Some m

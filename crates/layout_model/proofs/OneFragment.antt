@@ -2,7 +2,7 @@
 use Rattle.std.proofs.Common.{◌≡◌, ℕ, ◌+◌, ◌-◌, ◌<◌, ◌≤◌, sym, ◌∙◌, ap, subst, arith}
 use Rattle.stack_base.specs.Tree.{Tree}
 use Rattle.layout_model.specs.declared.fragment.Fragment.{Fragment}
-use Rattle.layout_model.specs.Way.{Fits, Place, heads, place}
+use Rattle.layout_model.specs.Way.{FitsWay, Place, heads, place}
 use Rattle.layout_model.specs.Fragments.{IsFragmentOf, Together}
 
 module _ (t : Tree) (write offset r len : ℕ) (f g : Fragment) (h : IsFragmentOf t write offset r len f) (k : IsFragmentOf t write offset r len g) (same : h.choices ≡ k.choices)
@@ -19,7 +19,7 @@ module _ (t : Tree) (write offset r len : ℕ) (f g : Fragment) (h : IsFragmentO
 
   -- so what is together with one's is with the other's
   moves : (n : ℕ) → Together t r k.choices (r + k.from) (r + n) → Together t r h.choices (r + h.from) (r + n)
-  moves n both = record { fits = subst (Fits t (r + n)) (sym same) both.fits; same = ap (heads t r (r + n)) same ∙ both.same ∙ heads_same }
+  moves n both = record { fits = subst (FitsWay t (r + n)) (sym same) both.fits; same = ap (heads t r (r + n)) same ∙ both.same ∙ heads_same }
 
   -- and each sector of one is one of the other
   pub covered : (n : ℕ) → k.from ≤ n → n < k.from + g.len → (h.from ≤ n) × (n < h.from + f.len)

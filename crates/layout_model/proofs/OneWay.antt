@@ -15,7 +15,7 @@ use Rattle.stack_base.proofs.Smallest.{smallest_le}
 use Rattle.stack_base.proofs.Inside.{IsInside, kind_inside}
 use Rattle.stack_base.proofs.Unfolded.{tree_is}
 use Rattle.layout_model.specs.declared.write.Write.{Write}
-use Rattle.layout_model.specs.Way.{Fits, Place, place}
+use Rattle.layout_model.specs.Way.{FitsWay, Place, place}
 use Rattle.layout_model.specs.Fragments.{IsFragmentOf, IsIn}
 use Rattle.layout_model.specs.Laid.{Reaches}
 use Rattle.layout_model.specs.Writes.{IsWrite}
@@ -50,15 +50,15 @@ GoesOneWay (Mirrored number sizes members) =
     ((k : ℕ) → k < length sizes → smallest sizes ≤ size (members k)) × AreDisjoint (length sizes) members × ((k : ℕ) → GoesOneWay (members k))
 
 -- then a place tells the sector that goes there, and the choices
-pub one_way : (t : Tree) → GoesOneWay t → (s u : ℕ) (c d : List ℕ) → s < size t → u < size t → Fits t s c → Fits t u d → place t s c ≡ place t u d → (s ≡ u) × (c ≡ d)
-unfolding GoesOneWay Fits place
+pub one_way : (t : Tree) → GoesOneWay t → (s u : ℕ) (c d : List ℕ) → s < size t → u < size t → FitsWay t s c → FitsWay t u d → place t s c ≡ place t u d → (s ≡ u) × (c ≡ d)
+unfolding GoesOneWay FitsWay place
 one_way (Leaf number sectors) good s u c d lt lu fits fitu same = (ap (λ (p : Place). p.at) same, fits ∙ sym fitu)
 one_way (Split number kind sizes members) good s u c d lt lu fits fitu same = elim (cases_eq (slot kind sizes s).member (slot kind sizes u).member) [
   | inl one ↦
       let here = good.1 s lt in
       let there = good.1 u lu in
       let n : ℕ = (slot kind sizes s).member in
-      let fit : Fits (members n) (slot kind sizes u).at d = subst (λ m. Fits (members m) (slot kind sizes u).at d) (sym one) fitu in
+      let fit : FitsWay (members n) (slot kind sizes u).at d = subst (λ m. FitsWay (members m) (slot kind sizes u).at d) (sym one) fitu in
       let within : (slot kind sizes u).at < size (members n) = subst (λ m. (slot kind sizes u).at < size (members m)) (sym one) there.1 in
       let ends : place (members n) (slot kind sizes s).at c ≡ place (members n) (slot kind sizes u).at d =
       same ∙ ap (λ m. place (members m) (slot kind sizes u).at d) (sym one) in
@@ -74,7 +74,7 @@ one_way (Mirrored number sizes members) good s u [] d lt lu fits fitu same = abs
 one_way (Mirrored number sizes members) good s u (j ∷ c) [] lt lu fits fitu same = absurd fitu
 one_way (Mirrored number sizes members) good s u (j ∷ c) (k ∷ d) lt lu fits fitu same = elim (cases_eq j k) [
   | inl one ↦
-      let fit : Fits (members j) u d = subst (λ m. Fits (members m) u d) (sym one) fitu.1 in
+      let fit : FitsWay (members j) u d = subst (λ m. FitsWay (members m) u d) (sym one) fitu.1 in
       let ends : place (members j) s c ≡ place (members j) u d = same ∙ ap (λ m. place (members m) u d) (sym one) in
       let long = good.0 j fits.0 in
       let rest = one_way (members j) (good.2 j) s u c d (omega (arith, lt, long)) (omega (arith, lu, long)) fits.1 fit ends in
@@ -162,7 +162,7 @@ module _ (stack : Stack) (good : IsStack stack) where
       → (a.start + here.offset ≡ b.start + there.offset) × (here.choices ≡ there.choices)
   same_sector i j disk at a b served also dev here there =
       let t = tree stack a.dev.0 in
-      let fits : Fits t (b.start + there.offset) there.choices = subst (λ d. Fits (tree stack d) (b.start + there.offset) there.choices) (sym dev) there.fits in
+      let fits : FitsWay t (b.start + there.offset) there.choices = subst (λ d. FitsWay (tree stack d) (b.start + there.offset) there.choices) (sym dev) there.fits in
       let ends : place t (b.start + there.offset) there.choices ≡ record { disk = disk; at = at } =
       ap (λ d. place (tree stack d) (b.start + there.offset) there.choices) dev ∙ there.ends in
       let long : size t ≡ size (tree stack b.dev.0) = ap (λ d. size (tree stack d)) dev in

@@ -7,7 +7,7 @@ use Rattle.stack_base.specs.Mapping.{Slot, slot, head}
 use Rattle.stack_base.specs.Cutting.{next, IsCut}
 use Rattle.stack_base.specs.Tree.{Tree, Split}
 use Rattle.layout_model.specs.declared.fragment.Fragment.{Fragment}
-use Rattle.layout_model.specs.Way.{Fits, place, heads}
+use Rattle.layout_model.specs.Way.{FitsWay, place, heads}
 use Rattle.layout_model.specs.Fragments.{Together, IsFragmentOf}
 
 -- sectors that are equal as numbers are together alike
@@ -41,9 +41,9 @@ module _ (number : ℕ) (kind : Kind) (sizes : List ℕ) (members : ℕ → Tree
 
   -- the choices lead a sector of the first piece where they lead it in the member
   pub fits_here : (r j : ℕ) (choices : List ℕ) → r + j < next kind sizes r
-      → Fits (Split number kind sizes members) (r + j) choices ≡ Fits (members (slot kind sizes r).member) ((slot kind sizes r).at + j) choices
-  unfolding Fits
-  fits_here r j choices before = ap (λ (to : Slot). Fits (members to.member) to.at choices) (slot_here r j before)
+      → FitsWay (Split number kind sizes members) (r + j) choices ≡ FitsWay (members (slot kind sizes r).member) ((slot kind sizes r).at + j) choices
+  unfolding FitsWay
+  fits_here r j choices before = ap (λ (to : Slot). FitsWay (members to.member) to.at choices) (slot_here r j before)
 
   -- and they lead it to the same place
   pub place_here : (r j : ℕ) (choices : List ℕ) → r + j < next kind sizes r
@@ -162,7 +162,7 @@ module _ (number : ℕ) (kind : Kind) (sizes : List ℕ) (members : ℕ → Tree
           begins = omega (arith, h.begins);
           some = h.some;
           within = omega (arith, h.within, h.some);
-          fits = subst (λ s. Fits (Split number kind sizes members) s h.choices) first h.fits;
+          fits = subst (λ s. FitsWay (Split number kind sizes members) s h.choices) first h.fits;
           lies = ap (λ s. place (Split number kind sizes members) s h.choices) (sym first) ∙ h.lies;
           whole = λ j lt. elim (cases_lt j n) [
             | inl before ↦ (
@@ -194,7 +194,7 @@ module _ (number : ℕ) (kind : Kind) (sizes : List ℕ) (members : ℕ → Tree
           begins = omega (arith, h.begins);
           some = h.some;
           within = omega (arith, h.within);
-          fits = subst (λ s. Fits (Split number kind sizes members) s h.choices) (sym first) h.fits;
+          fits = subst (λ s. FitsWay (Split number kind sizes members) s h.choices) (sym first) h.fits;
           lies = ap (λ s. place (Split number kind sizes members) s h.choices) first ∙ h.lies;
           whole = λ j lt.
               let there : r + n + j ≡ r + (n + j) = omega arith in

@@ -8,7 +8,7 @@ use Rattle.stack_base.specs.Mapping.{slot}
 use Rattle.stack_base.specs.Cutting.{next}
 use Rattle.stack_base.specs.Tree.{Tree, Leaf, Split, Mirrored}
 use Rattle.layout_model.specs.declared.fragment.Fragment.{Fragment}
-use Rattle.layout_model.specs.Way.{Fits, Place, place, heads}
+use Rattle.layout_model.specs.Way.{FitsWay, Place, place, heads}
 use Rattle.layout_model.specs.Fragments.{Together, IsFragmentOf}
 use Rattle.layout_model.specs.Plan.{frags}
 use Rattle.layout_model.proofs.Sound.{Sound, cut_of_split, sound_piece, sound_leg}
@@ -23,7 +23,7 @@ AreExact t = (write offset r len : ℕ) → 0 < len → (f : Fragment) → Conta
 module _ (number sectors write offset r len : ℕ) (f : Fragment) where
   -- a run at a disk is one fragment
   unfoldable pub from_disk : 0 < len → Contains (frags (Leaf number sectors) write offset r len) f → IsFragmentOf (Leaf number sectors) write offset r len f
-  unfolding frags Fits heads place
+  unfolding frags FitsWay heads place
   from_disk some c =
       let is = contains_one _ f c in
       let disk : number ≡ f.disk.0 = sym (ap (λ (f : Fragment). f.disk.0) is) in
@@ -42,7 +42,7 @@ module _ (number sectors write offset r len : ℕ) (f : Fragment) where
 
   -- and it is that fragment
   in_disk : 0 < len → IsFragmentOf (Leaf number sectors) write offset r len f → Contains (frags (Leaf number sectors) write offset r len) f
-  unfolding frags Fits heads place
+  unfolding frags FitsWay heads place
   in_disk some h =
       let all : (j : ℕ) → j < len → (h.from ≤ j) × (j < h.from + f.len) = λ j lt. (h.whole j lt).0 (record { fits = h.fits; same = refl }) in
       let first : h.from ≡ 0 = omega (arith, all 0 some) in
@@ -55,7 +55,7 @@ module _ (number sectors write offset r len : ℕ) (f : Fragment) where
 module _ (number : ℕ) (sizes : List ℕ) (members : ℕ → Tree) (write offset r len : ℕ) (f : Fragment) where
   -- a fragment of a leg is one of the run
   unfoldable pub from_leg : (k : ℕ) → k < length sizes → IsFragmentOf (members k) write offset r len f → IsFragmentOf (Mirrored number sizes members) write offset r len f
-  unfolding Fits heads place
+  unfolding FitsWay heads place
   from_leg k lt h = record {
     from = h.from;
     choices = k ∷ h.choices;
@@ -73,11 +73,11 @@ module _ (number : ℕ) (sizes : List ℕ) (members : ℕ → Tree) (write offse
 
   -- a fragment of the run is one of the leg that the first choice names
   in_leg_of : (from : ℕ) (choices : List ℕ) → f.write ≡ write → f.offset ≡ offset + from → 0 < f.len → from + f.len ≤ len
-      → Fits (Mirrored number sizes members) (r + from) choices
+      → FitsWay (Mirrored number sizes members) (r + from) choices
       → place (Mirrored number sizes members) (r + from) choices ≡ record { disk = f.disk.0; at = f.at }
       → ((j : ℕ) → j < len → Together (Mirrored number sizes members) r choices (r + from) (r + j) ↔ ((from ≤ j) × (j < from + f.len)))
       → (k : ℕ) × (k < length sizes) × IsFragmentOf (members k) write offset r len f
-  unfolding Fits heads place
+  unfolding FitsWay heads place
   in_leg_of from [] of_write begins some within fits lies whole = absurd fits
   in_leg_of from (k ∷ choices) of_write begins some within fits lies whole = (
     k,

@@ -3,11 +3,11 @@ use Rattle.std.specs.Prelude.{◌≡◌, ◌↔◌, ◌+◌, ◌*◌, ◌^◌, �
 use Rattle.std.specs.List.Sorted.{IsStrictlyIncreasing}
 use Rattle.stack_base.specs.Tree.{Tree}
 use Rattle.layout_model.specs.declared.fragment.Fragment.{Fragment}
-use Rattle.layout_model.specs.Way.{Fits, place, heads}
+use Rattle.layout_model.specs.Way.{FitsWay, place, heads}
 
 -- the choices lead the other sector too, and its heads agree with those of s at every device of the way
 pub record Together (t : Tree) (r : ℕ) (choices : List ℕ) (s other : ℕ) : Type 0 where
-  pub fits : Fits t other choices
+  pub fits : FitsWay t other choices
   pub same : heads t r other choices ≡ heads t r s choices
 
 -- a fragment of the run of len sectors from r on, whose first sector has this offset in the write: some choices and the sectors
@@ -20,7 +20,7 @@ pub record IsFragmentOf (t : Tree) (write offset r len : ℕ) (f : Fragment) : T
   pub begins : f.offset ≡ offset + from
   pub some : 0 < f.len
   pub within : from + f.len ≤ len
-  pub fits : Fits t (r + from) choices
+  pub fits : FitsWay t (r + from) choices
   pub lies : place t (r + from) choices ≡ record { disk = f.disk.0; at = f.at }
   pub whole : (j : ℕ) → j < len → Together t r choices (r + from) (r + j) ↔ ((from ≤ j) × (j < from + f.len))
 

@@ -6,7 +6,7 @@ use Rattle.stack_base.specs.Tree.{tree}
 use Rattle.stack_base.specs.Words.{sector_data, zero_sector}
 use Rattle.layout_model.specs.declared.fragment.Fragment.{Fragment}
 use Rattle.layout_model.specs.declared.write.Write.{Write}
-use Rattle.layout_model.specs.Way.{Fits, place}
+use Rattle.layout_model.specs.Way.{FitsWay, place}
 use Rattle.layout_model.specs.Fragments.{IsIn}
 use Rattle.layout_model.specs.May.{fault_of}
 
@@ -17,7 +17,7 @@ pub record Reaches (stack : Stack) (write : Write) (number disk at : ℕ) : Type
   pub choices : List ℕ
   pub fragment : Fragment
   pub within : offset < write.count
-  pub fits : Fits (tree stack write.dev.0) (write.start + offset) choices
+  pub fits : FitsWay (tree stack write.dev.0) (write.start + offset) choices
   pub ends : place (tree stack write.dev.0) (write.start + offset) choices ≡ record { disk = disk; at = at }
   pub inside : IsIn (tree stack write.dev.0) number 0 write.start write.count choices offset fragment
 

@@ -11,7 +11,7 @@ use Rattle.stack_base.specs.Piece.{IsPiece}
 use Rattle.stack_base.specs.Tree.{Tree, Leaf, Split, Mirrored, tree}
 use Rattle.stack_base.specs.Stack.{IsStack}
 use Rattle.layout_model.specs.declared.fragment.Fragment.{Fragment}
-use Rattle.layout_model.specs.Way.{Fits, place, Step, way, heads}
+use Rattle.layout_model.specs.Way.{FitsWay, place, Step, way, heads}
 use Rattle.layout_model.specs.Fragments.{IsFragmentOf, IsIn, AreOther}
 use Rattle.layout_model.specs.Need.{needed, fragments_of}
 use Rattle.layout_model.specs.Plan.{Plan, Plans, Whole, Pieces, Legs, none, also, each, plan, frags, leaves, takes}
@@ -73,7 +73,7 @@ PlanFragmentsDiffer = (stack : Stack) (number write offset start len : ℕ) → 
 
 -- each sector of a run is in a fragment of the run, by whatever choices lead it
 abbrev pub FragmentsCover : Type 0
-FragmentsCover = (t : Tree) (write offset r len j : ℕ) (choices : List ℕ) → Sound t → j < len → Fits t (r + j) choices
+FragmentsCover = (t : Tree) (write offset r len j : ℕ) (choices : List ℕ) → Sound t → j < len → FitsWay t (r + j) choices
     → (f : Fragment) × IsIn t write offset r len choices j f
 
 -- the sectors of a fragment follow one another on its disk

@@ -4,7 +4,7 @@ use Rattle.stack_base.specs.declared.ids.DevId.{DevId}
 use Rattle.stack_base.specs.declared.stack.Stack.{Stack}
 use Rattle.stack_base.specs.Tree.{tree, size}
 use Rattle.layout_model.specs.declared.piece.FirstRun.{FirstRun}
-use Rattle.layout_model.specs.Way.{Fits, place}
+use Rattle.layout_model.specs.Way.{FitsWay, place}
 use Rattle.layout_model.specs.Need.{needed, fragments_of}
 use Rattle.layout_model.specs.Shown.{shown_sector}
 use Rattle.layout_model.specs.Plan.{frags}
@@ -33,7 +33,7 @@ pub record IsFirstRun (stack : Stack) (dev start len : ℕ) (to : FirstRun) : Ty
   pub shows : (i : ℕ) → i < to.len → shown_sector (tree stack dev) (start + i) ≡ shown_sector (tree stack to.dev.0) (to.at + i)
   -- the way of the first sector goes on there
   pub leads : (choices : List ℕ) → place (tree stack dev) start choices ≡ place (tree stack to.dev.0) to.at choices
-  pub asks : (choices : List ℕ) → Fits (tree stack dev) start choices → Fits (tree stack to.dev.0) to.at choices
+  pub asks : (choices : List ℕ) → FitsWay (tree stack dev) start choices → FitsWay (tree stack to.dev.0) to.at choices
 
 -- the first of `choices` sends a sector of a mirror on to `member`, and `others` are left for the way below
 pub record IsChosen (stack : Stack) (dev sector : ℕ) (choices : List ℕ) (member : DevId) (others : List ℕ) : Type 0 where
@@ -42,5 +42,5 @@ pub record IsChosen (stack : Stack) (dev sector : ℕ) (choices : List ℕ) (mem
   pub known : member.0 < length stack.devices.items
   pub inside : size (tree stack dev) ≤ size (tree stack member.0)
   -- the sector's way goes on there
-  pub fits : Fits (tree stack member.0) sector others
+  pub fits : FitsWay (tree stack member.0) sector others
   pub leads : place (tree stack dev) sector choices ≡ place (tree stack member.0) sector others

@@ -4,11 +4,11 @@ use Rattle.stack_base.specs.Mapping.{slot, head}
 use Rattle.stack_base.specs.Tree.{Tree, Leaf, Split, Mirrored}
 
 -- one choice for each mirror on the way of sector s, each the place of a member
-unfoldable pub Fits : Tree → ℕ → List ℕ → Type 0
-Fits (Leaf number sectors) s choices = choices ≡ []
-Fits (Split number kind sizes members) s choices = Fits (members (slot kind sizes s).member) (slot kind sizes s).at choices
-Fits (Mirrored number sizes members) s [] = ⊥
-Fits (Mirrored number sizes members) s (choice ∷ choices) = (choice < length sizes) × Fits (members choice) s choices
+unfoldable pub FitsWay : Tree → ℕ → List ℕ → Type 0
+FitsWay (Leaf number sectors) s choices = choices ≡ []
+FitsWay (Split number kind sizes members) s choices = FitsWay (members (slot kind sizes s).member) (slot kind sizes s).at choices
+FitsWay (Mirrored number sizes members) s [] = ⊥
+FitsWay (Mirrored number sizes members) s (choice ∷ choices) = (choice < length sizes) × FitsWay (members choice) s choices
 
 -- a sector of a disk
 pub record Place : Type 0 where

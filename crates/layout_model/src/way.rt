@@ -3,7 +3,7 @@ ghost use Rattle.std.specs.Prelude.{◌≡◌, ◌<◌, length, slice_get, Some}
 ghost use Rattle.stack_base.specs.Stack.{IsStack};
 ghost use Rattle.stack_base.specs.Tree.{Copies, shape_of, tree, size};
 ghost use Rattle.layout_model.specs.Pieces.{IsChosen};
-ghost use Rattle.layout_model.specs.Way.{Fits, place};
+ghost use Rattle.layout_model.specs.Way.{FitsWay, place};
 
 use crate::piece::first_piece;
 use stack_base::{DevId, Device, Kind, Stack};
@@ -19,7 +19,7 @@ fn chosen<'a>(
     requires stack { IsStack stack.now }
     requires found { slice_get stack.now.devices.items dev.0 ≡ Some device.now }
     requires copies { shape_of device.now.kind ≡ Copies }
-    requires fits { Fits (tree stack.now dev.0) sector choices.now }
+    requires fits { FitsWay (tree stack.now dev.0) sector choices.now }
     ensures { IsChosen stack.now dev.0 sector choices.now result.0 result.1.now }
 {
     (device.members[choices[0] as usize], &choices[1..])
@@ -32,7 +32,7 @@ pub fn place(stack: &Stack, dev: DevId, sector: u64, choices: &[u32]) -> (DevId,
     requires stack { IsStack stack.now }
     requires device { dev.0 < length stack.now.devices.items }
     requires within { sector < size (tree stack.now dev.0) }
-    requires fits { Fits (tree stack.now dev.0) sector choices.now }
+    requires fits { FitsWay (tree stack.now dev.0) sector choices.now }
     ensures { place (tree stack.now dev.0) sector choices.now ≡ record { disk = result.0.0; at = result.1 } }
 {
     let device = stack.device(dev);

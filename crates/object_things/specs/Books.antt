@@ -15,7 +15,7 @@ use Rattle.object_things.specs.declared.book.BookAsk.{BookAsk}
 use Rattle.object_things.specs.declared.book.BookAsk.TheVariants as ask
 use Rattle.object_things.specs.declared.book.BookSaid.{BookSaid}
 use Rattle.object_things.specs.declared.book.BookSaid.TheVariants as said
-use Rattle.object_things.specs.Stamps.{Held, MarkState, mark_of, Told, ThingState, ThingAnswers, PassBy, FindsNone, stage_in, is_spent, StampState, thing_state}
+use Rattle.object_things.specs.Stamps.{Stamped, MarkState, mark_of, Told, ThingState, ThingAnswers, PassBy, FindsNone, stage_in, is_spent, StampState, thing_state}
 
 abbrev pub book_asked : BookAsk → Request
 book_asked (ask.Link writer asked) = Link writer (opening_of asked)
@@ -65,5 +65,5 @@ pub record BookOwes (mark : MarkState) (asking : Asking BookAsk) (replied : Repl
   pub owed : Owes (stage_in mark.common) (book_asked asking.ask) (book_replied replied.said)
   pub says : BookSays asking.ask replied.said
 
-abbrev pub book_mark : Held BookState → MarkState
+abbrev pub book_mark : Stamped BookState → MarkState
 book_mark held = mark_of (OfBook held.object.writer) held

@@ -19,7 +19,7 @@ use Rattle.object_things.specs.declared.disk.DiskAsk.{DiskAsk}
 use Rattle.object_things.specs.declared.disk.DiskAsk.TheVariants as ask
 use Rattle.object_things.specs.declared.disk.DiskSaid.{DiskSaid}
 use Rattle.object_things.specs.declared.disk.DiskSaid.TheVariants as said
-use Rattle.object_things.specs.Stamps.{Held, MarkState, mark_of, Told, ThingState, ThingAnswers, PassBy, FindsNone, OnlyLooks, stage_in, is_spent, StampState, or_unmade, thing_state}
+use Rattle.object_things.specs.Stamps.{Stamped, MarkState, mark_of, Told, ThingState, ThingAnswers, PassBy, FindsNone, OnlyLooks, stage_in, is_spent, StampState, or_unmade, thing_state}
 
 -- a look at a disk asks to complete, too: it is told how many bios wait, and nothing is completed
 abbrev pub disk_asked : DiskAsk → Request
@@ -86,5 +86,5 @@ pub record DiskOwes (mark : MarkState) (asking : Asking DiskAsk) (replied : Repl
   pub pass : PassBy asking.pass replied.note (is_spent (disk_replied replied.said)) replied.drew replied.drawn.value replied.pass
   pub says : DiskSays (stage_in mark.common) asking.ask replied.said
 
-abbrev pub disk_mark : Held DiskState → MarkState
+abbrev pub disk_mark : Stamped DiskState → MarkState
 disk_mark held = mark_of (OfDisk held.object.dev.0) held

@@ -19,15 +19,15 @@ use Rattle.bio_books.specs.Links.{Made}
 use Rattle.bio_books.specs.Drops.{Up, Top}
 use Rattle.run_machine.specs.Objects.{TallyState}
 use Rattle.run_machine.specs.Requests.{Request, Reply, Punt, Pop, Push, Complete, Link, Drop, Done, Did, Popped, Completed, LinkedTo, DroppedTo}
-use Rattle.object_things.specs.Stamps.{Held, MarkState, ThingState, Told, thing_state}
+use Rattle.object_things.specs.Stamps.{Stamped, MarkState, ThingState, Told, thing_state}
 use Rattle.object_things.specs.Histories.{Call}
 
-module _ {O : Type 0} (mark : Held O → MarkState) (answers : ThingState O → Request → Told → ThingState O → Type 0) (adds_up : O → List Call → O → Type 0) where
+module _ {O : Type 0} (mark : Stamped O → MarkState) (answers : ThingState O → Request → Told → ThingState O → Type 0) (adds_up : O → List Call → O → Type 0) where
   -- An object as it was locked, its history and the object as it is now add up: along each history; and so at every moment of its lock, which is
   -- seen by the rule of the lock's table, where the object is at home.
   pub record AddsUpAtHome : Type 0 where
     pub along : (old new : ThingState O) (history : List Call) → Leads answers old history new → adds_up old.object history new.object
-    pub at_home : (key : Snapshot (Held O)) (table : State (Held O) (View (Held O) Request Told)) (kept : Held O)
+    pub at_home : (key : Snapshot (Stamped O)) (table : State (Stamped O) (View (Stamped O) Request Told)) (kept : Stamped O)
         → (turning : IsTurning (λ held. thing_state held.object held.stamp) mark answers key table) → table.homes ≡ some kept ∷ []
         → adds_up key.value.object turning.log kept.object
 

@@ -15,7 +15,7 @@ use Rattle.object_things.specs.declared.list.ListAsk.{ListAsk}
 use Rattle.object_things.specs.declared.list.ListAsk.TheVariants as ask
 use Rattle.object_things.specs.declared.list.ListSaid.{ListSaid}
 use Rattle.object_things.specs.declared.list.ListSaid.TheVariants as said
-use Rattle.object_things.specs.Stamps.{Held, MarkState, mark_of, Told, ThingState, ThingAnswers, PassBy, FindsNone, OnlyLooks, stage_in, is_spent, StampState, or_unmade, thing_state}
+use Rattle.object_things.specs.Stamps.{Stamped, MarkState, mark_of, Told, ThingState, ThingAnswers, PassBy, FindsNone, OnlyLooks, stage_in, is_spent, StampState, or_unmade, thing_state}
 
 abbrev pub list_asked : ListAsk → Request
 list_asked (ask.Punt dev moved) = Punt dev moved
@@ -64,5 +64,5 @@ pub record ListOwes (mark : MarkState) (asking : Asking ListAsk) (replied : Repl
   pub owed : Owes (stage_in mark.common) (list_asked asking.ask) (list_replied replied.said)
   pub says : ListSays asking.ask replied.said
 
-abbrev pub list_mark : Held Rescue → MarkState
+abbrev pub list_mark : Stamped Rescue → MarkState
 list_mark held = mark_of (OfRescuer held.object.dev.0) held

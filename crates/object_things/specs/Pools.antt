@@ -27,7 +27,7 @@ use Rattle.object_things.specs.declared.pool.PoolAsk.{PoolAsk}
 use Rattle.object_things.specs.declared.pool.PoolAsk.TheVariants as ask
 use Rattle.object_things.specs.declared.pool.PoolSaid.{PoolSaid}
 use Rattle.object_things.specs.declared.pool.PoolSaid.TheVariants as said
-use Rattle.object_things.specs.Stamps.{Held, MarkState, mark_of, Told, ThingState, ThingAnswers, PassBy, FindsNone, stage_in, is_spent, StampState, or_unmade, thing_state}
+use Rattle.object_things.specs.Stamps.{Stamped, MarkState, mark_of, Told, ThingState, ThingAnswers, PassBy, FindsNone, stage_in, is_spent, StampState, or_unmade, thing_state}
 
 -- a pool of the stage: its elements are of the ledger that the stage has for its number, and its reserve may be as large
 pub record IsPoolOf (stage : Stage) (pool : LedgerPool) : Type 0 where
@@ -175,7 +175,7 @@ module _ {P : Type 0} where
     pub pass : PassBy asking.pass replied.note (is_spent (pool_replied replied.said)) replied.drew replied.drawn.value replied.pass
     pub says : PoolSays is_clear ((stage_in mark.common).ledger (object_pool_number mark.name)) asking.ask replied.said
 
-abbrev pub pool_mark : Held LedgerPool → MarkState
+abbrev pub pool_mark : Stamped LedgerPool → MarkState
 pool_mark held = mark_of (OfPool held.object.ledger.no) held
 
 module _ {P : Type 0} where

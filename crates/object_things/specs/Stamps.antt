@@ -39,11 +39,11 @@ pub record StampState : Type 0 where
   pub common : CommonState
 
 -- an object with its stamp
-pub record Held (O : Type 0) : Type 0 where
+pub record Stamped (O : Type 0) : Type 0 where
   pub object : O
   pub stamp : StampState
 
-abbrev pub mark_of : {O : Type 0} → Object → Held O → MarkState
+abbrev pub mark_of : {O : Type 0} → Object → Stamped O → MarkState
 mark_of name held = record { common = held.stamp.common; name = name }
 
 -- the last ticket of the clock was drawn, or what the pass and the note had seen was as great

@@ -13,7 +13,7 @@ use Rattle.object_things.specs.declared.tally.TallyAsk.{TallyAsk}
 use Rattle.object_things.specs.declared.tally.TallyAsk.TheVariants as ask
 use Rattle.object_things.specs.declared.tally.TallySaid.{TallySaid}
 use Rattle.object_things.specs.declared.tally.TallySaid.TheVariants as said
-use Rattle.object_things.specs.Stamps.{Held, MarkState, mark_of, Told, ThingState, ThingAnswers, PassBy, FindsNone, stage_in, OnlyLooks, is_spent, StampState, or_unmade, thing_state}
+use Rattle.object_things.specs.Stamps.{Stamped, MarkState, mark_of, Told, ThingState, ThingAnswers, PassBy, FindsNone, stage_in, OnlyLooks, is_spent, StampState, or_unmade, thing_state}
 
 -- the numbers of the rounds behind the present one are as they were opened
 pub record IsLater (opened tally : TallyState) : Type 0 where
@@ -69,5 +69,5 @@ pub record TallyOwes (mark : MarkState) (asking : Asking TallyAsk) (replied : Re
   pub owed : Owes (stage_in mark.common) (tally_asked asking.ask) (tally_replied replied.said)
   pub says : TallySays asking.ask replied.said
 
-abbrev pub tally_mark : Held TallyState → MarkState
+abbrev pub tally_mark : Stamped TallyState → MarkState
 tally_mark held = mark_of OfTally held

@@ -74,12 +74,12 @@ impl Drop for BookThing {
 }
 
 impl Model for BookThing {
-    ghost use Rattle.object_things.specs.Stamps.{Held};
+    ghost use Rattle.object_things.specs.Stamps.{Stamped};
     ghost use Rattle.bio_books.specs.Books.{BookState};
     ghost use Rattle.task_core.specs.ObjectsOf.{IsBookOf};
     ghost use Rattle.object_things.specs.Stamps.{stage_in};
 
-    ghost Value = { Held BookState };
+    ghost Value = { Stamped BookState };
 
     ghost view = { λ t. record { object = t.book; stamp = t.stamp } };
 

@@ -63,12 +63,12 @@ impl Drop for DiskThing {
 }
 
 impl Model for DiskThing {
-    ghost use Rattle.object_things.specs.Stamps.{Held};
+    ghost use Rattle.object_things.specs.Stamps.{Stamped};
     ghost use Rattle.model_disks.specs.Disks.{DiskState};
     ghost use Rattle.object_things.specs.Stamps.{stage_in};
     ghost use Rattle.task_core.specs.ObjectsOf.{IsDiskOf};
 
-    ghost Value = { Held DiskState };
+    ghost Value = { Stamped DiskState };
 
     ghost view = { λ t. record { object = t.disk; stamp = t.stamp } };
 

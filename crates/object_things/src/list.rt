@@ -57,12 +57,12 @@ impl Drop for ListThing {
 }
 
 impl Model for ListThing {
-    ghost use Rattle.object_things.specs.Stamps.{Held};
+    ghost use Rattle.object_things.specs.Stamps.{Stamped};
     ghost use Rattle.bio_records.specs.Rescue.{Rescue};
     ghost use Rattle.object_things.specs.Stamps.{stage_in};
     ghost use Rattle.task_steps.specs.Stage.{AreServed};
 
-    ghost Value = { Held Rescue };
+    ghost Value = { Stamped Rescue };
 
     ghost view = { λ t. record { object = t.list; stamp = t.stamp } };
 

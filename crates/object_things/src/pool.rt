@@ -64,12 +64,12 @@ impl<P: Fresh + Drop> Drop for PoolThing<P> {
 }
 
 impl<P: Fresh + Drop> Model for PoolThing<P> {
-    ghost use Rattle.object_things.specs.Stamps.{Held};
+    ghost use Rattle.object_things.specs.Stamps.{Stamped};
     ghost use Rattle.mempool_core.specs.Pool.{LedgerPool};
     ghost use Rattle.object_things.specs.Pools.{IsPoolOf};
     ghost use Rattle.object_things.specs.Stamps.{stage_in};
 
-    ghost Value = { Held LedgerPool };
+    ghost Value = { Stamped LedgerPool };
 
     ghost view = { λ t. record { object = t.pool; stamp = t.stamp } };
 

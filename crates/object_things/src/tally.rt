@@ -63,14 +63,14 @@ impl Drop for TallyThing {
 }
 
 impl Model for TallyThing {
-    ghost use Rattle.object_things.specs.Stamps.{Held};
+    ghost use Rattle.object_things.specs.Stamps.{Stamped};
     ghost use Rattle.run_machine.specs.Objects.{TallyState};
     ghost use Rattle.object_things.specs.Tallies.{IsLater};
     ghost use Rattle.task_core.specs.ObjectsOf.{IsTallyOf};
     ghost use Rattle.object_things.specs.Stamps.{stage_in, opened_tally};
     ghost use Rattle.task_core.specs.Plains.{tally_of};
 
-    ghost Value = { Held TallyState };
+    ghost Value = { Stamped TallyState };
 
     ghost view = { λ t. record { object = tally_of t.tally; stamp = t.stamp } };
 

@@ -30,7 +30,7 @@ use Rattle.run_machine.specs.declared.event.What.TheVariants as what
 use Rattle.run_machine.specs.Scene.{Scene}
 use Rattle.run_machine.specs.Requests.{Request, Reply, Opening, TakeBio, TakeVec, TakeSlip, GiveBio, GiveVec, GiveSlip, Punt, Pop, Push, Complete, Link, Drop, Done, Resize, NextRound, LookRound, LookLeft, HadBio, HadVec, HadSlip, Missed, Did, Popped, Completed, LinkedTo, DroppedTo, OutIs, Present, LeftOver, Nothing}
 use Rattle.run_machine.specs.Tasks.{TaskState, request, look_of, lets}
-use Rattle.run_machine.specs.Objects.{Objects, Opened, Has, Serves}
+use Rattle.run_machine.specs.Objects.{Objects, Opened, TakesElement, Serves}
 use Rattle.run_machine.specs.Events.{id_of, pool_of, how_of, resize_of, what_of}
 use Rattle.run_machine.specs.Runs.{State, IsLet, Steps, IsEnabled}
 
@@ -94,12 +94,12 @@ pub record Can (scene : Scene) (old : State) (place : ℕ) (event : Event) : Typ
   pub sees : IsTrue (is_let old.objects (old.task place) (look_of (old.task place)))
   pub needs : Needs old.objects (request scene.setup (old.task place)) event.what
 
-has_take : (old new : Objects) (number : ℕ) (got : Got) → Has old number got new → CanTake (old.pool number) got
+has_take : (old new : Objects) (number : ℕ) (got : Got) → TakesElement old number got new → CanTake (old.pool number) got
 has_take old new number got.Ordinary has = has.0
 has_take old new number got.Spare has = has.0
 has_take old new number got.Missed has = absurd has
 
-has_try : (old new : Objects) (number : ℕ) (got : Got) → Has old number got new → CanTry (old.pool number) got
+has_try : (old new : Objects) (number : ℕ) (got : Got) → TakesElement old number got new → CanTry (old.pool number) got
 has_try old new number got.Ordinary has = has.0
 has_try old new number got.Spare has = has.0
 has_try old new number got.Missed has = absurd has

@@ -21,7 +21,7 @@ use Rattle.run_machine.specs.declared.event.Got.TheVariants.{Ordinary, Spare}
 use Rattle.run_machine.specs.declared.event.Got.TheVariants as got
 use Rattle.run_machine.specs.Maps.{upd}
 use Rattle.run_machine.specs.Requests.{Request, Reply, Opening, Write, Chain, Master, Leg, TakeBio, TakeVec, TakeSlip, GiveBio, GiveVec, GiveSlip, Punt, Pop, Push, Complete, Link, Drop, Done, Resize, NextRound, LookRound, LookLeft, HadBio, HadVec, HadSlip, Missed, Did, Popped, Completed, LinkedTo, DroppedTo, OutIs, Present, LeftOver, Nothing}
-use Rattle.run_machine.specs.Objects.{Objects, Has, Opened, Serves}
+use Rattle.run_machine.specs.Objects.{Objects, TakesElement, Opened, Serves}
 use Rattle.run_machine.specs.Events.{take_of, miss_of, link_of, drop_of, what_of}
 
 -- what an event tells of a reply
@@ -69,13 +69,13 @@ take_got true pool from = refl
 take_got false pool from = refl
 
 -- a take that had an element did not miss
-had_no_miss : {P : Type 0} (old new : Objects) (number : ℕ) (from : Got) → Has old number from new → from ≡ got.Missed → P
+had_no_miss : {P : Type 0} (old new : Objects) (number : ℕ) (from : Got) → TakesElement old number from new → from ≡ got.Missed → P
 had_no_miss old new number Ordinary has is = absurd (let e : Ordinary ≡ got.Missed = is in cc)
 had_no_miss old new number Spare has is = absurd (let e : Spare ≡ got.Missed = is in cc)
 had_no_miss old new number got.Missed has is = absurd has
 
 -- and an element that it had is as the ledger's pool hands it out
-one_had : (old new other : Objects) (number : ℕ) (from : Got) → Has old number from new → Has old number from other → new ≡ other
+one_had : (old new other : Objects) (number : ℕ) (from : Got) → TakesElement old number from new → TakesElement old number from other → new ≡ other
 one_had old new other number Ordinary a b = a.1 ∙ sym b.1
 one_had old new other number Spare a b = a.1 ∙ sym b.1
 one_had old new other number got.Missed a b = absurd a

@@ -13,7 +13,7 @@ use Rattle.run_machine.specs.declared.event.Got.TheVariants as got
 use Rattle.run_machine.specs.Maps.{upd}
 use Rattle.run_machine.specs.Scene.{Scene}
 use Rattle.run_machine.specs.Requests.{TakeBio, TakeVec, TakeSlip, GiveBio, GiveVec, GiveSlip, Punt, Pop, Push, Complete, Link, Drop, Done, Resize, NextRound, LookRound, LookLeft, HadBio, HadVec, HadSlip, Missed, Did, Popped, Completed, LinkedTo, DroppedTo, OutIs, Present, LeftOver, Nothing}
-use Rattle.run_machine.specs.Objects.{Objects, TallyState, Has}
+use Rattle.run_machine.specs.Objects.{Objects, TallyState, TakesElement}
 use Rattle.run_machine.specs.Runs.{State, IsRun}
 use Rattle.run_machine.specs.Laws.{OneObjectChanges, OthersStay, RunsAreJoined, PoolsAreNumbered, OfPool, OfRescuer, OfDisk, OfTally, with_object}
 
@@ -71,7 +71,7 @@ resized_at : (old new : Objects) (number : ℕ) (x : PoolState) (home : Bool) �
 resized_at old new number x true is = pool_changes old new number x is
 resized_at old new number x false is = pool_changes old new number (old.pool number) (is ∙ ap (λ f. record old { pool = f }) (sym (upd_own old.pool number)))
 
-had_changes : (old new : Objects) (number : ℕ) (from : Got) → Has old number from new → new ≡ with_object old new (OfPool number)
+had_changes : (old new : Objects) (number : ℕ) (from : Got) → TakesElement old number from new → new ≡ with_object old new (OfPool number)
 had_changes old new number Ordinary has = pool_changes old new number _ has.1
 had_changes old new number Spare has = pool_changes old new number _ has.1
 had_changes old new number got.Missed has = absurd has

@@ -13,7 +13,7 @@ use Rattle.run_machine.specs.Maps.{upd}
 use Rattle.run_machine.specs.Scene.{Scene}
 use Rattle.run_machine.specs.Requests.{Request, Reply, TakeBio, TakeVec, TakeSlip, GiveBio, GiveVec, GiveSlip, Punt, Pop, Push, Complete, Link, Drop, Done, Resize, NextRound, LookRound, LookLeft, HadBio, HadVec, HadSlip, Missed, Did, Popped, Completed, LinkedTo, DroppedTo, OutIs, Present, LeftOver, Nothing}
 use Rattle.run_machine.specs.Tasks.{TaskState, request, look_of, answered}
-use Rattle.run_machine.specs.Objects.{Objects, TallyState, MovesPool, Has, Opened, Serves, done_one}
+use Rattle.run_machine.specs.Objects.{Objects, TallyState, MovesPool, TakesElement, Opened, Serves, done_one}
 use Rattle.run_machine.specs.Events.{id_of, what_of}
 use Rattle.run_machine.specs.Runs.{State, IsLet, Steps}
 use Rattle.run_machine.specs.Laws.{Object, OfBook, OfNone, OfPool, OfRescuer, OfDisk, OfTally, with_object, object_of, AgreeAt, AgreeAtLook, OneObjectDecides, with_step}
@@ -28,7 +28,7 @@ moves_too old new other number move same moves =
     (subst (λ p. CanMove p move) same moves.0, ap (λ p. record other { pool = upd other.pool number p }) at)
 
 has_too : (old new other : Objects) (number : ℕ) (from : Got) → old.pool number ≡ other.pool number
-    → Has old number from new → Has other number from (with_object other new (OfPool number))
+    → TakesElement old number from new → TakesElement other number from (with_object other new (OfPool number))
 has_too old new other number Ordinary same has = moves_too old new other number takes_ordinary same has
 has_too old new other number Spare same has = moves_too old new other number takes_spare same has
 has_too old new other number got.Missed same has = absurd has

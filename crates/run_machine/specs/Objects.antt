@@ -40,10 +40,10 @@ MovesPool old number move new =
     CanMove (old.pool number) move × (new ≡ record old { pool = upd old.pool number (after_move (old.pool number) move) })
 
 -- a take that had an element, from ordinary memory or from the spares (`mempool_alloc`, mm/mempool.c)
-abbrev pub Has : Objects → ℕ → Got → Objects → Type 0
-Has old number Ordinary new = MovesPool old number takes_ordinary new
-Has old number Spare new = MovesPool old number takes_spare new
-Has old number got.Missed new = ⊥
+abbrev pub TakesElement : Objects → ℕ → Got → Objects → Type 0
+TakesElement old number Ordinary new = MovesPool old number takes_ordinary new
+TakesElement old number Spare new = MovesPool old number takes_spare new
+TakesElement old number got.Missed new = ⊥
 
 -- elements as pools hand them out
 abbrev pub clear_bio : LedgerId → Item Pad
@@ -73,12 +73,12 @@ done_one write status tally = record tally {
 abbrev pub Serves : (ℕ → LedgerId) → Objects → Request → Reply → Objects → Type 0
 -- takes (`mempool_alloc`, mm/mempool.c): an element with an empty body, or a miss
 Serves ledger old (TakeBio set waits) (HadBio got bio) new =
-    Has old (pool_number (bios_of set)) got new × (bio ≡ clear_bio (ledger (pool_number (bios_of set))))
+    TakesElement old (pool_number (bios_of set)) got new × (bio ≡ clear_bio (ledger (pool_number (bios_of set))))
 Serves ledger old (TakeBio set waits) (Missed used) new = MovesPool old (pool_number (bios_of set)) (misses used) new
-Serves ledger old TakeVec (HadVec got vector) new = Has old (pool_number FsVecs) got new × (vector ≡ clear_vector (ledger (pool_number FsVecs)))
+Serves ledger old TakeVec (HadVec got vector) new = TakesElement old (pool_number FsVecs) got new × (vector ≡ clear_vector (ledger (pool_number FsVecs)))
 Serves ledger old TakeVec (Missed used) new = MovesPool old (pool_number FsVecs) (misses used) new
 Serves ledger old (TakeSlip dev) (HadSlip got slip) new =
-    Has old (pool_number (Records dev)) got new × (slip ≡ clear_slip (ledger (pool_number (Records dev))))
+    TakesElement old (pool_number (Records dev)) got new × (slip ≡ clear_slip (ledger (pool_number (Records dev))))
 Serves ledger old (TakeSlip dev) (Missed used) new = MovesPool old (pool_number (Records dev)) (misses used) new
 -- gives (`mempool_free`): an element goes to the pool that its share is of
 Serves ledger old (GiveBio bio) Did new = MovesPool old bio.share.no gives new

@@ -12,7 +12,7 @@ use Rattle.block_core.specs.Runnable.{IsRunnable}
 use Rattle.block_core.specs.Scenarios.{IsNaming}
 use Rattle.shared_objects.specs.Calls.{struck}
 use Rattle.run_merge.specs.Machines.{ServesAt, LeadsObject}
-use Rattle.run_merge.specs.Merging.{Ticketed, Histories, without_tickets, sorted, all_of, history_of, done_by, TallyThen, LetsAsk, Shown}
+use Rattle.run_merge.specs.Merging.{Ticketed, Histories, without_tickets, sorted_by_ticket, all_of, history_of, done_by, TallyThen, LetsAsk, Shown}
 use Rattle.run_merge.specs.ObjectsByName.{StateAt, get}
 use Rattle.run_merge.specs.Products.{AreOfRun}
 
@@ -66,7 +66,7 @@ pub record IsClosed (s : Scenario) (ledger : ℕ → LedgerId) (histories : Hist
 -- The merge of the histories is the entries of a run. It has ended and leaves the objects and tasks as they are; no task broke off, and no draw of
 -- a ticket failed.
 pub record MergeIsEndedRun (s : Scenario) (ledger : ℕ → LedgerId) (histories : Histories) (drawn : List ℕ) (last : State) : Type 0 where
-  pub run : AreOfRun s ledger (without_tickets (sorted (all_of histories))) last
+  pub run : AreOfRun s ledger (without_tickets (sorted_by_ticket (all_of histories))) last
   pub ended : HasEnded last
   pub unbroken : (place : ℕ) → is_broken (last.task place) ≡ false
   pub tickets : HasLast drawn → ⊥

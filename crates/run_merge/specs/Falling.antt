@@ -8,7 +8,7 @@ use Rattle.stack_base.specs.declared.ids.SetId.TheVariants.{Fs, Of}
 use Rattle.mempool_core.specs.declared.Facts.{Facts}
 use Rattle.mempool_core.specs.Pool.{LedgerPool}
 use Rattle.seat_lock.specs.declared.lock.Shut.{Shut}
-use Rattle.object_things.specs.Stamps.{Held}
+use Rattle.object_things.specs.Stamps.{Stamped}
 use Rattle.run_machine.specs.Opened.{at}
 
 -- which devices have a set of bios, which are mirrors, and the facts of each pool
@@ -18,7 +18,7 @@ pub record DevicePools : Type 0 where
   pub facts : PoolId → Facts
 
 -- the facts of a pool that was closed
-abbrev pub facts_left : {Q P D A R M : Type 0} → Shut (Held LedgerPool) Q P D A R M → Facts
+abbrev pub facts_left : {Q P D A R M : Type 0} → Shut (Stamped LedgerPool) Q P D A R M → Facts
 facts_left shut = shut.thing.object.state.facts
 
 -- the facts of each pool of a row, with its key

@@ -33,9 +33,9 @@ abbrev pub insert : Ticketed → List Ticketed → List Ticketed
 insert n [] = n ∷ []
 insert n (x ∷ xs) = if nat_lt x.ticket n.ticket then x ∷ insert n xs else n ∷ x ∷ xs
 
-abbrev pub sorted : List Ticketed → List Ticketed
-sorted [] = []
-sorted (n ∷ ns) = insert n (sorted ns)
+abbrev pub sorted_by_ticket : List Ticketed → List Ticketed
+sorted_by_ticket [] = []
+sorted_by_ticket (n ∷ ns) = insert n (sorted_by_ticket ns)
 
 -- the histories of objects, by their names
 abbrev pub Histories : Type 0
@@ -61,7 +61,7 @@ AreTagged (h ∷ hs) = All (λ (n : Ticketed). object_of n.entry.asked ≡ h.0) 
 
 -- what a task did, in the order of its tickets
 abbrev pub done_by : ℕ → Histories → List Ticketed
-done_by place histories = sorted (filter (λ (n : Ticketed). place == n.entry.place) (all_of histories))
+done_by place histories = sorted_by_ticket (filter (λ (n : Ticketed). place == n.entry.place) (all_of histories))
 
 -- the tally as it was behind the first entries of its history
 pub record TallyThen (s : Scenario) (ledger : ℕ → LedgerId) (tally : List Ticketed) : Type 0 where
@@ -95,4 +95,4 @@ pub record Shown (s : Scenario) (ledger : ℕ → LedgerId) (histories : Histori
 -- The merge of them is the entries of a run, which leaves these objects and tasks.
 abbrev pub MergesAreRuns : Type 0
 MergesAreRuns = (s : Scenario) (ledger : ℕ → LedgerId) (histories : Histories) (last : State) → IsScenario s → IsNaming ledger
-    → Shown s ledger histories last → AreOfRun s ledger (without_tickets (sorted (all_of histories))) last
+    → Shown s ledger histories last → AreOfRun s ledger (without_tickets (sorted_by_ticket (all_of histories))) last

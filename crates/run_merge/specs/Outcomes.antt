@@ -20,7 +20,7 @@ use Rattle.shared_objects.specs.declared.closed.ClosedTask.{ClosedTask}
 use Rattle.shared_objects.specs.declared.seats.TaskSeats.{TaskSeats}
 use Rattle.run_merge.specs.declared.outcome.Outcome.{Outcome}
 use Rattle.run_merge.specs.Entries.{entries_in}
-use Rattle.run_merge.specs.Merging.{Histories, without_tickets, sorted, all_of, done_by}
+use Rattle.run_merge.specs.Merging.{Histories, without_tickets, sorted_by_ticket, all_of, done_by}
 use Rattle.run_merge.specs.ObjectsByName.{made_of}
 use Rattle.run_merge.specs.SharedObjects.{DrewAsEvent, entry_histories, seen_at}
 
@@ -52,11 +52,11 @@ pub record IsOutcomeOf (closed : Closed) (outcome : Outcome) : Type 0 where
   pub events : List Event
   pub run : IsRun (scene (shared_scenario closed) (shared_ledger closed)) (start (shared_scenario closed)) events (state_in closed)
   pub merges : entries_in (scene (shared_scenario closed) (shared_ledger closed)) (start (shared_scenario closed)) events (state_in closed) run
-      ≡ without_tickets (sorted (all_of (histories_in closed)))
+      ≡ without_tickets (sorted_by_ticket (all_of (histories_in closed)))
   -- those entries are the events among all calls: no look drew a ticket, and no call was refused
   pub tickets : (name : Object) → All DrewAsEvent (history_in closed name)
   pub shows : (place : ℕ) (task : ClosedTask) → slice_get closed.tasks.items place ≡ Some task
-      → done_by place (histories_in closed) ≡ sorted (all_of (histories_by closed task.seats.value))
+      → done_by place (histories_in closed) ≡ sorted_by_ticket (all_of (histories_by closed task.seats.value))
   pub ends : HasEnded (state_in closed)
   pub unbroken : (place : ℕ) → is_broken ((state_in closed).task place) ≡ false
   -- this is what the run leaves

@@ -16,7 +16,7 @@ use Rattle.shared_objects.specs.Closes.{Returned, ClosesAs}
 use Rattle.shared_objects.specs.Kinds.{ThingAt}
 use Rattle.shared_objects.specs.Noting.{notes_of}
 use Rattle.run_merge.specs.Joining.{IsJoinedByTicket}
-use Rattle.run_merge.specs.Merging.{without_tickets, sorted, all_of}
+use Rattle.run_merge.specs.Merging.{without_tickets, sorted_by_ticket, all_of}
 use Rattle.run_merge.specs.Products.{AreOfRun}
 use Rattle.run_merge.specs.SharedObjects.{entry_histories}
 
@@ -31,5 +31,5 @@ NotesAreRuns = (opened : Opened) (names : List Object) (history : Object → Lis
     (tasks : List Returned) (pass : PassState) → IsOpened opened → map (λ (task : Returned). task.first) tasks ≡ states opened.tasks.items
     → ClosesAs (routing_setup (stage_of opened.objects).routing) opened.objects names history left tasks pass
     → (joined : List Event) (last : State) → IsJoinedByTicket (notes_in (routing_setup (stage_of opened.objects).routing) tasks) joined
-    → (run : AreOfRun (scenario_in opened) (stage_of opened.objects).ledger (without_tickets (sorted (all_of (entry_histories names history)))) last)
+    → (run : AreOfRun (scenario_in opened) (stage_of opened.objects).ledger (without_tickets (sorted_by_ticket (all_of (entry_histories names history)))) last)
     → run.0 ≡ joined

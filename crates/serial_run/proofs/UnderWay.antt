@@ -30,7 +30,7 @@ use Rattle.block_core.proofs.unrefused.Unbroken.{no_task_breaks}
 use Rattle.block_core.proofs.claim.Runnable.{accepted_texts_are_runnable}
 use Rattle.serial_run.specs.Schedule.{FollowsSchedule, IsTurn}
 use Rattle.serial_run.specs.Serial.{HandsOn, IsSerialRun}
-use Rattle.serial_run.specs.Turning.{GoesWell, TurnedOver}
+use Rattle.serial_run.specs.Turning.{GoesWell, TurnHandsOnOver}
 use Rattle.serial_run.proofs.Follows.{turns_are_a_run, one_more, handed_too}
 use Rattle.serial_run.proofs.Opening.{begins_at, scene_is, has_task, count_is}
 
@@ -117,7 +117,7 @@ module _ {V : Type 0} (happens : V → Event → V → Type 0) (o : Opened) (ope
 
     -- one turn more
     pub turns : (new : Plain) (more : List TaskOf) (after : Lcg) (next : V)
-        → TurnedOver happens objects tasks between now new more after next → AreOfOne new more
+        → TurnHandsOnOver happens objects tasks between now new more after next → AreOfOne new more
         → stage_of new ≡ stage_of objects → length more ≡ length tasks → UnderWay new more after next (steps + 1)
     turns new more after next (event, turn, happened, named, fits) one stage count = record {
       events = way.events ++ event ∷ [];

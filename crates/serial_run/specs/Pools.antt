@@ -26,8 +26,8 @@ abbrev pub falling_pools_from : ℕ → Stack → List PoolId
 falling_pools_from number stack = falling_from number (drop number stack.devices.items)
 
 -- of all devices
-abbrev pub device_pools : Stack → List PoolId
-device_pools stack = falling_pools_from 0 stack
+abbrev pub stack_pools : Stack → List PoolId
+stack_pools stack = falling_pools_from 0 stack
 
 -- these pools, with their facts, were added to others
 abbrev pub AddsFacts : Objects → List PoolId → Vec (PoolId × Facts) → Vec (PoolId × Facts) → Type 0

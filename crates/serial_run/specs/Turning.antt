@@ -24,9 +24,9 @@ pub record GoesWell (scene : Scene) (state : State) : Type 0 where
       → state.objects.tally.round + 1 < length state.objects.tally.left
 
 -- an event was handed on, whose numbers fit its fields, or there was none
-abbrev pub Hands : {V : Type 0} → (V → Event → V → Type 0) → Step → V → Bool → V → Type 0
-Hands happens (Stepped event) before answer now = (answer ≡ true) × happens before event now × FitsEvent event
-Hands happens step before answer now = (answer ≡ false) × (now ≡ before)
+abbrev pub HandsEvent : {V : Type 0} → (V → Event → V → Type 0) → Step → V → Bool → V → Type 0
+HandsEvent happens (Stepped event) before answer now = (answer ≡ true) × happens before event now × FitsEvent event
+HandsEvent happens step before answer now = (answer ≡ false) × (now ≡ before)
 
 -- a task was tried: it had an event that names what the stack has, by numbers that fit, which was handed on, or none but such as need ordinary
 -- memory, and nothing has changed
@@ -38,8 +38,8 @@ Tried happens stack scene place old stream before false new after now =
     (new ≡ old) × (after ≡ stream) × (now ≡ before) × IsPassedOver scene old place
 
 -- one task had an event in a turn, which was handed on
-abbrev pub Turned : {V : Type 0} → (V → Event → V → Type 0) → Stack → Scene → State → Lcg → V → State → Lcg → V → Type 0
-Turned happens stack scene old stream before new after now =
+abbrev pub TurnHandsOn : {V : Type 0} → (V → Event → V → Type 0) → Stack → Scene → State → Lcg → V → State → Lcg → V → Type 0
+TurnHandsOn happens stack scene old stream before new after now =
     (event : Event) × IsTurn scene old stream event new after × happens before event now × IsEventOf stack event × FitsEvent event
 
 -- the same of tasks over the objects of one thread
@@ -47,6 +47,6 @@ abbrev pub TriedOver : {V : Type 0} → (V → Event → V → Type 0) → Plain
 TriedOver happens old tasks place stream before answer new more after now =
     Tried happens (stage_of old).routing.stack (scene_of_objects old (length tasks)) place (run_state old tasks) stream before answer (run_state new more) after now
 
-abbrev pub TurnedOver : {V : Type 0} → (V → Event → V → Type 0) → Plain → List TaskOf → Lcg → V → Plain → List TaskOf → Lcg → V → Type 0
-TurnedOver happens old tasks stream before new more after now =
-    Turned happens (stage_of old).routing.stack (scene_of_objects old (length tasks)) (run_state old tasks) stream before (run_state new more) after now
+abbrev pub TurnHandsOnOver : {V : Type 0} → (V → Event → V → Type 0) → Plain → List TaskOf → Lcg → V → Plain → List TaskOf → Lcg → V → Type 0
+TurnHandsOnOver happens old tasks stream before new more after now =
+    TurnHandsOn happens (stage_of old).routing.stack (scene_of_objects old (length tasks)) (run_state old tasks) stream before (run_state new more) after now

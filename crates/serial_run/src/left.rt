@@ -3,9 +3,9 @@ ghost use Rattle.std.specs.Prelude.{◌≡◌, ◌<◌, ◌≤◌, [], ◌∷◌
 ghost use Rattle.task_core.specs.Leaving.{IsReservedForRun, IsLeft};
 ghost use Rattle.task_core.specs.opened.OfOne.{AreOfOne};
 ghost use Rattle.task_core.specs.Plains.{objects_of, stage_of, Holds};
-ghost use Rattle.task_steps.specs.Routed.{device_tree};
+ghost use Rattle.task_steps.specs.Routed.{routed_tree};
 ghost use Rattle.task_steps.specs.Stage.{is_pool};
-ghost use Rattle.serial_run.specs.Pools.{device_pools, pools_by, AddsFacts, HasRoomForFacts};
+ghost use Rattle.serial_run.specs.Pools.{stack_pools, pools_by, AddsFacts, HasRoomForFacts};
 
 use mempool_core::Facts;
 use stack_base::{DevId, PoolId};
@@ -27,8 +27,8 @@ fn add_of(objects: &Plain, routes: &Routes, dev: DevId, pools: &mut Vec<(PoolId,
     requires holds { Holds objects.now }
     requires routing { routes.now ≡ (stage_of objects.now).routing }
     requires device { dev.0 < length routes.now.stack.devices.items }
-    requires room { HasRoomForFacts (pools_by dev (device_tree routes.now dev)) pools.old }
-    ensures added { AddsFacts (objects_of objects.now) (pools_by dev (device_tree routes.now dev)) pools.old pools.new }
+    requires room { HasRoomForFacts (pools_by dev (routed_tree routes.now dev)) pools.old }
+    ensures added { AddsFacts (objects_of objects.now) (pools_by dev (routed_tree routes.now dev)) pools.old pools.new }
     ensures room { vec_capacity pools.old ≤ vec_capacity pools.new }
 {
     match routes.manner(dev) {
@@ -45,8 +45,8 @@ fn add_of(objects: &Plain, routes: &Routes, dev: DevId, pools: &mut Vec<(PoolId,
 fn add_falling(objects: &Plain, routes: &Routes, pools: &mut Vec<(PoolId, Facts)>)
     requires holds { Holds objects.now }
     requires routing { routes.now ≡ (stage_of objects.now).routing }
-    requires room { HasRoomForFacts (device_pools routes.now.stack) pools.old }
-    ensures { AddsFacts (objects_of objects.now) (device_pools routes.now.stack) pools.old pools.new }
+    requires room { HasRoomForFacts (stack_pools routes.now.stack) pools.old }
+    ensures { AddsFacts (objects_of objects.now) (stack_pools routes.now.stack) pools.old pools.new }
 {
     'adding: for number in (0..routes.count()).rev() {
         add_of(objects, routes, DevId(number), pools);
@@ -57,8 +57,8 @@ fn add_falling(objects: &Plain, routes: &Routes, pools: &mut Vec<(PoolId, Facts)
 fn add_all(objects: &Plain, tasks: &[Task], pools: &mut Vec<(PoolId, Facts)>)
     requires one { AreOfOne objects.now tasks.now }
     requires some { 1 ≤ length (stage_of objects.now).routing.stack.devices.items → 1 ≤ length tasks.now }
-    requires room { HasRoomForFacts (device_pools (stage_of objects.now).routing.stack) pools.old }
-    ensures { AddsFacts (objects_of objects.now) (device_pools (stage_of objects.now).routing.stack) pools.old pools.new }
+    requires room { HasRoomForFacts (stack_pools (stage_of objects.now).routing.stack) pools.old }
+    ensures { AddsFacts (objects_of objects.now) (stack_pools (stage_of objects.now).routing.stack) pools.old pools.new }
 {
     match tasks.first() {
         Some(task) => add_falling(objects, task.routes(), pools),

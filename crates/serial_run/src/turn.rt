@@ -4,7 +4,7 @@ ghost use Rattle.task_core.specs.opened.OfOne.{run_state, AreOfOne};
 ghost use Rattle.task_core.specs.Plains.{stage_of};
 ghost use Rattle.task_core.specs.PlainSteps.{scene_of_objects};
 ghost use Rattle.run_machine.specs.Runs.{HasFree, unfinished};
-ghost use Rattle.serial_run.specs.Turning.{GoesWell, Hands, TriedOver, TurnedOver};
+ghost use Rattle.serial_run.specs.Turning.{GoesWell, HandsEvent, TriedOver, TurnHandsOnOver};
 
 use crate::events::Events;
 use crate::schedule::Schedule;
@@ -12,7 +12,7 @@ use task_core::{Plain, Step, Task};
 
 // Hands on the event of a step, and answers whether there was one.
 fn hand_on<V: Events>(step: Step, events: &mut V) -> bool
-    ensures { Hands V.happens step events.old result events.new }
+    ensures { HandsEvent V.happens step events.old result events.new }
 {
     match step {
         Step::Stepped(event) => {
@@ -84,7 +84,7 @@ pub(crate) fn turn<V: Events>(
     requires some { 1 ≤ unfinished (run_state objects.old tasks.old) }
     requires well { GoesWell (scene_of_objects objects.old (length tasks.old)) (run_state objects.old tasks.old) }
     requires free { HasFree (scene_of_objects objects.old (length tasks.old)) (run_state objects.old tasks.old) }
-    ensures turned { TurnedOver V.happens objects.old tasks.old schedule.old events.old objects.new tasks.new schedule.new events.new }
+    ensures turned { TurnHandsOnOver V.happens objects.old tasks.old schedule.old events.old objects.new tasks.new schedule.new events.new }
     ensures one { AreOfOne objects.new tasks.new }
     ensures same { stage_of objects.new ≡ stage_of objects.old }
 {

@@ -7,14 +7,14 @@ use Rattle.task_core.specs.declared.plain.Plain.{Plain}
 use Rattle.task_core.specs.Plains.{no_book, no_disk, no_pool}
 use Rattle.task_core.specs.Tables.{look_up}
 use Rattle.object_things.specs.Histories.{Call}
-use Rattle.object_things.specs.Stamps.{Held, ThingState, thing_state}
+use Rattle.object_things.specs.Stamps.{Stamped, ThingState, thing_state}
 use Rattle.shared_objects.specs.Calls.{is_same_object}
 use Rattle.shared_objects.specs.Holding.{by_pool, dev_key, set_key, slip_key, writer_key}
 use Rattle.shared_objects.specs.Names.{once}
 use Rattle.shared_objects.specs.Kinds.{ThingAt, no_list, unasked}
 use Rattle.shared_objects.specs.declared.closed.Closed.{Closed}
 
-abbrev pub state_of_held : {O : Type 0} → Held O → ThingState O
+abbrev pub state_of_held : {O : Type 0} → Stamped O → ThingState O
 state_of_held held = thing_state held.object held.stamp
 
 -- the objects that were shared

@@ -17,7 +17,7 @@ use Rattle.task_core.specs.Leaving.{IsReservedForRun}
 use Rattle.task_core.specs.ObjectsOf.{IsBookOf, IsDiskOf}
 use Rattle.task_core.specs.Plains.{Holds, stage_of}
 use Rattle.object_things.specs.Pools.{IsPoolOf}
-use Rattle.object_things.specs.Stamps.{CommonState, Held}
+use Rattle.object_things.specs.Stamps.{CommonState, Stamped}
 use Rattle.shared_objects.specs.Guards.{guarded}
 use Rattle.shared_objects.specs.Holding.{IsSeatOf, dev_key, set_key, slip_key, stage_at}
 use Rattle.shared_objects.specs.Rans.{IsNewRan, RanState, ran_key}
@@ -28,7 +28,7 @@ use Rattle.shared_objects.specs.declared.locks.Locks.{Locks}
 use Rattle.shared_objects.specs.declared.seats.TaskSeats.{TaskSeats}
 
 -- the objects of a row, with what all things have in common
-abbrev pub guarded_row : {K O : Type 0} → CommonState → List (K × O) → List (K × Held O)
+abbrev pub guarded_row : {K O : Type 0} → CommonState → List (K × O) → List (K × Stamped O)
 guarded_row {K = K} {O = O} common objects = map (λ (entry : K × O). (entry.0, guarded common entry.1)) objects
 
 -- a pool of a stage, of this number

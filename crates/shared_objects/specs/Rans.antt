@@ -94,8 +94,8 @@ ran_of task seats progress =
     record { task = task; seats = seats; first = progress.first; home = progress.home; events = progress.events; stopped = progress.stopped; noted = progress.noted }
 
 -- it was told of a step, behind which the pass had seen this
-abbrev pub GoesOn : Step → ℕ → ProgressState → ProgressState → Type 0
-GoesOn step seen old new =
+abbrev pub StepsProgress : Step → ℕ → ProgressState → ProgressState → Type 0
+StepsProgress step seen old new =
     (new ≡ record old { events = events_after step old.events; stopped = stopped_after step old.stopped; noted = new.noted })
     × NotesStep step seen old.noted new.noted
 
@@ -139,5 +139,5 @@ pub record IsNewRan (ran : RanState) : Type 0 where
 abbrev pub StepsKeepTasks : Type 0
 StepsKeepTasks = (ran : RanState) (task : TaskOf) (seats : TaskSeats) (step : Step) (progress : ProgressState) → RanHolds ran
     → TurnsWith ran.home ran.task ran.seats task seats step → DeskHolds ran.home seats → task.routing ≡ ran.task.routing
-    → GoesOn step (seen_by seats.pass) (progress_of ran) progress
+    → StepsProgress step (seen_by seats.pass) (progress_of ran) progress
     → RanHolds (ran_of task seats progress) × (ran_key (ran_of task seats progress) ≡ ran_key ran)

@@ -5,7 +5,7 @@ use Rattle.seat_lock.specs.Seats.{LockId, SeatState}
 use Rattle.stack_base.specs.declared.ids.DevId.{DevId}
 use Rattle.model_disks.specs.Disks.{DiskState}
 use Rattle.run_machine.specs.Requests.{Request}
-use Rattle.object_things.specs.Stamps.{Held, MarkState, ThingState, Told, thing_state}
+use Rattle.object_things.specs.Stamps.{Stamped, MarkState, ThingState, Told, thing_state}
 use Rattle.object_things.specs.Pools.{PoolAnswers, pool_mark}
 use Rattle.object_things.specs.Lists.{ListAnswers, list_mark}
 use Rattle.object_things.specs.Disks.{DiskAnswers, disk_mark}
@@ -17,17 +17,17 @@ use Rattle.shared_objects.specs.declared.seats.TaskSeats.{TaskSeats}
 use Rattle.shared_objects.specs.Rows.{AbreastThree, IsShut, IsShutAt}
 
 -- an object with its stamp, as its machine sees it
-abbrev pub thing_of : {O : Type 0} → Held O → ThingState O
+abbrev pub thing_of : {O : Type 0} → Stamped O → ThingState O
 thing_of held = thing_state held.object held.stamp
 
 -- what is left of the lock of an object
-abbrev pub IsShutOf : {O : Type 0} → (Held O → MarkState) → (ThingState O → Request → Told → ThingState O → Type 0) → LockId (Held O) → SeatState (Held O) Request Told → Held O
-    → SeatState (Held O) Request Told → Type 0
+abbrev pub IsShutOf : {O : Type 0} → (Stamped O → MarkState) → (ThingState O → Request → Told → ThingState O → Type 0) → LockId (Stamped O) → SeatState (Stamped O) Request Told → Stamped O
+    → SeatState (Stamped O) Request Told → Type 0
 IsShutOf mark answers = IsShut thing_of mark answers
 
 -- what is left of the lock of a disk, which has no key there, since the disk knows which device it is
-abbrev pub IsShutDisk : {Q P : Type 0} → DevId × LockId (Held DiskState) → DevId × SeatState (Held DiskState) Request Told
-    → Shut (Held DiskState) Q P (ThingState DiskState) Request Told MarkState → Type 0
+abbrev pub IsShutDisk : {Q P : Type 0} → DevId × LockId (Stamped DiskState) → DevId × SeatState (Stamped DiskState) Request Told
+    → Shut (Stamped DiskState) Q P (ThingState DiskState) Request Told MarkState → Type 0
 IsShutDisk lock first left = IsShutOf disk_mark DiskAnswers lock.1 first.1 left.thing left.told.value
 
 -- all locks

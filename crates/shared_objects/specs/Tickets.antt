@@ -29,8 +29,8 @@ abbrev pub IsRefusedCall : Call → Type 0
 IsRefusedCall call = is_refused call.asked call.told.reply ≡ true
 
 -- the entry of an event carries this ticket, and that of a refused call none
-abbrev pub Enters : ℕ → Call → Type 0
-Enters number call = (IsEvent call × (call.told.ticket ≡ Some number)) ⊎ (IsRefusedCall call × (call.told.ticket ≡ None))
+abbrev pub EntryCarries : ℕ → Call → Type 0
+EntryCarries number call = (IsEvent call × (call.told.ticket ≡ Some number)) ⊎ (IsRefusedCall call × (call.told.ticket ≡ None))
 
 -- The tickets that were drawn of a clock, and the histories of the objects that draw of it.
 pub record AreOfHistories (history : Object → List Call) (tickets : List Ticket) : Type 0 where
@@ -38,7 +38,7 @@ pub record AreOfHistories (history : Object → List Call) (tickets : List Ticke
   pub apart : AreApart tickets
   pub row : All (IsBehind tickets) tickets
   -- each is the ticket of an entry in the histories, but for those that calls drew which were refused
-  pub drawn : All (λ (ticket : Ticket). (call : Call) × DrewTicket history ticket.number call × Enters ticket.number call) tickets
+  pub drawn : All (λ (ticket : Ticket). (call : Call) × DrewTicket history ticket.number call × EntryCarries ticket.number call) tickets
   -- of which each task has one at most
   pub few : (one other : ℕ) (call later : Call) → DrewTicket history one call → IsRefusedCall call → DrewTicket history other later → IsRefusedCall later → call.by ≡ later.by → one ≡ other
   -- where a draw found none, the last one is among them

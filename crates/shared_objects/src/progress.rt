@@ -1,5 +1,5 @@
 //! How far a task has come.
-ghost use Rattle.shared_objects.specs.Rans.{GoesOn};
+ghost use Rattle.shared_objects.specs.Rans.{StepsProgress};
 
 use crate::locks::Locks;
 use crate::noted::Noted;
@@ -30,7 +30,7 @@ impl Model for Progress {
 impl Progress {
     /// Goes on with a step that the task has made, behind which its pass had seen this ticket last (`Desk::seen`).
     pub fn goes_on(&mut self, step: Step, seen: u64)
-        ensures { GoesOn step seen self.old self.new }
+        ensures { StepsProgress step seen self.old self.new }
     {
         self.events = events_after(step, self.events);
         self.stopped = stopped_after(step, self.stopped);

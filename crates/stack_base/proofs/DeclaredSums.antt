@@ -6,27 +6,27 @@ use Rattle.std.proofs.lemmas.List.Sums.{sum_by-cons, sum_by-append}
 use Rattle.stack_base.specs.declared.ids.DevId.{DevId}
 
 -- the sum of the first n values
-abbrev pub total : (ℕ → ℕ) → ℕ → ℕ
-total f zero = 0
-total f (suc n) = total f n + f n
+abbrev pub sum_below : (ℕ → ℕ) → ℕ → ℕ
+sum_below f zero = 0
+sum_below f (suc n) = sum_below f n + f n
 
 -- smaller values have a smaller sum
-total_le : (f g : ℕ → ℕ) (n : ℕ) → ((i : ℕ) → f i ≤ g i) → total f n ≤ total g n
+total_le : (f g : ℕ → ℕ) (n : ℕ) → ((i : ℕ) → f i ≤ g i) → sum_below f n ≤ sum_below g n
 total_le f g zero each = omega arith
 total_le f g (suc n) each = omega (arith, each n, total_le f g n each)
 
 -- more values have a larger sum
-pub total_grows : (f : ℕ → ℕ) (m n : ℕ) → m ≤ n → total f m ≤ total f n
+pub total_grows : (f : ℕ → ℕ) (m n : ℕ) → m ≤ n → sum_below f m ≤ sum_below f n
 total_grows f m zero le =
     let same : m ≡ 0 = omega arith in
-    omega (arith, ap (total f) same)
+    omega (arith, ap (sum_below f) same)
 total_grows f m (suc n) le = elim (cases_lt n m) [
-  | inl last ↦ (let same : m ≡ suc n = omega arith in omega (arith, ap (total f) same))
+  | inl last ↦ (let same : m ≡ suc n = omega arith in omega (arith, ap (sum_below f) same))
   | inr before ↦ omega (arith, total_grows f m n before)
 ]
 
 -- where the value at x is left out, the sum is smaller by it
-total_without : (f g : ℕ → ℕ) (x n : ℕ) → x < n → f x ≡ 0 → ((i : ℕ) → f i ≤ g i) → total f n + g x ≤ total g n
+total_without : (f g : ℕ → ℕ) (x n : ℕ) → x < n → f x ≡ 0 → ((i : ℕ) → f i ≤ g i) → sum_below f n + g x ≤ sum_below g n
 total_without f g x zero lt none each = absurd (omega arith)
 total_without f g x (suc n) lt none each = elim (cases_lt x n) [
   | inl before ↦ omega (arith, each n, total_without f g x n before none each)
@@ -70,7 +70,7 @@ abbrev pub IsBelow : ℕ → List DevId → Type 0
 IsBelow n xs = (i : ℕ) (m : DevId) → slice_get xs i ≡ Some m → m.0 < n
 
 -- where no device stands twice, the values of those in the list are together no more than all
-distinct_le : (xs : List DevId) (g : ℕ → ℕ) (n : ℕ) → IsDistinct xs → IsBelow n xs → sum_by (λ (m : DevId). g m.0) xs ≤ total g n
+distinct_le : (xs : List DevId) (g : ℕ → ℕ) (n : ℕ) → IsDistinct xs → IsBelow n xs → sum_by (λ (m : DevId). g m.0) xs ≤ sum_below g n
 distinct_le [] g n distinct below = omega arith
 distinct_le (x ∷ xs) g n distinct below =
     let left = without x.0 g in
@@ -139,7 +139,7 @@ module _ (lists : ℕ → List DevId) where
 
   -- the values of the first n devices are no more than what these bring and the values of their members
   gathered_le : (g own : ℕ → ℕ) (n : ℕ) → ((p : ℕ) → p < n → g p ≤ own p + sum_by (λ (m : DevId). g m.0) (lists p))
-      → total g n ≤ total own n + sum_by (λ (m : DevId). g m.0) (gathered n)
+      → sum_below g n ≤ sum_below own n + sum_by (λ (m : DevId). g m.0) (gathered n)
   gathered_le g own zero each = omega arith
   gathered_le g own (suc n) each =
       omega (arith, each n (omega arith), sum_by-append (λ (m : DevId). g m.0) (gathered n) (lists n), gathered_le g own n (λ p lt. each p (omega arith)))
@@ -149,7 +149,7 @@ module _ (lists : ℕ → List DevId) where
       ((p q i j : ℕ) (m : DevId) → slice_get (lists p) i ≡ Some m → slice_get (lists q) j ≡ Some m → (p ≡ q) × (i ≡ j))
       → ((p : ℕ) → IsBelow p (lists p))
       → (g own : ℕ → ℕ) (k : ℕ) → ((p : ℕ) → p < suc k → g p ≤ own p + sum_by (λ (m : DevId). g m.0) (lists p))
-      → g k ≤ total own (suc k)
+      → g k ≤ sum_below own (suc k)
   value_le once below g own k each =
       omega (
         arith,
@@ -160,7 +160,7 @@ module _ (lists : ℕ → List DevId) where
       )
 
 -- the sum of values begins with the first
-total_first : (f : ℕ → ℕ) (n : ℕ) → total f (suc n) ≡ f 0 + total (λ i. f (suc i)) n
+total_first : (f : ℕ → ℕ) (n : ℕ) → sum_below f (suc n) ≡ f 0 + sum_below (λ i. f (suc i)) n
 total_first f zero = omega arith
 total_first f (suc n) = omega (arith, total_first f n)
 
@@ -170,6 +170,6 @@ value_of f None = 0
 value_of f (Some x) = f x
 
 -- the values at the places of a list are those of its elements
-pub total_of_list : {X : Type 0} (f : X → ℕ) (xs : List X) → total (λ i. value_of f (slice_get xs i)) (length xs) ≡ sum_by f xs
+pub total_of_list : {X : Type 0} (f : X → ℕ) (xs : List X) → sum_below (λ i. value_of f (slice_get xs i)) (length xs) ≡ sum_by f xs
 total_of_list f [] = refl
 total_of_list f (x ∷ xs) = omega (arith, total_first (λ i. value_of f (slice_get (x ∷ xs) i)) (length xs), sum_by-cons f x xs, total_of_list f xs)

@@ -10,7 +10,7 @@ use Rattle.stack_base.specs.Mapping.{Slot, size_of, slot, head, smallest, whole_
 use Rattle.stack_base.specs.Even.{StripesGoBySmallest, EvenZonesAreStripes}
 use Rattle.stack_base.proofs.Passing.{passing, passing-yes}
 use Rattle.stack_base.proofs.Smallest.{smallest-replicate}
-use Rattle.stack_base.proofs.Zones.{total, chunk_forward}
+use Rattle.stack_base.proofs.Zones.{sum_from, chunk_forward}
 
 -- the whole chunks of members of one size
 even_chunks : (chunk n size : ℕ) → whole_chunks chunk (replicate n size) ≡ replicate n (size / chunk)
@@ -18,7 +18,7 @@ even_chunks chunk zero size = refl
 even_chunks chunk (suc n) size = ap (λ rest. size / chunk ∷ rest) (even_chunks chunk n size)
 
 -- equal values have the sum of one, once for each
-even_total : (f : ℕ → ℕ) (x a n : ℕ) → ((i : ℕ) → a ≤ i → i < a + n → f i ≡ x) → total f a n ≡ n * x
+even_total : (f : ℕ → ℕ) (x a n : ℕ) → ((i : ℕ) → a ≤ i → i < a + n → f i ≡ x) → sum_from f a n ≡ n * x
 even_total f x a zero same = omega arith
 even_total f x a (suc n) same =
     omega (arith, same a (omega arith) (omega arith), even_total f x (a + 1) n (λ i le lt. same i (omega arith) (omega arith)), suc-mul n x)
@@ -41,7 +41,7 @@ even_place n q e lt =
     let to = in_zones (zones counts) e in
     let each : (i : ℕ) → i < n → f i ≡ q = λ i below. get_or-replicate n i q 0 below in
     let low : to.at < q = omega (arith, there.at, each to.member (omega (arith, there.member))) in
-    let earlier : total (λ i. min (f i) to.at) 0 (length counts) ≡ length counts * to.at =
+    let earlier : sum_from (λ i. min (f i) to.at) 0 (length counts) ≡ length counts * to.at =
     even_total (λ i. min (f i) to.at) to.at 0 (length counts) (λ i le below. omega (arith, each i (omega arith))) in
     let beside : length (passing (λ i. nat_lt to.at (f i)) 0 to.member) ≡ to.member =
     all_pass (λ i. nat_lt to.at (f i)) 0 to.member (λ i le below. lt-ltb to.at (f i) (omega (arith, each i (omega (arith, there.member))))) in

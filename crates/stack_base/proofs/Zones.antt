@@ -20,24 +20,24 @@ unfolding in_zones
 in_zones-behind zone zones e ge = rw (le-ltb e zone.chunks ge)
 
 -- the sum of n values from the one at a on
-abbrev pub total : (ℕ → ℕ) → ℕ → ℕ → ℕ
-total f a zero = 0
-total f a (suc n) = f a + total f (a + 1) n
+abbrev pub sum_from : (ℕ → ℕ) → ℕ → ℕ → ℕ
+sum_from f a zero = 0
+sum_from f a (suc n) = f a + sum_from f (a + 1) n
 
-total_same : (f g : ℕ → ℕ) (a n : ℕ) → ((i : ℕ) → a ≤ i → i < a + n → f i ≡ g i) → total f a n ≡ total g a n
+total_same : (f g : ℕ → ℕ) (a n : ℕ) → ((i : ℕ) → a ≤ i → i < a + n → f i ≡ g i) → sum_from f a n ≡ sum_from g a n
 total_same f g a zero same = refl
 total_same f g a (suc n) same =
     omega (arith, same a (omega arith) (omega arith), total_same f g (a + 1) n (λ i le lt. same i (omega arith) (omega arith)))
 
 -- no value at all
-total_none : (a n : ℕ) → total (λ i. 0) a n ≡ 0
+total_none : (a n : ℕ) → sum_from (λ i. 0) a n ≡ 0
 total_none a zero = refl
 total_none a (suc n) = omega (arith, total_none (a + 1) n)
 
 -- values of which none is between b and t, cut off at j between them: those that reach t have j - b more than where they are cut off at b
 total_cut :
     (f : ℕ → ℕ) (b j t a n : ℕ) → b ≤ j → j ≤ t → ((i : ℕ) → a ≤ i → i < a + n → b < f i → t ≤ f i)
-    → total (λ i. min (f i) j) a n ≡ total (λ i. min (f i) b) a n + length (passing (λ i. nat_le t (f i)) a n) * (j - b)
+    → sum_from (λ i. min (f i) j) a n ≡ sum_from (λ i. min (f i) b) a n + length (passing (λ i. nat_le t (f i)) a n) * (j - b)
 total_cut f b j t a zero low high gap = omega arith
 total_cut f b j t a (suc n) low high gap =
     let test = λ (i : ℕ). nat_le t (f i) in
@@ -63,7 +63,7 @@ IsEnumeration counts b (t ∷ ts) = (b < t) × HasGap counts b t × IsEnumeratio
 
 -- how many chunks the members have together, each up to its chunk j
 abbrev pub before : List ℕ → ℕ → ℕ
-before counts j = total (λ i. min (slice_index counts i) j) 0 (length counts)
+before counts j = sum_from (λ i. min (slice_index counts i) j) 0 (length counts)
 
 -- the number of a member's chunk j: behind the chunks before it of all members, and those at j of the members before this one
 abbrev pub chunk_rank : List ℕ → ℕ → ℕ → ℕ
@@ -84,7 +84,7 @@ module _ (counts : List ℕ) where
 
   -- behind the last level there is no chunk
   pub total_ends :
-      (b : ℕ) → ((i : ℕ) → i < length counts → slice_index counts i ≤ b) → before counts b ≡ total (slice_index counts) 0 (length counts)
+      (b : ℕ) → ((i : ℕ) → i < length counts → slice_index counts i ≤ b) → before counts b ≡ sum_from (slice_index counts) 0 (length counts)
   total_ends b ends =
       total_same (λ i. min (slice_index counts i) b) (slice_index counts) 0 (length counts) (λ i le below. omega (arith, ends i (omega arith)))
 
@@ -140,7 +140,7 @@ module _ (counts : List ℕ) where
 
   -- each chunk of the zones is a chunk of a member, with its number
   pub zones_forward :
-      (ts : List ℕ) (b e : ℕ) → IsEnumeration counts b ts → before counts b + e < total (slice_index counts) 0 (length counts)
+      (ts : List ℕ) (b e : ℕ) → IsEnumeration counts b ts → before counts b + e < sum_from (slice_index counts) 0 (length counts)
       → IsAt counts (in_zones (zones_from counts b ts) e) (before counts b + e)
   unfolding zones_from
   zones_forward [] b e ends lt =
@@ -252,15 +252,15 @@ levels_enumerate counts =
     range_enumerates counts 1 (fold max 0 counts) 0 (omega arith) (λ i lt more. more) (λ i lt. omega (arith, fold_max_le 0 counts i lt))
 
 -- values that are moved by one place have the same sum
-total_moved : (f : ℕ → ℕ) (a n : ℕ) → total f (a + 1) n ≡ total (λ i. f (i + 1)) a n
+total_moved : (f : ℕ → ℕ) (a n : ℕ) → sum_from f (a + 1) n ≡ sum_from (λ i. f (i + 1)) a n
 total_moved f a zero = refl
 total_moved f a (suc n) = omega (arith, total_moved f (a + 1) n)
 
 -- the sum of all members' chunks
-pub total_sum : (counts : List ℕ) → total (slice_index counts) 0 (length counts) ≡ sum counts
+pub total_sum : (counts : List ℕ) → sum_from (slice_index counts) 0 (length counts) ≡ sum counts
 total_sum [] = refl
 total_sum (c ∷ cs) =
-    let moved : total (slice_index (c ∷ cs)) 1 (length cs) ≡ total (slice_index cs) 0 (length cs) =
+    let moved : sum_from (slice_index (c ∷ cs)) 1 (length cs) ≡ sum_from (slice_index cs) 0 (length cs) =
     total_moved (slice_index (c ∷ cs)) 0 (length cs) ∙ total_same (λ i. slice_index (c ∷ cs) (i + 1)) (slice_index cs) 0 (length cs) (λ i le lt. ap (slice_index (c ∷ cs)) (add-one i)) in
     omega (arith, moved, total_sum cs, sum_by-cons (λ x. x) c cs)
 

@@ -31,7 +31,7 @@ use Rattle.run_machine.specs.Maps.{upd}
 use Rattle.run_machine.specs.Scene.{has_set}
 use Rattle.task_steps.specs.Routed.{routing_setup}
 use Rattle.run_machine.specs.Requests.{Request, Reply, TakeBio, TakeVec, TakeSlip, GiveBio, GiveVec, GiveSlip, Punt, Pop, Push, Complete, Link, Drop, Done, Resize, NextRound, LookRound, LookLeft, HadBio, HadVec, HadSlip, Missed, Did, Popped, Completed, LinkedTo, DroppedTo, OutIs, Present, LeftOver, Nothing}
-use Rattle.run_machine.specs.Objects.{TallyState, Objects, Has, Serves, done_one}
+use Rattle.run_machine.specs.Objects.{TallyState, Objects, TakesElement, Serves, done_one}
 use Rattle.run_machine.specs.Opened.{at}
 use Rattle.task_steps.specs.Stage.{Stage, has_mirror, is_set, is_bios, is_vecs, is_slips, IsTaken, IsServed, AreServed, RequestFits, Owes}
 use Rattle.task_core.specs.ObjectsOf.{IsDiskOf, IsBookOf, IsTallyOf, AreObjectsOf, AreNumbered}
@@ -178,7 +178,7 @@ module _ (stage : Stage) where
   moved_is : (old new : Objects) (pools : ℕ → PoolState) → AreObjectsOf stage old → new ≡ record old { pool = pools } → AreObjectsOf stage new
   moved_is old new pools all is = subst (AreObjectsOf stage) (sym is) (pools_change old pools all)
 
-  had_is : (old new : Objects) (number : ℕ) (from : Got) → AreObjectsOf stage old → Has old number from new → AreObjectsOf stage new
+  had_is : (old new : Objects) (number : ℕ) (from : Got) → AreObjectsOf stage old → TakesElement old number from new → AreObjectsOf stage new
   had_is old new number Ordinary all has = moved_is old new _ all has.1
   had_is old new number Spare all has = moved_is old new _ all has.1
   had_is old new number got.Missed all has = absurd has

@@ -128,10 +128,10 @@ PlainServes old request reply new =
     Serves (stage_of old).ledger (objects_of old) request reply (objects_of new) ⊎ StaysLast (objects_of old) request reply (objects_of new)
 
 -- how many bios wait in a disk, as a look tells it
-abbrev pub Finds : Plain → Plain → DevId → ℕ → Type 0
-Finds old new dev pending = pending ≡ min (length ((objects_of old).disk dev.0).pending) (2 ^ 64 - 1)
+abbrev pub PlainFinds : Plain → Plain → DevId → ℕ → Type 0
+PlainFinds old new dev pending = pending ≡ min (length ((objects_of old).disk dev.0).pending) (2 ^ 64 - 1)
 
 -- the bio at the chosen place is completed, which nobody took meanwhile
-abbrev pub Picks : Plain → DevId → ℕ → ℕ → Option ℕ → Type 0
-Picks plain dev pending chosen (Some index) = (pending ≡ min (length ((objects_of plain).disk dev.0).pending) (2 ^ 64 - 1)) × (index ≡ chosen)
-Picks plain dev pending chosen None = ⊥
+abbrev pub PlainPicks : Plain → DevId → ℕ → ℕ → Option ℕ → Type 0
+PlainPicks plain dev pending chosen (Some index) = (pending ≡ min (length ((objects_of plain).disk dev.0).pending) (2 ^ 64 - 1)) × (index ≡ chosen)
+PlainPicks plain dev pending chosen None = ⊥

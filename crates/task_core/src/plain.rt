@@ -112,7 +112,7 @@ impl Plain {
 }
 
 impl Objects for Plain {
-    ghost use Rattle.task_core.specs.Plains.{stage_of, Holds, PlainServes, Picks, Finds};
+    ghost use Rattle.task_core.specs.Plains.{stage_of, Holds, PlainServes, PlainPicks, PlainFinds};
 
     ghost stage = { stage_of };
 
@@ -120,9 +120,9 @@ impl Objects for Plain {
 
     ghost serves = { PlainServes };
 
-    ghost picks = { Picks };
+    ghost picks = { PlainPicks };
 
-    ghost finds = { Finds };
+    ghost finds = { PlainFinds };
 
     #[inline(always)] // as `Pool::take`
     fn take_bio(&mut self, set: SetId, waits: bool) -> Result<Taken<BioBody<Pad>>, Unmade> {

@@ -25,7 +25,7 @@ use Rattle.run_machine.specs.Submissions.{Want, Links, Ask, Doing, Drives, Submi
 use Rattle.task_steps.specs.Turns.{named_node, step_of}
 use Rattle.run_machine.specs.Kept.{Kept, KeptBio, holding_kept, opening_kept}
 use Rattle.task_steps.specs.SubmissionViews.{submission_of, want_of, unmade_kept, back_kept}
-use Rattle.task_steps.specs.Routed.{Routing, device_tree, routing_setup}
+use Rattle.task_steps.specs.Routed.{Routing, routed_tree, routing_setup}
 use Rattle.task_steps.specs.Stage.{RequestFits, Owes}
 
 -- a reply that is no look which found nothing
@@ -54,7 +54,7 @@ SubmissionReady words objects routing doing lists = Ready words objects (submiss
 -- what the driver of a device asks for first, whatever bio it has
 abbrev pub AsksFirst : Routing → TaskLists → DevId → Ask → Type 0
 AsksFirst routing lists dev ask =
-    (item : Item Pad) → item.bio.dev ≡ dev → asks_at (routing_setup routing) lists item (device_tree routing dev) ≡ Drives item ask
+    (item : Item Pad) → item.bio.dev ≡ dev → asks_at (routing_setup routing) lists item (routed_tree routing dev) ≡ Drives item ask
 
 -- a step of a submission over these objects, which hold together behind it too
 pub record SubmissionDoes {S : Type 0} (words : Ghosts S) (routing : Routing) (task : TaskId) (submission : Submission) (old : S) (next : Submission) (new : S) (step : Step) : Type 0 where

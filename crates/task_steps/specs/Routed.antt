@@ -42,8 +42,8 @@ abbrev pub routing_setup : Routing → Setup
 routing_setup r = setup_of r.stack (places_at r.places)
 
 -- a device with all that is below it
-abbrev pub device_tree : Routing → DevId → Tree
-device_tree r dev = tree_at (routing_setup r) dev
+abbrev pub routed_tree : Routing → DevId → Tree
+routed_tree r dev = tree_at (routing_setup r) dev
 
 abbrev pub keeps : Shape → Bool
 keeps (Keeps sectors) = true

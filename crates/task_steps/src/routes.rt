@@ -5,7 +5,7 @@ ghost use Rattle.stack_base.specs.Stack.{IsStack};
 ghost use Rattle.bioset_pools.specs.Sets.{waits_first};
 ghost use Rattle.run_machine.specs.Submissions.{legs_of, is_cut};
 ghost use Rattle.task_steps.specs.Within.{IsWithinDevice};
-ghost use Rattle.task_steps.specs.Routed.{routing_setup, IsRoute, IsRouteOf, IsManner, IsFirstCut, HasNoFirst, IsBelow, Stays, IsLanded, IsCutAt, IsLegAt, Routing, device_tree};
+ghost use Rattle.task_steps.specs.Routed.{routing_setup, IsRoute, IsRouteOf, IsManner, IsFirstCut, HasNoFirst, IsBelow, Stays, IsLanded, IsCutAt, IsLegAt, Routing, routed_tree};
 
 pub(crate) mod driver;
 
@@ -200,7 +200,7 @@ impl Routes {
     /// What the device does with a bio that it does not hand on as it is.
     pub fn manner(&self, dev: DevId) -> Manner
         requires { dev.0 < length self.now.stack.devices.items }
-        ensures { IsManner (routing_setup self.now) dev (device_tree self.now dev) result }
+        ensures { IsManner (routing_setup self.now) dev (routed_tree self.now dev) result }
     {
         self.route(dev).driver.manner()
     }
@@ -208,7 +208,7 @@ impl Routes {
     /// The first piece of a bio that its device cuts: how long it is, and where it goes (`bio_split`, `block/bio.c`, as drivers call it).
     pub fn cut(&self, bio: &Bio) -> Cut
         requires within { IsWithinDevice self.now.stack bio.now }
-        requires cut { is_cut (device_tree self.now bio.now.dev) bio.now.range ≡ true }
+        requires cut { is_cut (routed_tree self.now bio.now.dev) bio.now.range ≡ true }
         ensures { IsCutAt (routing_setup self.now) self.now.stack bio.now result }
     {
         self.known();
@@ -218,7 +218,7 @@ impl Routes {
     /// How many legs a bio has at the device: as many as it has members, if it is a mirror, and else none.
     pub fn legs(&self, dev: DevId) -> u32
         requires { dev.0 < length self.now.stack.devices.items }
-        ensures { result ≡ legs_of (device_tree self.now dev) }
+        ensures { result ≡ legs_of (routed_tree self.now dev) }
     {
         self.route(dev).driver.legs()
     }
@@ -227,7 +227,7 @@ impl Routes {
     /// (`bio_alloc_clone`, `drivers/md/raid1.c`).
     pub fn leg(&self, bio: &Bio, leg: u32, node: u32) -> (Bio, Pad)
         requires within { IsWithinDevice self.now.stack bio.now }
-        requires leg { leg < legs_of (device_tree self.now bio.now.dev) }
+        requires leg { leg < legs_of (routed_tree self.now bio.now.dev) }
         ensures { IsLegAt self.now.stack bio.now leg node result }
     {
         self.route(bio.dev).driver.leg(bio, leg, node)

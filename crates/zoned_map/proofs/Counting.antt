@@ -4,7 +4,7 @@ use Rattle.std.specs.Prelude.{nat_lt, slice_index}
 use Rattle.std.proofs.lemmas.Bool.{cases_lt, lt-ltb, le-ltb}
 use Rattle.std.proofs.lemmas.List.{length_push}
 use Rattle.stack_base.proofs.Passing.{passing}
-use Rattle.stack_base.proofs.Zones.{total}
+use Rattle.stack_base.proofs.Zones.{sum_from}
 use Rattle.zoned_map.specs.Numbers.{chunk_number}
 use Rattle.zoned_map.proofs.Places.{number_is}
 use Rattle.zoned_map.proofs.Ranges.{passing_push, passing_skip, total_next}
@@ -12,7 +12,7 @@ use Rattle.zoned_map.proofs.Ranges.{passing_push, passing_skip, total_next}
 -- the chunks of so many members, each up to a row, and those in the row of members before one
 abbrev pub counted : List ℕ → ℕ → ℕ → ℕ → ℕ
 counted counts member row place =
-    total (λ i. min (slice_index counts i) row) 0 place + length (passing (λ i. nat_lt row (slice_index counts i)) 0 (min place member))
+    sum_from (λ i. min (slice_index counts i) row) 0 place + length (passing (λ i. nat_lt row (slice_index counts i)) 0 (min place member))
 
 -- they are counted so far; each member adds no more than all chunks and one
 pub record IsCounted (counts : List ℕ) (member row so_far place : ℕ) : Type 0 where
@@ -68,7 +68,7 @@ counted_all counts member row so_far place is all within =
     omega (
       arith,
       is.same,
-      ap (total (λ i. min (slice_index counts i) row) 0) all,
+      ap (sum_from (λ i. min (slice_index counts i) row) 0) all,
       ap (λ x. length (passing test 0 x)) one,
       number_is counts member row,
     )

@@ -10,7 +10,7 @@ use Rattle.std.proofs.Math.Nat.{mul_comm, mul-le-mul_right}
 use Rattle.stack_base.specs.Mapping.{Slot, size_of, slot, whole_chunks, Zone, zones, zones_from, reaching, levels, in_zones}
 use Rattle.stack_base.proofs.WholeChunks.{whole_chunks_le, chunk_count_le}
 use Rattle.stack_base.proofs.Passing.{passing, passing-yes, passing-no, passing_there}
-use Rattle.stack_base.proofs.Zones.{IsEnumeration, before, chunk_rank, total, next_before, total_ends, none_before, levels_enumerate, total_sum, chunk_forward, chunk_back}
+use Rattle.stack_base.proofs.Zones.{IsEnumeration, before, chunk_rank, sum_from, next_before, total_ends, none_before, levels_enumerate, total_sum, chunk_forward, chunk_back}
 use Rattle.zoned_map.specs.Members.{IsPlace, IsSectorOf}
 use Rattle.zoned_map.specs.Numbers as spec
 use Rattle.zoned_map.proofs.Ranges.{total_range}
@@ -21,7 +21,7 @@ number_is counts m row = omega (arith, total_range (λ i. min (slice_index count
 
 -- values cut off, and one more for each that is cut off, are no more than the values
 cut_le :
-    (f : ℕ → ℕ) (row a n : ℕ) → total (λ i. min (f i) row) a n + length (passing (λ i. nat_lt row (f i)) a n) ≤ total f a n
+    (f : ℕ → ℕ) (row a n : ℕ) → sum_from (λ i. min (f i) row) a n + length (passing (λ i. nat_lt row (f i)) a n) ≤ sum_from f a n
 cut_le f row a zero = omega arith
 cut_le f row a (suc n) =
     let test = λ (i : ℕ). nat_lt row (f i) in

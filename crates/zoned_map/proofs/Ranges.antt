@@ -6,7 +6,7 @@ use Rattle.std.proofs.lemmas.List.{append-nil}
 use Rattle.std.proofs.lemmas.List.Elements.{filter-append}
 use Rattle.std.proofs.lemmas.List.Sums.{sum_by-cons}
 use Rattle.stack_base.proofs.Passing.{passing, passing-yes, passing-no}
-use Rattle.stack_base.proofs.Zones.{total}
+use Rattle.stack_base.proofs.Zones.{sum_from}
 use Rattle.stack_base.proofs.ListLemmas.{range_more}
 
 -- where that number passes, it is one more
@@ -30,21 +30,21 @@ passing_few test a (suc n) = elim (cases_Bool (test a)) [
 ]
 
 -- one more value
-pub total_more : (f : ℕ → ℕ) (a n : ℕ) → total f a (n + 1) ≡ total f a n + f (a + n)
+pub total_more : (f : ℕ → ℕ) (a n : ℕ) → sum_from f a (n + 1) ≡ sum_from f a n + f (a + n)
 total_more f a zero =
     let here : a ≡ a + 0 = omega arith in
     omega (arith, ap f here)
 total_more f a (suc n) =
     let further : a + 1 + n ≡ a + suc n = omega arith in
     let longer : suc n + 1 ≡ suc (n + 1) = omega arith in
-    omega (arith, total_more f (a + 1) n, ap f further, ap (total f a) longer)
+    omega (arith, total_more f (a + 1) n, ap f further, ap (sum_from f a) longer)
 
-pub total_next : (f : ℕ → ℕ) (n : ℕ) → total f 0 (n + 1) ≡ total f 0 n + f n
+pub total_next : (f : ℕ → ℕ) (n : ℕ) → sum_from f 0 (n + 1) ≡ sum_from f 0 n + f n
 total_next f n =
     let here : 0 + n ≡ n = omega arith in
     omega (arith, total_more f 0 n, ap f here)
 
 -- the sum over a range
-pub total_range : (f : ℕ → ℕ) (a n : ℕ) → total f a n ≡ sum_by f (range_with_len a n)
+pub total_range : (f : ℕ → ℕ) (a n : ℕ) → sum_from f a n ≡ sum_by f (range_with_len a n)
 total_range f a zero = refl
 total_range f a (suc n) = omega (arith, total_range f (a + 1) n, sum_by-cons f a (range_with_len (a + 1) n))

@@ -17,7 +17,7 @@ use Rattle.run_machine.specs.declared.event.Got.TheVariants as got
 use Rattle.run_machine.specs.declared.event.What.{What}
 use Rattle.run_machine.specs.Events.{what_of}
 use Rattle.run_machine.specs.Maps.{upd}
-use Rattle.run_machine.specs.Objects.{Objects, Serves, Has}
+use Rattle.run_machine.specs.Objects.{Objects, Serves, TakesElement}
 use Rattle.run_machine.specs.Requests as requests
 use Rattle.run_machine.specs.Requests.{Request, Reply}
 use Rattle.run_machine.specs.Scene.{Setup, Scene, tree_at}
@@ -150,7 +150,7 @@ module _ (scene : Scene) (s : State) (i : NonePunts s) where
   still_none (moves.Started place round later duties) c h = record { tasks = goes place _ tt; rescued = i.rescued }
 
 -- a take that had an element has one more out
-has_out : (old new : Objects) (number : ℕ) (from : Got) → Has old number from new → (new.pool number).facts.out ≡ (old.pool number).facts.out + 1
+has_out : (old new : Objects) (number : ℕ) (from : Got) → TakesElement old number from new → (new.pool number).facts.out ≡ (old.pool number).facts.out + 1
 has_out old new number got.Ordinary has =
     ap (λ (o : Objects). (o.pool number).facts.out) has.1 ∙ (omega (arith, out_more old.pool number takes_ordinary number tt, one-same number))
 has_out old new number got.Spare has =

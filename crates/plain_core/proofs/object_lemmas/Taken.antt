@@ -15,7 +15,7 @@ use Rattle.run_machine.specs.declared.event.Got.TheVariants as got
 use Rattle.run_machine.specs.declared.event.What.{What}
 use Rattle.run_machine.specs.Requests.{Reply, TakeBio, TakeVec, TakeSlip, HadBio, HadVec, HadSlip, Missed}
 use Rattle.run_machine.specs.Events.{take_of, miss_of}
-use Rattle.run_machine.specs.Objects.{Objects, Has, clear_bio, clear_vector, clear_slip}
+use Rattle.run_machine.specs.Objects.{Objects, TakesElement, clear_bio, clear_vector, clear_slip}
 use Rattle.plain_core.specs.objects.Ledgers.{ledger_of}
 use Rattle.plain_core.specs.objects.Pools.{uses, move_of, CanTake, IsTakeTold}
 use Rattle.plain_core.specs.objects.Plain.{CoreObjects, core_pool_at, objects_of_core}
@@ -28,13 +28,13 @@ use Rattle.plain_core.proofs.object_lemmas.Updated.{moves}
 use Rattle.plain_core.proofs.object_lemmas.Served.{one}
 
 -- a take that had an element
-has : (old new : CoreObjects) (n : ℕ) (g : Got) → (g ≡ got.Missed → ⊥) → CorePoolMoves old n (move_of (core_pool_at old n) g) new → Has (objects_of_core old) n g (objects_of_core new)
+has : (old new : CoreObjects) (n : ℕ) (g : Got) → (g ≡ got.Missed → ⊥) → CorePoolMoves old n (move_of (core_pool_at old n) g) new → TakesElement (objects_of_core old) n g (objects_of_core new)
 has old new n got.Ordinary some m = moves old new n takes_ordinary m
 has old new n got.Spare some m = moves old new n takes_spare m
 has old new n got.Missed some m = absurd (some refl)
 
 -- an element that was had could be taken
-can_have : (old : CoreObjects) (new : Objects) (n : ℕ) (waits : Bool) (g : Got) → Has (objects_of_core old) n g new → CanTake (core_pool_at old n) waits g
+can_have : (old : CoreObjects) (new : Objects) (n : ℕ) (waits : Bool) (g : Got) → TakesElement (objects_of_core old) n g new → CanTake (core_pool_at old n) waits g
 can_have old new n waits got.Ordinary has = (has.0, tt)
 can_have old new n waits got.Spare has = (has.0, tt)
 can_have old new n waits got.Missed has = absurd has

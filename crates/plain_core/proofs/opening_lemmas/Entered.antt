@@ -10,7 +10,7 @@ use Rattle.run_machine.specs.Opened.{no_task}
 use Rattle.run_machine.specs.Tasks.{TaskState}
 use Rattle.plain_core.specs.declared.steps.task.Task.{Task}
 use Rattle.plain_core.specs.Cores.{AreFound, slot_of, task_at}
-use Rattle.plain_core.specs.opening.Opening.{AreTasksEntered, Enters}
+use Rattle.plain_core.specs.opening.Opening.{AreTasksEntered, EntersTasks}
 use Rattle.plain_core.specs.steps.Views.{task_of_plain}
 
 -- what stands at a place of a changed table
@@ -55,7 +55,7 @@ module _ (tasks : List TaskState) (task : TaskState) (places : List ℕ) (so_far
 -- a task was entered
 pub enters_one : (old new : List Task) (task : Task) (places after : List ℕ) → AreTasksEntered (map task_of_plain old) places (slot_of (id_of (task_of_plain task)))
     → slot_of (id_of (task_of_plain task)) < 73 → new ≡ old ++ task ∷ [] → after ≡ slice_set places (slot_of (id_of (task_of_plain task))) (length old)
-    → Enters old (task_of_plain task ∷ []) new after (slot_of (id_of (task_of_plain task)) + 1)
+    → EntersTasks old (task_of_plain task ∷ []) new after (slot_of (id_of (task_of_plain task)) + 1)
 enters_one old new task places after so_far small is_new is_after =
     let tasks : map task_of_plain new ≡ map task_of_plain old ++ task_of_plain task ∷ [] = ap (map task_of_plain) is_new ∙ map-append task_of_plain old (task ∷ []) in
     let table : after ≡ slice_set places (slot_of (id_of (task_of_plain task))) (length (map task_of_plain old)) =

@@ -21,7 +21,7 @@ use Rattle.task_steps.specs.TaskViews.{TaskOf}
 use Rattle.run_machine.specs.Tasks.{TaskState, Duty, Resizes, Starts, NoBio, Empty, Keeps, Writer, Rescuer, Completer, Keeper}
 use Rattle.plain_core.specs.declared.steps.task.Task.{Task}
 use Rattle.plain_core.specs.Cores.{slot_of}
-use Rattle.plain_core.specs.opening.Opening.{AreTasksEntered, CanOpen, Enters, scenario_by}
+use Rattle.plain_core.specs.opening.Opening.{AreTasksEntered, CanOpen, EntersTasks, scenario_by}
 use Rattle.plain_core.specs.opening.Seen.{HasNotBegun, Rises}
 use Rattle.plain_core.specs.steps.Duties.{IsOfPool}
 use Rattle.plain_core.specs.steps.Views.{task_of_plain}
@@ -160,7 +160,7 @@ module _ (tasks : List TaskOf) (count : ℕ) (seen : List Task) (places : List �
         let same = ap (λ t. slot_of (id_of t)) is in
         entered_on (map task_of_plain seen) places so_far.low (slot_of (id_of task)) (omega (arith, first, same)) so_far.entered
 
-    pub one_seen : (after : List Task) (table : List ℕ) → Enters seen (task ∷ []) after table (slot_of (id_of task) + 1) → AreSeen (states tasks) (count + 1) after table
+    pub one_seen : (after : List Task) (table : List ℕ) → EntersTasks seen (task ∷ []) after table (slot_of (id_of task) + 1) → AreSeen (states tasks) (count + 1) after table
     one_seen after table enters = record {
       told = enters.0 ∙ ap (λ ts. ts ++ task ∷ []) so_far.told ∙ ap (λ t. take count (states tasks) ++ t ∷ []) is ∙ sym (take_more (states tasks) count no_task here);
       low = slot_of (id_of task) + 1;

@@ -116,8 +116,8 @@ abbrev pub task_slot : Task → ℕ
 task_slot task = slot_of (id_of (task_of_plain task))
 
 -- these tasks were entered behind the others
-abbrev pub Enters : List Task → List TaskState → List Task → List ℕ → ℕ → Type 0
-Enters old more new places slot = (map task_of_plain new ≡ map task_of_plain old ++ more) × AreTasksEntered (map task_of_plain new) places slot
+abbrev pub EntersTasks : List Task → List TaskState → List Task → List ℕ → ℕ → Type 0
+EntersTasks old more new places slot = (map task_of_plain new ≡ map task_of_plain old ++ more) × AreTasksEntered (map task_of_plain new) places slot
 
 -- these tasks are those, and each is found
 abbrev pub IsEntering : List Task → List ℕ → List TaskState → Type 0

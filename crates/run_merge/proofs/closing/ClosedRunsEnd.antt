@@ -19,7 +19,7 @@ use Rattle.block_core.proofs.claim.Runnable.{steps_fit_in_24_bits}
 use Rattle.block_core.proofs.unrefused.Unbroken.{no_task_breaks}
 use Rattle.run_merge.specs.Closing.{IsThrough, WasRefused, HasLast, IsClosed, MergeIsEndedRun, ClosedRunsEnd}
 use Rattle.run_merge.specs.Machines.{LeadsObject}
-use Rattle.run_merge.specs.Merging.{Ticketed, Histories, without_tickets, sorted, all_of, history_of, TallyThen, Shown}
+use Rattle.run_merge.specs.Merging.{Ticketed, Histories, without_tickets, sorted_by_ticket, all_of, history_of, TallyThen, Shown}
 use Rattle.run_merge.specs.ObjectsByName.{get}
 use Rattle.run_merge.specs.Products.{AreOfRun}
 use Rattle.run_merge.proofs.closing.EventsAndEntries.{merge_length}
@@ -32,7 +32,7 @@ use Rattle.run_merge.proofs.merging.TallyAlone.{from_there}
 use Rattle.run_merge.proofs.products.ObjectNames.{all_same}
 
 module _ (s : Scenario) (ledger : ℕ → LedgerId) (good : IsRunnable s) (rescuers : HasRescuers s.stack) (naming : IsNaming ledger) (hs : Histories) where
-  merged : (last : State) → Shown s ledger hs last → AreOfRun s ledger (without_tickets (sorted (all_of hs))) last
+  merged : (last : State) → Shown s ledger hs last → AreOfRun s ledger (without_tickets (sorted_by_ticket (all_of hs))) last
   merged last shown = merge_runs s ledger good.scenario naming hs last shown
 
   few_entries : (last : State) → Shown s ledger hs last → length (all_of hs) < 2 ^ 24

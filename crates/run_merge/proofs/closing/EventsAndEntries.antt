@@ -8,7 +8,7 @@ use Rattle.run_machine.specs.Opened.{Scenario, scene, start}
 use Rattle.run_machine.specs.Runs.{State, IsRun}
 use Rattle.run_machine.specs.Scene.{Scene}
 use Rattle.run_merge.specs.Entries.{Entry, entries_in}
-use Rattle.run_merge.specs.Merging.{Ticketed, without_tickets, insert, sorted}
+use Rattle.run_merge.specs.Merging.{Ticketed, without_tickets, insert, sorted_by_ticket}
 use Rattle.run_merge.specs.Products.{AreOfRun}
 
 run_length : (scene : Scene) (old : State) (events : List Event) (new : State) (run : IsRun scene old events new) → length (entries_in scene old events new run) ≡ length events
@@ -23,11 +23,11 @@ insert_length n (x ∷ xs) = by_test (nat_lt x.ticket n.ticket) (insert_length n
     by_test true rest = omega (arith, rest)
     by_test false rest = omega arith
 
-pub sorted_length : (ns : List Ticketed) → length (sorted ns) ≡ length ns
+pub sorted_length : (ns : List Ticketed) → length (sorted_by_ticket ns) ≡ length ns
 sorted_length [] = refl
-sorted_length (n ∷ ns) = let a = insert_length n (sorted ns) in let b = sorted_length ns in omega (arith, a, b)
+sorted_length (n ∷ ns) = let a = insert_length n (sorted_by_ticket ns) in let b = sorted_length ns in omega (arith, a, b)
 
-pub merge_length : (s : Scenario) (ledger : ℕ → LedgerId) (ns : List Ticketed) (last : State) → (run : AreOfRun s ledger (without_tickets (sorted ns)) last) → length run.0 ≡ length ns
+pub merge_length : (s : Scenario) (ledger : ℕ → LedgerId) (ns : List Ticketed) (last : State) → (run : AreOfRun s ledger (without_tickets (sorted_by_ticket ns)) last) → length run.0 ≡ length ns
 merge_length s ledger ns last (events, run, is) =
     sym (run_length (scene s ledger) (start s) events last run) ∙ ap (λ (l : List Entry). length l) is
-    ∙ length-map (sorted ns) (λ (n : Ticketed). n.entry) ∙ sorted_length ns
+    ∙ length-map (sorted_by_ticket ns) (λ (n : Ticketed). n.entry) ∙ sorted_length ns

@@ -23,7 +23,7 @@ use Rattle.shared_objects.specs.Calls.{struck}
 use Rattle.run_merge.specs.Closing.{WasRefused}
 use Rattle.run_merge.specs.Entries.{Entry}
 use Rattle.run_merge.specs.Machines.{ServesAt, LeadsObject}
-use Rattle.run_merge.specs.Merging.{Ticketed, Histories, without_tickets, sorted, all_of, history_of, done_by, LetsAsk, Shown}
+use Rattle.run_merge.specs.Merging.{Ticketed, Histories, without_tickets, sorted_by_ticket, all_of, history_of, done_by, LetsAsk, Shown}
 use Rattle.run_merge.specs.ObjectsByName.{StateAt, get, put_object}
 use Rattle.run_merge.specs.Products.{LeadsTask, AreOfRun, led_by, task_behind}
 use Rattle.run_merge.proofs.closing.RunUpTo.{early_histories, history_early, lets_early, then_state, then_task, shown_early, shown_put}
@@ -45,7 +45,7 @@ record WouldBreak (s : Scenario) (ledger : ℕ → LedgerId) (hs : Histories) (s
 module _ (s : Scenario) (ledger : ℕ → LedgerId) (good : IsRunnable s) (naming : IsNaming ledger) where
   module _ (hs : Histories) (state : State) (shown : Shown s ledger hs state) (place ticket : ℕ) (asked : Request) (reply : Reply)
       (bad : WouldBreak s ledger hs state place ticket asked reply) where
-    reached : AreOfRun s ledger (without_tickets (sorted (all_of hs))) state
+    reached : AreOfRun s ledger (without_tickets (sorted_by_ticket (all_of hs))) state
     reached = merge_runs s ledger good.scenario naming hs state shown
 
     abbrev new : Objects
@@ -56,13 +56,13 @@ module _ (s : Scenario) (ledger : ℕ → LedgerId) (good : IsRunnable s) (namin
         (subst (λ r. Serves ledger state.objects r reply new) bad.asks (serves_all ledger state.objects asked reply bad.object bad.serves))
 
     inside : place < length (tasks s)
-    inside = is_inside s ledger good.scenario naming (without_tickets (sorted (all_of hs))) state (behind_run s ledger (without_tickets (sorted (all_of hs))) state reached)
+    inside = is_inside s ledger good.scenario naming (without_tickets (sorted_by_ticket (all_of hs))) state (behind_run s ledger (without_tickets (sorted_by_ticket (all_of hs))) state reached)
         place asked reply bad.object bad.asks bad.serves
 
     is_let : IsLet ledger state.objects (state.task place) (look_of (state.task place))
     is_let =
-        still_let s ledger good.scenario naming hs state shown (without_tickets (sorted (all_of hs))) state reached ticket (sorted (all_of hs)) []
-        (sym (append-nil (sorted (all_of hs)))) tt refl place (state.task place) refl bad.looked
+        still_let s ledger good.scenario naming hs state shown (without_tickets (sorted_by_ticket (all_of hs))) state reached ticket (sorted_by_ticket (all_of hs)) []
+        (sym (append-nil (sorted_by_ticket (all_of hs)))) tt refl place (state.task place) refl bad.looked
 
     abbrev next : State
     next = record { objects = new; task = upd state.task place (answered (setup s) (state.task place) reply) }

@@ -13,7 +13,7 @@ use Rattle.shared_objects.specs.Calls.{is_same_object}
 use Rattle.shared_objects.specs.Logs.{is_event}
 use Rattle.shared_objects.proofs.SameNames.{same_is}
 use Rattle.run_merge.specs.Machines.{LeadsObject}
-use Rattle.run_merge.specs.Merging.{Ticketed, Histories, without_tickets, sorted, RiseFrom, all_of, history_of, AreOfDifferentObjects, AreTagged, done_by, LetsAsk, Shown}
+use Rattle.run_merge.specs.Merging.{Ticketed, Histories, without_tickets, sorted_by_ticket, RiseFrom, all_of, history_of, AreOfDifferentObjects, AreTagged, done_by, LetsAsk, Shown}
 use Rattle.run_merge.specs.ObjectsByName.{StateAt, get, put_object, made_of}
 use Rattle.run_merge.specs.Products.{LeadsTask, task_behind}
 use Rattle.run_merge.proofs.merging.Picked.{is_by, filter_swap}
@@ -54,8 +54,8 @@ module _ (ticket : ℕ) where
 
   pub done_early : (place : ℕ) (hs : Histories) → done_by place (early_histories ticket hs) ≡ early ticket (done_by place hs)
   done_early place hs =
-      ap (λ l. sorted (filter (is_by place) l)) (all_early hs)
-      ∙ ap sorted (filter_swap (is_by place) (λ (n : Ticketed). nat_lt n.ticket ticket) (all_of hs))
+      ap (λ l. sorted_by_ticket (filter (is_by place) l)) (all_early hs)
+      ∙ ap sorted_by_ticket (filter_swap (is_by place) (λ (n : Ticketed). nat_lt n.ticket ticket) (all_of hs))
       ∙ sym (filter_sorted (λ (n : Ticketed). nat_lt n.ticket ticket) (filter (is_by place) (all_of hs)))
 
   apart_early : (hs : Histories) → AreOfDifferentObjects hs → AreOfDifferentObjects (early_histories ticket hs)

@@ -13,7 +13,7 @@ use Rattle.shared_objects.specs.Calls.{calls_to, is_same_object}
 use Rattle.shared_objects.specs.Names.{Apart}
 use Rattle.shared_objects.specs.Logs.{events_in}
 use Rattle.shared_objects.proofs.SameNames.{same_is}
-use Rattle.run_merge.specs.Merging.{Ticketed, insert, sorted, RiseFrom, all_of, done_by}
+use Rattle.run_merge.specs.Merging.{Ticketed, insert, sorted_by_ticket, RiseFrom, all_of, done_by}
 use Rattle.run_merge.proofs.enough_shown.CallTickets.{events_told, events_untold, rises_above}
 use Rattle.run_merge.proofs.enough_shown.CallEvents.{drawn_entry, ticketed_events, event_histories}
 use Rattle.run_merge.proofs.enough_shown.CalledObjects.{or_first, or_second, turned}
@@ -130,12 +130,12 @@ ordered_above ticket [] ordered above = tt
 ordered_above ticket (e ∷ es) ordered above = (let lt = All-head (λ (n : Ticketed). ticket < n.ticket) e es above in omega (arith, lt), ordered.1)
 
 -- the one with the smallest ticket comes first
-insert_middle : (e : Ticketed) (xs ys : List Ticketed) → All (λ (n : Ticketed). e.ticket < n.ticket) (xs ++ ys) → sorted (xs ++ e ∷ ys) ≡ e ∷ sorted (xs ++ ys)
+insert_middle : (e : Ticketed) (xs ys : List Ticketed) → All (λ (n : Ticketed). e.ticket < n.ticket) (xs ++ ys) → sorted_by_ticket (xs ++ e ∷ ys) ≡ e ∷ sorted_by_ticket (xs ++ ys)
 insert_middle e [] ys above =
-    insert_front e (sorted ys) (ordered_above e.ticket (sorted ys) (sorted_ordered ys) (all_sorted (λ (n : Ticketed). e.ticket < n.ticket) ys above))
+    insert_front e (sorted_by_ticket ys) (ordered_above e.ticket (sorted_by_ticket ys) (sorted_ordered ys) (all_sorted (λ (n : Ticketed). e.ticket < n.ticket) ys above))
 insert_middle e (x ∷ xs) ys above =
     ap (insert x) (insert_middle e xs ys (All-tail (λ (n : Ticketed). e.ticket < n.ticket) x (xs ++ ys) above))
-    ∙ ap (λ b. cond b (e ∷ insert x (sorted (xs ++ ys))) (x ∷ e ∷ sorted (xs ++ ys)))
+    ∙ ap (λ b. cond b (e ∷ insert x (sorted_by_ticket (xs ++ ys))) (x ∷ e ∷ sorted_by_ticket (xs ++ ys)))
     (lt-ltb e.ticket x.ticket (All-head (λ (n : Ticketed). e.ticket < n.ticket) x (xs ++ ys) above))
 
 all_in_parts : (P : Ticketed → Type 0) (names : List Object) (events : List Ticketed) → All P events → All P (parts names events)
@@ -144,8 +144,8 @@ all_in_parts P (name ∷ names) events all =
     All-append P (filter (is_at name) events) (parts names events) (All-filter (is_at name) P events all) (all_in_parts P names events all)
 
 pub sorted_parts : (names : List Object) (last : ℕ) (events : List Ticketed) → Apart is_same_object names
-    → All (λ (n : Ticketed). list_any (λ name. is_same_object name (object_of n.entry.asked)) names ≡ true) events → RiseFrom last events → sorted (parts names events) ≡ events
-sorted_parts names last [] apart there rises = ap sorted (none names)
+    → All (λ (n : Ticketed). list_any (λ name. is_same_object name (object_of n.entry.asked)) names ≡ true) events → RiseFrom last events → sorted_by_ticket (parts names events) ≡ events
+sorted_parts names last [] apart there rises = ap sorted_by_ticket (none names)
   where
     none : (names : List Object) → parts names [] ≡ []
     none [] = refl
@@ -154,7 +154,7 @@ sorted_parts names last (e ∷ events) apart there rises =
     let put = put_in e events names apart (All-head (λ (n : Ticketed). list_any (λ name. is_same_object name (object_of n.entry.asked)) names ≡ true) e events there) in
     let above : All (λ (n : Ticketed). e.ticket < n.ticket) (put.before ++ put.after) =
     subst (All (λ (n : Ticketed). e.ticket < n.ticket)) put.less (all_in_parts (λ (n : Ticketed). e.ticket < n.ticket) names events (rises_above e.ticket events rises.1)) in
-    ap sorted put.more ∙ insert_middle e put.before put.after above ∙ ap (λ l. e ∷ l) (ap sorted (sym put.less)
+    ap sorted_by_ticket put.more ∙ insert_middle e put.before put.after above ∙ ap (λ l. e ∷ l) (ap sorted_by_ticket (sym put.less)
     ∙ sorted_parts names e.ticket events apart (All-tail (λ (n : Ticketed). list_any (λ name. is_same_object name (object_of n.entry.asked)) names ≡ true) e events there) rises.1)
 
 -- so of histories that keep what the task did at each object
@@ -163,7 +163,7 @@ pub done_is : (names : List Object) (history : Object → List Call) (place : �
     → ((name : Object) → calls_by ((place + 1) ∷ []) (history name) ≡ calls_to name log)
     → All (λ (n : Ticketed). list_any (λ name. is_same_object name (object_of n.entry.asked)) names ≡ true) (ticketed_events log)
     → RiseFrom 0 (ticketed_events log) → done_by place (event_histories names history) ≡ ticketed_events log
-done_is names history place log apart some calls there rises = ap sorted (picked names) ∙ sorted_parts names 0 (ticketed_events log) apart there rises
+done_is names history place log apart some calls there rises = ap sorted_by_ticket (picked names) ∙ sorted_parts names 0 (ticketed_events log) apart there rises
   where
     picked : (names : List Object) → filter (is_by place) (all_of (event_histories names history)) ≡ parts names (ticketed_events log)
     picked [] = refl

@@ -35,7 +35,7 @@ use Rattle.run_merge.proofs.enough_shown.CallEvents.{ticketed_events, event_hist
 use Rattle.run_merge.proofs.enough_shown.ObjectHistories as calls
 use Rattle.run_merge.proofs.enough_shown.ObjectHistories.{told_drew}
 use Rattle.run_merge.proofs.enough_shown.CalledObjects.{ask_some, named}
-use Rattle.run_merge.proofs.enough_shown.PlaceSums.{total, total_most, total_list, by_places}
+use Rattle.run_merge.proofs.enough_shown.PlaceSums.{sum_of_places, total_most, total_list, by_places}
 use Rattle.run_merge.proofs.enough_shown.RoundsStarted.{starts_left, task_starts, tally_starts, tasks_start}
 use Rattle.run_merge.proofs.enough_shown.SortedByTicket.{picks_mine, events_to, done_is}
 use Rattle.run_merge.proofs.enough_shown.LogLeads.{is_told, AskSome, Walked, walk}
@@ -90,7 +90,7 @@ module _ (setup : Setup) where
           (All-tail (λ (c : Call). object_of c.asked ≡ OfNone → ⊥) call calls some) (All-tail GlanceNone call calls none) leads) in
           omega (arith, behind, first_ticket call calls)
 
-sum_most : {X : Type 0} (f : X → ℕ) (g : ℕ → ℕ) (xs : List X) → ((k : ℕ) (x : X) → slice_get xs k ≡ Some x → f x ≤ g k + 1) → sum_by f xs ≤ total g (length xs) + length xs
+sum_most : {X : Type 0} (f : X → ℕ) (g : ℕ → ℕ) (xs : List X) → ((k : ℕ) (x : X) → slice_get xs k ≡ Some x → f x ≤ g k + 1) → sum_by f xs ≤ sum_of_places g (length xs) + length xs
 sum_most f g [] each = omega arith
 sum_most f g (x ∷ xs) each =
     let here = each 0 x refl in
@@ -178,7 +178,7 @@ module _ (s : Scenario) (plain : Plain) (names : List Object) (history : Object 
       let split = by_places (length tasks) (filter p events) (All-filter p (λ (x : Ticketed). x.entry.place < length tasks) events (placed OfTally)) in
       let most = total_most (λ k. length (filter (is_by k) (filter p events))) (λ k. starts_left (get_or (opened.tasks s) k no_task)) (length tasks) each in
       let list = total_list starts_left no_task (opened.tasks s) in
-      let same = ap (total (λ k. starts_left (get_or (opened.tasks s) k no_task))) long in
+      let same = ap (sum_of_places (λ k. starts_left (get_or (opened.tasks s) k no_task))) long in
       let all = tasks_start s in
       omega (arith, told, split, most, list, same, all)
     where

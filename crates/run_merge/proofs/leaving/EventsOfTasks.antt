@@ -17,12 +17,12 @@ use Rattle.shared_objects.specs.Rows.{Abreast}
 use Rattle.run_merge.specs.Merging.{Ticketed, all_of}
 use Rattle.run_merge.proofs.enough_shown.TaskCounts.{all_placed, done_at}
 use Rattle.run_merge.proofs.enough_shown.CallEvents.{drawn_entry, event_histories}
-use Rattle.run_merge.proofs.enough_shown.PlaceSums.{total, by_places}
+use Rattle.run_merge.proofs.enough_shown.PlaceSums.{sum_of_places, by_places}
 use Rattle.run_merge.proofs.closing.EventsAndEntries.{sorted_length}
 use Rattle.run_merge.proofs.merging.Picked.{is_by}
 
 -- a sum, place by place
-total_same : {X : Type 0} (f : X → ℕ) (g : ℕ → ℕ) (xs : List X) → ((k : ℕ) (x : X) → slice_get xs k ≡ Some x → f x ≡ g k) → sum_by f xs ≡ total g (length xs)
+total_same : {X : Type 0} (f : X → ℕ) (g : ℕ → ℕ) (xs : List X) → ((k : ℕ) (x : X) → slice_get xs k ≡ Some x → f x ≡ g k) → sum_by f xs ≡ sum_of_places g (length xs)
 total_same f g [] each = refl
 total_same f g (x ∷ xs) each =
     let here = each 0 x refl in

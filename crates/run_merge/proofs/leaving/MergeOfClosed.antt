@@ -35,7 +35,7 @@ use Rattle.run_merge.specs.declared.outcome.Outcome.{Outcome}
 use Rattle.run_merge.specs.Closing.{MergeIsEndedRun}
 use Rattle.run_merge.specs.Falling.{with_facts, falling_below}
 use Rattle.run_merge.specs.Listing.{IsTrace}
-use Rattle.run_merge.specs.Merging.{Ticketed, all_of, done_by, sorted}
+use Rattle.run_merge.specs.Merging.{Ticketed, all_of, done_by, sorted_by_ticket}
 use Rattle.run_merge.specs.ObjectsByName.{made_of}
 use Rattle.run_merge.specs.Outcomes.{shared_scenario, shared_ledger, histories_in, histories_by, state_in, IsOutcomeOf}
 use Rattle.run_merge.specs.SharedObjects.{DrewAsEvent, entry_histories, seen_at, state_left, ticketed}
@@ -132,8 +132,8 @@ module _ (closed : Closed) (has : HasClosed closed) where
         (picks_mine ticketed place (λ call. refl) (λ (call : Call). is_some call.told.ticket) (history_in closed name) (some_by name) ∙ ap entries (calls_are name))
         ∙ ap (λ l. entries (calls_at (calls_of task.seats.value) name) ++ l) (picked names)
 
-    pub task_shows : done_by place (histories_in closed) ≡ sorted (all_of (histories_by closed task.seats.value))
-    task_shows = ap sorted (picked (names_in closed))
+    pub task_shows : done_by place (histories_in closed) ≡ sorted_by_ticket (all_of (histories_by closed task.seats.value))
+    task_shows = ap sorted_by_ticket (picked (names_in closed))
 
   runnable : IsRunnable (shared_scenario closed)
   runnable = (accepted_texts_are_runnable closed.told.value.accepted.value closed.told.value.work.value has.opened.read).0

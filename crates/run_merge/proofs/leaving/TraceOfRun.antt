@@ -21,7 +21,7 @@ use Rattle.shared_objects.specs.declared.noted.Noted.{Noted}
 use Rattle.shared_objects.proofs.logs.StepNotes.{whole_notes}
 use Rattle.run_merge.specs.Joining.{IsJoinedByTicket}
 use Rattle.run_merge.specs.Listing.{IsList, WholeRises, list_in, AreWhole, noted_in}
-use Rattle.run_merge.specs.Merging.{without_tickets, sorted, all_of}
+use Rattle.run_merge.specs.Merging.{without_tickets, sorted_by_ticket, all_of}
 use Rattle.run_merge.specs.Outcomes.{shared_scenario, shared_ledger, histories_in}
 use Rattle.run_merge.specs.Products.{AreOfRun}
 use Rattle.run_merge.specs.Tracing.{notes_in}
@@ -93,7 +93,7 @@ module _ (closed : Closed) (has : HasClosed closed) where
   })
 
   pub trace_is : (joined : List Event) (last : State) → AreWhole closed.tasks.items → IsJoinedByTicket (noted_in closed.tasks.items) joined
-      → (run : AreOfRun (shared_scenario closed) (shared_ledger closed) (without_tickets (sorted (all_of (histories_in closed)))) last) → joined ≡ run.0
+      → (run : AreOfRun (shared_scenario closed) (shared_ledger closed) (without_tickets (sorted_by_ticket (all_of (histories_in closed)))) last) → joined ≡ run.0
   trace_is joined last whole is run =
       sym (notes_are_runs closed.told.value (names_in closed) (history_in closed) (object_left_in closed closed.told.value.objects) has.returned closed.pass.value
       has.opened has.firsts has.closes joined last (subst (λ all. IsJoinedByTicket all joined) (noted_is whole) is) run)

@@ -18,7 +18,7 @@ use Rattle.run_merge.specs.Entries.{Entry, entries_in}
 use Rattle.run_merge.specs.Machines.{LeadsObject, entries_at}
 use Rattle.run_merge.specs.ObjectsByName.{get}
 use Rattle.run_merge.specs.Products.{LeadsTask, entries_by, task_behind, AreOfRun}
-use Rattle.run_merge.specs.Merging.{Ticketed, Histories, without_tickets, sorted, all_of, history_of, done_by, TallyThen, LetsAsk, Shown, MergesAreRuns}
+use Rattle.run_merge.specs.Merging.{Ticketed, Histories, without_tickets, sorted_by_ticket, all_of, history_of, done_by, TallyThen, LetsAsk, Shown, MergesAreRuns}
 use Rattle.run_merge.proofs.merging.Picked.{is_at, is_by, entries_filter, merge_at, merge_by, merge_entries_at, merge_entries_by}
 use Rattle.run_merge.proofs.merging.TwoParts.{cut, object_split, task_split, smaller_first}
 use Rattle.run_merge.proofs.merging.TallyAlone.{IsLaterTally, from_there}
@@ -31,11 +31,11 @@ use Rattle.run_merge.proofs.products.RunIsProduct.{run_objects}
 
 module _ (s : Scenario) (ledger : ℕ → LedgerId) (good : IsScenario s) (naming : IsNaming ledger) (hs : Histories) (last : State) (shown : Shown s ledger hs last) where
   merged : List Ticketed
-  merged = sorted (all_of hs)
+  merged = sorted_by_ticket (all_of hs)
 
   -- What a task saw of the tally still lets it ask when it draws its ticket: the tally that it saw is an earlier one.
   module _ (between : List Entry) (state : State) (reached : AreOfRun s ledger between state) (ticket : ℕ) (before after : List Ticketed)
-      (all : sorted (all_of hs) ≡ before ++ after) (above : Ordered ticket after) (entries : without_tickets before ≡ between) where
+      (all : sorted_by_ticket (all_of hs) ≡ before ++ after) (above : Ordered ticket after) (entries : without_tickets before ≡ between) where
     is_later : (was : TallyThen s ledger (history_of OfTally hs)) → All (λ (n : Ticketed). n.ticket < ticket) was.seen → IsLaterTally was.shown state.objects.tally
     is_later was few =
         let history : filter (is_at OfTally) before ++ filter (is_at OfTally) after ≡ was.seen ++ was.later =
@@ -88,7 +88,7 @@ module _ (s : Scenario) (ledger : ℕ → LedgerId) (good : IsScenario s) (namin
 
   -- so its entry stands behind all that it has to
   comes_here : (between : List Entry) (state : State) (reached : AreOfRun s ledger between state) (before after : List Ticketed) (here : Ticketed)
-      → sorted (all_of hs) ≡ before ++ here ∷ after → without_tickets before ≡ between → ComesBehind s between (state.task here.entry.place) here.entry.asked
+      → sorted_by_ticket (all_of hs) ≡ before ++ here ∷ after → without_tickets before ≡ between → ComesBehind s between (state.task here.entry.place) here.entry.asked
   comes_here between state reached before after here all entries =
       let place = here.entry.place in
       let mine = filter (is_by place) before in
@@ -109,16 +109,16 @@ module _ (s : Scenario) (ledger : ℕ → LedgerId) (good : IsScenario s) (namin
       let comes = comes_by s ledger between state (known s ledger good naming between state reached) b.count place task task_is may in
       subst (λ (x : TaskState). ComesBehind s between x here.entry.asked) (sym task_is) (subst (ComesBehind s between task) (sym asks) comes)
 
-  comes : (between after : List Entry) (e : Entry) → without_tickets (sorted (all_of hs)) ≡ between ++ e ∷ after → (state : State) → AreOfRun s ledger between state
+  comes : (between after : List Entry) (e : Entry) → without_tickets (sorted_by_ticket (all_of hs)) ≡ between ++ e ∷ after → (state : State) → AreOfRun s ledger between state
       → ComesBehind s between (state.task e.place) e.asked
   comes between after e is state reached =
-      let c = cut (sorted (all_of hs)) between after e is in
+      let c = cut (sorted_by_ticket (all_of hs)) between after e is in
       subst (λ (x : Entry). ComesBehind s between (state.task x.place) x.asked) c.entry (comes_here between state reached c.before c.after c.here c.all c.entries)
 
-  pub merge_runs : AreOfRun s ledger (without_tickets (sorted (all_of hs))) last
+  pub merge_runs : AreOfRun s ledger (without_tickets (sorted_by_ticket (all_of hs))) last
   merge_runs =
-      leads s ledger good naming [] (without_tickets (sorted (all_of hs))) (start s) last (at_start s ledger)
-      (All-map (λ (e : Entry). IsTrue (is_event e.asked e.reply)) (λ (n : Ticketed). n.entry) (sorted (all_of hs))
+      leads s ledger good naming [] (without_tickets (sorted_by_ticket (all_of hs))) (start s) last (at_start s ledger)
+      (All-map (λ (e : Entry). IsTrue (is_event e.asked e.reply)) (λ (n : Ticketed). n.entry) (sorted_by_ticket (all_of hs))
       (all_sorted (λ (n : Ticketed). IsTrue (is_event n.entry.asked n.entry.reply)) (all_of hs) shown.events))
       (λ name. subst (λ l. LeadsObject ledger name (get (start s).objects name) l (get last.objects name)) (sym (merge_entries_at hs shown.apart shown.tagged shown.rises name)) (shown.objects name))
       (λ place. subst (λ l. LeadsTask (setup s) ((start s).task place) l (last.task place)) (sym (merge_entries_by hs place)) (shown.tasks place))

@@ -9,7 +9,7 @@ use Rattle.shared_objects.proofs.SameNames.{same_is}
 use Rattle.run_merge.specs.Entries.{Entry}
 use Rattle.run_merge.specs.Machines.{entries_at}
 use Rattle.run_merge.specs.Products.{entries_by}
-use Rattle.run_merge.specs.Merging.{Ticketed, Histories, without_tickets, sorted, RiseFrom, all_of, history_of, AreOfDifferentObjects, AreTagged, done_by}
+use Rattle.run_merge.specs.Merging.{Ticketed, Histories, without_tickets, sorted_by_ticket, RiseFrom, all_of, history_of, AreOfDifferentObjects, AreTagged, done_by}
 use Rattle.run_merge.proofs.merging.TicketOrder.{rising_sorted, filter_sorted}
 
 pub entries_filter : (q : Entry → Bool) (ns : List Ticketed) → filter q (without_tickets ns) ≡ without_tickets (filter (λ (n : Ticketed). q n.entry) ns)
@@ -75,16 +75,16 @@ at_is name (h ∷ hs) apart tagged =
 
 -- so it is in the merge, and those of a task are what it did
 module _ (hs : Histories) where
-  pub merge_at : AreOfDifferentObjects hs → AreTagged hs → ((name : Object) → RiseFrom 0 (history_of name hs)) → (name : Object) → filter (is_at name) (sorted (all_of hs)) ≡ history_of name hs
-  merge_at apart tagged rises name = filter_sorted (is_at name) (all_of hs) ∙ ap sorted (at_is name hs apart tagged) ∙ rising_sorted 0 (history_of name hs) (rises name)
+  pub merge_at : AreOfDifferentObjects hs → AreTagged hs → ((name : Object) → RiseFrom 0 (history_of name hs)) → (name : Object) → filter (is_at name) (sorted_by_ticket (all_of hs)) ≡ history_of name hs
+  merge_at apart tagged rises name = filter_sorted (is_at name) (all_of hs) ∙ ap sorted_by_ticket (at_is name hs apart tagged) ∙ rising_sorted 0 (history_of name hs) (rises name)
 
-  pub merge_by : (place : ℕ) → filter (is_by place) (sorted (all_of hs)) ≡ done_by place hs
+  pub merge_by : (place : ℕ) → filter (is_by place) (sorted_by_ticket (all_of hs)) ≡ done_by place hs
   merge_by place = filter_sorted (is_by place) (all_of hs)
 
   pub merge_entries_at : AreOfDifferentObjects hs → AreTagged hs → ((name : Object) → RiseFrom 0 (history_of name hs)) → (name : Object)
-      → entries_at name (without_tickets (sorted (all_of hs))) ≡ without_tickets (history_of name hs)
+      → entries_at name (without_tickets (sorted_by_ticket (all_of hs))) ≡ without_tickets (history_of name hs)
   merge_entries_at apart tagged rises name =
-      entries_filter (λ (e : Entry). is_same_object name (object_of e.asked)) (sorted (all_of hs)) ∙ ap without_tickets (merge_at apart tagged rises name)
+      entries_filter (λ (e : Entry). is_same_object name (object_of e.asked)) (sorted_by_ticket (all_of hs)) ∙ ap without_tickets (merge_at apart tagged rises name)
 
-  pub merge_entries_by : (place : ℕ) → entries_by place (without_tickets (sorted (all_of hs))) ≡ without_tickets (done_by place hs)
-  merge_entries_by place = entries_filter (λ (e : Entry). place == e.place) (sorted (all_of hs)) ∙ ap without_tickets (merge_by place)
+  pub merge_entries_by : (place : ℕ) → entries_by place (without_tickets (sorted_by_ticket (all_of hs))) ≡ without_tickets (done_by place hs)
+  merge_entries_by place = entries_filter (λ (e : Entry). place == e.place) (sorted_by_ticket (all_of hs)) ∙ ap without_tickets (merge_by place)

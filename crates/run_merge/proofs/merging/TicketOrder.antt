@@ -3,7 +3,7 @@ use Rattle.std.proofs.Common.{◌≡◌, ◌<◌, ◌≤◌, ◌++◌, cond, ℕ
 use Rattle.std.specs.Prelude.{filter, All}
 use Rattle.std.proofs.lemmas.List.Elements.{All-head, All-tail, All-cons, All-nil}
 use Rattle.std.proofs.lemmas.Bool.{lt-ltb, le-ltb, ltb-true, ltb-false}
-use Rattle.run_merge.specs.Merging.{Ticketed, insert, sorted, RiseFrom}
+use Rattle.run_merge.specs.Merging.{Ticketed, insert, sorted_by_ticket, RiseFrom}
 
 abbrev pub Ordered : ℕ → List Ticketed → Type 0
 Ordered n [] = Unit {0}
@@ -31,11 +31,11 @@ ordered_insert : (n : ℕ) (e : Ticketed) (es : List Ticketed) → n ≤ e.ticke
 ordered_insert n e [] l o = (l, tt)
 ordered_insert n e (x ∷ xs) l o = inserted n e x xs (insert e xs) (nat_lt x.ticket e.ticket) refl l o.0 o.1 (λ k. ordered_insert x.ticket e xs k o.1)
 
-pub sorted_ordered : (es : List Ticketed) → Ordered 0 (sorted es)
+pub sorted_ordered : (es : List Ticketed) → Ordered 0 (sorted_by_ticket es)
 sorted_ordered [] = tt
-sorted_ordered (e ∷ es) = ordered_insert 0 e (sorted es) (omega arith) (sorted_ordered es)
+sorted_ordered (e ∷ es) = ordered_insert 0 e (sorted_by_ticket es) (omega arith) (sorted_ordered es)
 
-pub rising_sorted : (n : ℕ) (es : List Ticketed) → RiseFrom n es → sorted es ≡ es
+pub rising_sorted : (n : ℕ) (es : List Ticketed) → RiseFrom n es → sorted_by_ticket es ≡ es
 rising_sorted n [] r = refl
 rising_sorted n (e ∷ es) r = ap (insert e) (rising_sorted e.ticket es r.1) ∙ insert_front e es (rises_ordered e.ticket es r.1)
 
@@ -48,9 +48,9 @@ all_insert P x (y ∷ ys) h a = placed (nat_lt y.ticket x.ticket) (all_insert P 
     placed true i = All-cons P y (insert x ys) (All-head P y ys a) i
     placed false i = All-cons P x (y ∷ ys) h a
 
-pub all_sorted : (P : Ticketed → Type 0) (xs : List Ticketed) → All P xs → All P (sorted xs)
+pub all_sorted : (P : Ticketed → Type 0) (xs : List Ticketed) → All P xs → All P (sorted_by_ticket xs)
 all_sorted P [] a = a
-all_sorted P (x ∷ xs) a = all_insert P x (sorted xs) (All-head P x xs a) (all_sorted P xs (All-tail P x xs a))
+all_sorted P (x ∷ xs) a = all_insert P x (sorted_by_ticket xs) (All-head P x xs a) (all_sorted P xs (All-tail P x xs a))
 
 -- and what is so of them in order is so of all
 of_insert : (P : Ticketed → Type 0) (x : Ticketed) (xs : List Ticketed) → All P (insert x xs) → P x × All P xs
@@ -61,9 +61,9 @@ of_insert P x (y ∷ ys) a = placed (nat_lt y.ticket x.ticket) a (of_insert P x 
     placed true i more = let r = more (All-tail P y (insert x ys) i) in (r.0, All-cons P y ys (All-head P y (insert x ys) i) r.1)
     placed false i more = (All-head P x (y ∷ ys) i, All-tail P x (y ∷ ys) i)
 
-pub of_sorted : (P : Ticketed → Type 0) (xs : List Ticketed) → All P (sorted xs) → All P xs
+pub of_sorted : (P : Ticketed → Type 0) (xs : List Ticketed) → All P (sorted_by_ticket xs) → All P xs
 of_sorted P [] a = a
-of_sorted P (x ∷ xs) a = let r = of_insert P x (sorted xs) a in All-cons P x xs r.0 (of_sorted P xs r.1)
+of_sorted P (x ∷ xs) a = let r = of_insert P x (sorted_by_ticket xs) a in All-cons P x xs r.0 (of_sorted P xs r.1)
 
 module _ (p : Ticketed → Bool) where
   filtered : (n : ℕ) (x : Ticketed) (ys : List Ticketed) (b : Bool) → n ≤ x.ticket → Ordered x.ticket ys → Ordered n (cond b (x ∷ ys) ys)
@@ -92,15 +92,15 @@ module _ (p : Ticketed → Bool) where
   filter_insert n e [] o = refl
   filter_insert n e (x ∷ xs) o = pick e x xs (nat_lt x.ticket e.ticket) refl o.1 (filter_insert x.ticket e xs o.1)
 
-  step : (e : Ticketed) (es : List Ticketed) (b : Bool) → filter p (sorted es) ≡ sorted (filter p es)
-      → cond b (insert e (filter p (sorted es))) (filter p (sorted es)) ≡ sorted (cond b (e ∷ filter p es) (filter p es))
+  step : (e : Ticketed) (es : List Ticketed) (b : Bool) → filter p (sorted_by_ticket es) ≡ sorted_by_ticket (filter p es)
+      → cond b (insert e (filter p (sorted_by_ticket es))) (filter p (sorted_by_ticket es)) ≡ sorted_by_ticket (cond b (e ∷ filter p es) (filter p es))
   step e es true i = ap (insert e) i
   step e es false i = i
 
   -- what is picked of all, in the order of tickets, is what was picked, in that order
-  pub filter_sorted : (es : List Ticketed) → filter p (sorted es) ≡ sorted (filter p es)
+  pub filter_sorted : (es : List Ticketed) → filter p (sorted_by_ticket es) ≡ sorted_by_ticket (filter p es)
   filter_sorted [] = refl
-  filter_sorted (e ∷ es) = filter_insert 0 e (sorted es) (sorted_ordered es) ∙ step e es (p e) (filter_sorted es)
+  filter_sorted (e ∷ es) = filter_insert 0 e (sorted_by_ticket es) (sorted_ordered es) ∙ step e es (p e) (filter_sorted es)
 
 -- those with smaller tickets than this one
 abbrev pub early : ℕ → List Ticketed → List Ticketed

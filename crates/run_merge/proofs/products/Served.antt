@@ -15,7 +15,7 @@ use Rattle.run_machine.specs.declared.event.Got.TheVariants as got
 use Rattle.run_machine.specs.Laws.{Object, OfPool, OfRescuer, OfDisk, OfBook, OfTally, OfNone, object_of, with_object}
 use Rattle.run_machine.specs.Maps.{upd}
 use Rattle.run_machine.specs.Requests.{Request, Reply, TakeBio, TakeVec, TakeSlip, GiveBio, GiveVec, GiveSlip, Punt, Pop, Push, Complete, Link, Drop, Done, Resize, NextRound, LookRound, LookLeft, Rest, HadBio, HadVec, HadSlip, Missed, Did, Popped, Completed, LinkedTo, DroppedTo, OutIs, Present, LeftOver, Nothing}
-use Rattle.run_machine.specs.Objects.{Objects, Opened, MovesPool, Has, Serves}
+use Rattle.run_machine.specs.Objects.{Objects, Opened, MovesPool, TakesElement, Serves}
 use Rattle.run_machine.proofs.Frames.{upd_same, one_object_changes}
 use Rattle.shared_objects.specs.Calls.{struck}
 use Rattle.run_merge.specs.Machines.{PoolGoes, PoolHas, ServesAt}
@@ -39,7 +39,7 @@ others_stay ledger o request reply new serves = one_object_changes ledger o new 
 pool_goes : (o new : Objects) (number : ℕ) (move : PoolMove) → MovesPool o number move new → PoolGoes (o.pool number) move (new.pool number)
 pool_goes o new number move (can, is) = (can, ap (λ (x : Objects). x.pool number) is ∙ upd_same o.pool number (after_move (o.pool number) move))
 
-pool_has : (o new : Objects) (number : ℕ) (from : Got) → Has o number from new → PoolHas (o.pool number) from (new.pool number)
+pool_has : (o new : Objects) (number : ℕ) (from : Got) → TakesElement o number from new → PoolHas (o.pool number) from (new.pool number)
 pool_has o new number Ordinary h = pool_goes o new number takes_ordinary h
 pool_has o new number Spare h = pool_goes o new number takes_spare h
 pool_has o new number got.Missed h = absurd h
@@ -103,7 +103,7 @@ serves_one ledger o LookLeft reply new h = absurd h
 serves_one ledger o Rest reply new h = absurd h
 
 -- the other way: where the one goes on, all do
-all_have : (o : Objects) (number : ℕ) (from : Got) (v : PoolState) → PoolHas (o.pool number) from v → Has o number from (put_object o (OfPool number) v)
+all_have : (o : Objects) (number : ℕ) (from : Got) (v : PoolState) → PoolHas (o.pool number) from v → TakesElement o number from (put_object o (OfPool number) v)
 all_have o number Ordinary v h = (h.0, ap (put_object o (OfPool number)) h.1)
 all_have o number Spare v h = (h.0, ap (put_object o (OfPool number)) h.1)
 all_have o number got.Missed v h = absurd h

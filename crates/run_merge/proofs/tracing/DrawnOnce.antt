@@ -23,11 +23,11 @@ use Rattle.shared_objects.specs.Logs.{tickets_in}
 use Rattle.shared_objects.specs.Passes.{numbers_of}
 use Rattle.shared_objects.proofs.tickets.TicketsOfCalls.{drawn_of, drew_of, numbers_is}
 use Rattle.shared_objects.proofs.logs.StepNotes.{HasTicket}
-use Rattle.run_merge.specs.Merging.{Ticketed, sorted, all_of}
+use Rattle.run_merge.specs.Merging.{Ticketed, sorted_by_ticket, all_of}
 use Rattle.run_merge.proofs.enough_shown.TaskCounts.{done_at, image_at, all_placed, log_drew}
 use Rattle.run_merge.proofs.enough_shown.CallTickets.{events_told, events_untold}
 use Rattle.run_merge.proofs.enough_shown.CallEvents.{ticketed_events, event_histories, drawn_entry}
-use Rattle.run_merge.proofs.enough_shown.PlaceSums.{total, total_most, total_list, by_places}
+use Rattle.run_merge.proofs.enough_shown.PlaceSums.{sum_of_places, total_most, total_list, by_places}
 use Rattle.run_merge.proofs.enough_shown.LogLeads.{is_told}
 use Rattle.run_merge.proofs.merging.Picked.{is_by, filter_swap, merge_by}
 use Rattle.run_merge.proofs.merging.TicketOrder.{Ordered, sorted_ordered, all_sorted}
@@ -110,7 +110,7 @@ ordered_falls last (n ∷ ns) ordered =
 module _ (s : Scenario) (plain : Plain) (names : List Object) (history : Object → List Call) (left : (name : Object) → ThingState (ThingAt name)) (tasks : List Returned)
     (pass : PassState) (c : ClosesAs (setup s) plain names history left tasks pass) (firsts : map (λ (task : Returned). task.first) tasks ≡ opened.tasks s) where
   abbrev pub merged : List Ticketed
-  merged = sorted (all_of (event_histories names history))
+  merged = sorted_by_ticket (all_of (event_histories names history))
 
   -- how often a task drew a ticket
   abbrev pub drew : ℕ → Returned → ℕ
@@ -151,7 +151,7 @@ module _ (s : Scenario) (plain : Plain) (names : List Object) (history : Object 
       (All-filter (has_number number) (λ (n : Ticketed). n.entry.place < length tasks) merged merged_placed) in
       let most = total_most (λ place. length (filter (is_by place) (filter (has_number number) merged))) (λ place. get_or (map (drew number) tasks) place 0) (length tasks) each in
       let list = total_list (λ (n : ℕ). n) 0 (map (drew number) tasks) in
-      let long = ap (total (λ place. get_or (map (drew number) tasks) place 0)) (length-map tasks (drew number)) in
+      let long = ap (sum_of_places (λ place. get_or (map (drew number) tasks) place 0)) (length-map tasks (drew number)) in
       let all = sum-map (drew number) tasks in
       let once = drawn_once number in
       omega (arith, count, split, most, list, long, all, once)

@@ -27,7 +27,7 @@ use Rattle.shared_objects.proofs.tickets.TicketsOfCalls.{flat_there}
 use Rattle.shared_objects.proofs.tickets.CallOwners.{logged}
 use Rattle.run_merge.specs.Entries.{entries_in}
 use Rattle.run_merge.specs.Joining.{IsJoinedByTicket}
-use Rattle.run_merge.specs.Merging.{Ticketed, all_of, done_by, without_tickets, sorted}
+use Rattle.run_merge.specs.Merging.{Ticketed, all_of, done_by, without_tickets, sorted_by_ticket}
 use Rattle.run_merge.specs.Tracing.{notes_in, NotesAreRuns}
 use Rattle.run_merge.proofs.enough_shown.TaskCounts.{first_is, done_at}
 use Rattle.run_merge.proofs.enough_shown.CallEvents.{ticketed_events, event_histories, histories_are}
@@ -145,4 +145,4 @@ notes_are_runs opened names history left tasks pass is firsts c joined last j (e
     let same = histories_are names history shows in
     joined_is s ledger opened.objects names history left tasks pass
     (subst (λ setup. ClosesAs setup opened.objects names history left tasks pass) is.setup c) (firsts ∙ is.tasks) joined
-    (subst (λ setup. IsJoinedByTicket (notes_in setup tasks) joined) is.setup j) events last run (entries ∙ ap (λ histories. without_tickets (sorted (all_of histories))) same)
+    (subst (λ setup. IsJoinedByTicket (notes_in setup tasks) joined) is.setup j) events last run (entries ∙ ap (λ histories. without_tickets (sorted_by_ticket (all_of histories))) same)

@@ -33,7 +33,7 @@ use Rattle.shared_objects.specs.Guards.{guarded}
 use Rattle.shared_objects.specs.Joins.{HasTaken, IsOfThese}
 use Rattle.shared_objects.specs.Shutting.{IsShutOf}
 use Rattle.shared_objects.specs.Taking.{AreTaken}
-use Rattle.object_things.specs.Stamps.{CommonState, Held, MarkState}
+use Rattle.object_things.specs.Stamps.{CommonState, Stamped, MarkState}
 use Rattle.object_things.specs.Pools.{pool_mark}
 use Rattle.object_things.specs.Lists.{list_mark}
 use Rattle.object_things.specs.Disks.{disk_mark}
@@ -50,18 +50,18 @@ mapped_at f (a ∷ xs) zero x y lt = refl
 mapped_at f (a ∷ xs) (suc k) x y lt = mapped_at f xs k x y (omega (arith, lt))
 
 -- what is left of one lock, into whose first seat those of all tasks were joined
-module _ {O : Type 0} (mark : Held O → MarkState) (answers : ThingState O → Request → Told → ThingState O → Type 0) (common : CommonState) (object : O) (lock : LockId (Held O))
-    (first : SeatState (Held O) Request Told) (thing : Held O) (told : SeatState (Held O) Request Told) (seats : List (Known (Held O) Request Told))
+module _ {O : Type 0} (mark : Stamped O → MarkState) (answers : ThingState O → Request → Told → ThingState O → Type 0) (common : CommonState) (object : O) (lock : LockId (Stamped O))
+    (first : SeatState (Stamped O) Request Told) (thing : Stamped O) (told : SeatState (Stamped O) Request Told) (seats : List (Known (Stamped O) Request Told))
     (round : lock.key.value ≡ guarded common object) (shut : IsShutOf mark answers lock first thing told) (taken : HasTaken (length seats) seats first.known) where
   one_led : Leads answers (unasked object) told.known.seen (state_of_held thing)
   one_led =
-      subst (λ history. Leads answers (unasked object) history (state_of_held thing)) (sym (ap (λ (s : SeatState (Held O) Request Told). s.known.seen) shut.told_is))
+      subst (λ history. Leads answers (unasked object) history (state_of_held thing)) (sym (ap (λ (s : SeatState (Stamped O) Request Told). s.known.seen) shut.told_is))
       (subst (λ start. Leads answers start first.known.seen (state_of_held thing)) (ap state_of_held round) shut.left.0)
 
   one_of_these : IsOfThese seats told.known.seen
   one_of_these =
-      subst (IsOfThese seats) (sym (ap (λ (s : SeatState (Held O) Request Told). s.known.seen) shut.told_is))
-      (((stay_apart (Held O) answers).ends seats first.known taken).1 shut.all)
+      subst (IsOfThese seats) (sym (ap (λ (s : SeatState (Stamped O) Request Told). s.known.seen) shut.told_is))
+      (((stay_apart (Stamped O) answers).ends seats first.known taken).1 shut.all)
 
 -- what stands for a number among pools
 pub pool_by : {X : Type 0} (P : X → Type 0) (vecs bios records : X) (is_vecs of_set : Bool) → P vecs → P bios → P records
@@ -214,8 +214,8 @@ module _ (opened : Plain) (locks : Locks) (firsts : TaskSeats) (closed : Closed)
 
       -- of a kind
       kind_calls : {K E Z O : Type 0} {answers : ThingState O → Request → Told → ThingState O → Type 0} {skey : K → ℕ} {ekey : E → ℕ} {zkey : Z → ℕ} {value : E → O}
-          {thing : Z → Held O} {seen : Z → List Call} {common : CommonState} {es : List E} {rows : List (K × LockId (Held O))}
-          {first_row : List (K × SeatState (Held O) Request Told)} {zs : List Z} (row : TaskSeats → List (K × SeatState (Held O) Request Told))
+          {thing : Z → Stamped O} {seen : Z → List Call} {common : CommonState} {es : List E} {rows : List (K × LockId (Stamped O))}
+          {first_row : List (K × SeatState (Stamped O) Request Told)} {zs : List Z} (row : TaskSeats → List (K × SeatState (Stamped O) Request Told))
           → IsLeftOfKind answers skey ekey zkey value thing seen common es rows first_row zs (map row all) → AreSeatsOf mine.number rows (row mine)
           → (n : ℕ) → calls_by ((k + 1) ∷ []) (look_up zkey seen (λ m. []) zs n) ≡ calls_in skey (row mine) n
       kind_calls {skey = skey} {rows = rows} row left are n =

@@ -5,7 +5,7 @@ use Rattle.seat_lock.specs.Seats.{LockId, SeatState, own}
 use Rattle.run_machine.specs.Requests.{Request}
 use Rattle.task_core.specs.Tables.{look_up}
 use Rattle.object_things.specs.Histories.{Call}
-use Rattle.object_things.specs.Stamps.{CommonState, Held, ThingState, Told}
+use Rattle.object_things.specs.Stamps.{CommonState, Stamped, ThingState, Told}
 use Rattle.shared_objects.specs.ClosedByName.{state_of_held}
 use Rattle.shared_objects.specs.Guards.{guarded}
 use Rattle.shared_objects.specs.Holding.{calls_in}
@@ -21,16 +21,16 @@ use Rattle.shared_objects.proofs.leaving.RowsByNumber.{calls_of_one, all_of_task
 -- What is known of the objects of a kind: how numbers are told from keys of locks and seats, from entries as they were opened and from what is left;
 -- that the locks are round what was opened; that what is left is what their histories leave; and that all tasks' seats were joined.
 pub record IsLeftOfKind {K E Z O : Type 0} (answers : ThingState O → Request → Told → ThingState O → Type 0) (skey : K → ℕ) (ekey : E → ℕ) (zkey : Z → ℕ) (value : E → O)
-    (thing : Z → Held O) (seen : Z → List Call) (common : CommonState) (es : List E) (locks : List (K × LockId (Held O)))
-    (firsts : List (K × SeatState (Held O) Request Told)) (zs : List Z) (rows : List (List (K × SeatState (Held O) Request Told))) : Type 0 where
+    (thing : Z → Stamped O) (seen : Z → List Call) (common : CommonState) (es : List E) (locks : List (K × LockId (Stamped O)))
+    (firsts : List (K × SeatState (Stamped O) Request Told)) (zs : List Z) (rows : List (List (K × SeatState (Stamped O) Request Told))) : Type 0 where
   pub round : Abreast (λ e lock. (skey lock.0 ≡ ekey e) × (lock.1.key.value ≡ guarded common (value e))) es locks
   pub shut : AbreastThree (λ lock first z. (zkey z ≡ skey lock.0) × (seen z ≡ first.1.known.seen) × (own first.1.known ≡ first.1.known.seen)
       × Leads answers (state_of_held lock.1.key.value) first.1.known.seen (state_of_held (thing z))) locks firsts zs
   pub taken : AreTaken (length rows) rows firsts
 
 module _ {K E Z O : Type 0} {answers : ThingState O → Request → Told → ThingState O → Type 0} {skey : K → ℕ} {ekey : E → ℕ} {zkey : Z → ℕ} {value : E → O}
-    {thing : Z → Held O} {seen : Z → List Call} {common : CommonState} {es : List E} {locks : List (K × LockId (Held O))}
-    {firsts : List (K × SeatState (Held O) Request Told)} {zs : List Z} {rows : List (List (K × SeatState (Held O) Request Told))}
+    {thing : Z → Stamped O} {seen : Z → List Call} {common : CommonState} {es : List E} {locks : List (K × LockId (Stamped O))}
+    {firsts : List (K × SeatState (Stamped O) Request Told)} {zs : List Z} {rows : List (List (K × SeatState (Stamped O) Request Told))}
     (left : IsLeftOfKind answers skey ekey zkey value thing seen common es locks firsts zs rows) where
   pub pairs : Abreast (λ e z. (zkey z ≡ ekey e) × Leads answers (unasked (value e)) (seen z) (state_of_held (thing z))) es zs
   pairs = record {
@@ -64,8 +64,8 @@ module _ {K E Z O : Type 0} {answers : ThingState O → Request → Told → Thi
       (all_of_tasks answers rows firsts zs seen left.taken closed_seen)
 
   -- and those of each task are what its seats show
-  pub task_calls : (k : ℕ) (row : List (K × SeatState (Held O) Request Told)) → k < length rows
-      → Abreast (λ (lock : K × LockId (Held O)) (seat : K × SeatState (Held O) Request Told). skey seat.0 ≡ skey lock.0) locks (get_or rows k row)
+  pub task_calls : (k : ℕ) (row : List (K × SeatState (Stamped O) Request Told)) → k < length rows
+      → Abreast (λ (lock : K × LockId (Stamped O)) (seat : K × SeatState (Stamped O) Request Told). skey seat.0 ≡ skey lock.0) locks (get_or rows k row)
       → (n : ℕ) → calls_by ((k + 1) ∷ []) (look_up zkey seen (λ m. []) zs n) ≡ calls_in skey (get_or rows k row) n
   task_calls k row lt keys = calls_by_number skey zkey seen ((k + 1) ∷ []) zs (get_or rows k row) (record {
     lens = let l = keys.lens in let m = left.shut.lens.1 in omega (arith, l, m);
@@ -80,10 +80,10 @@ module _ {K E Z O : Type 0} {answers : ThingState O → Request → Told → Thi
   })
 
 -- what is left of a lock, with its key
-pub left_with_key : {K O : Type 0} (key : K → ℕ) (mark : Held O → MarkState) (answers : ThingState O → Request → Told → ThingState O → Type 0)
-    (lock : K × LockId (Held O)) (first : K × SeatState (Held O) Request Told) (other : K) (thing : Held O) (told : SeatState (Held O) Request Told) → other ≡ lock.0
+pub left_with_key : {K O : Type 0} (key : K → ℕ) (mark : Stamped O → MarkState) (answers : ThingState O → Request → Told → ThingState O → Type 0)
+    (lock : K × LockId (Stamped O)) (first : K × SeatState (Stamped O) Request Told) (other : K) (thing : Stamped O) (told : SeatState (Stamped O) Request Told) → other ≡ lock.0
     → IsShutOf mark answers lock.1 first.1 thing told
     → (key other ≡ key lock.0) × (told.known.seen ≡ first.1.known.seen) × (own first.1.known ≡ first.1.known.seen)
     × Leads answers (state_of_held lock.1.key.value) first.1.known.seen (state_of_held thing)
 left_with_key key mark answers lock first other thing told same shut =
-    (ap key same, ap (λ (s : SeatState (Held _) Request Told). s.known.seen) shut.told_is, shut.all, shut.left.0)
+    (ap key same, ap (λ (s : SeatState (Stamped _) Request Told). s.known.seen) shut.told_is, shut.all, shut.left.0)

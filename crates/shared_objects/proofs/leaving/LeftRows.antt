@@ -7,7 +7,7 @@ use Rattle.run_machine.specs.Requests.{Request}
 use Rattle.stack_base.specs.declared.ids.DevId.{DevId}
 use Rattle.model_disks.specs.Disks.{DiskState}
 use Rattle.run_machine.specs.Laws.{Object, OfDisk}
-use Rattle.object_things.specs.Stamps.{CommonState, Held, MarkState, ThingState, Told, thing_state}
+use Rattle.object_things.specs.Stamps.{CommonState, Stamped, MarkState, ThingState, Told, thing_state}
 use Rattle.object_things.specs.Disks.{disk_mark}
 use Rattle.shared_objects.specs.Holding.{IsNamed, dev_key}
 use Rattle.shared_objects.specs.Rows.{AbreastThree, AreAdded}
@@ -23,9 +23,9 @@ disk_in (OfDisk dev) = dev
 disk_in name = 0
 
 -- a row of disks, of which each knows its device
-pub shut_disks : {Q S : Type 0} (common : CommonState) (locks : List (DevId × LockId (Held DiskState))) (firsts : List (DevId × SeatState (Held DiskState) Request Told))
-    (olds news : List (Shut (Held DiskState) Q S (ThingState DiskState) Request Told MarkState)) → olds ≡ []
-    → All (λ (e : DevId × LockId (Held DiskState)). IsNamed disk_mark common (OfDisk (dev_key e.0)) e.1) locks
+pub shut_disks : {Q S : Type 0} (common : CommonState) (locks : List (DevId × LockId (Stamped DiskState))) (firsts : List (DevId × SeatState (Stamped DiskState) Request Told))
+    (olds news : List (Shut (Stamped DiskState) Q S (ThingState DiskState) Request Told MarkState)) → olds ≡ []
+    → All (λ (e : DevId × LockId (Stamped DiskState)). IsNamed disk_mark common (OfDisk (dev_key e.0)) e.1) locks
     → AreAdded IsShutDisk locks firsts olds news
     → AbreastThree (λ lock first left. (left.thing.object.dev.0 ≡ lock.0.0) × IsShutDisk lock first left) locks firsts news
 shut_disks common locks firsts olds news none named are =

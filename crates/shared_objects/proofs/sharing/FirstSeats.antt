@@ -1,7 +1,7 @@
 -- First seats of locks that were just opened.
 use Rattle.std.proofs.Common.{◌≡◌, ◌∙◌, List, sym, subst}
 use Rattle.seat_lock.specs.Seats.{LockId, SeatState}
-use Rattle.object_things.specs.Stamps.{CommonState, Held}
+use Rattle.object_things.specs.Stamps.{CommonState, Stamped}
 use Rattle.shared_objects.specs.Guards.{guarded}
 use Rattle.shared_objects.specs.Opening.{IsFirstAt, guarded_row}
 use Rattle.shared_objects.specs.Rows.{Abreast, AbreastThree, IsLockOf}
@@ -16,8 +16,8 @@ module _ {K T A R : Type 0} (things : List (K × T)) (locks : List (K × LockId 
   firsts_of = last_two IsLockOf things locks firsts are (IsFirstAt 0) (λ thing lock first is. (is.keys.1 ∙ sym is.keys.0, is.first_is))
 
 -- locks round things are round the objects that these were made of
-module _ {K O : Type 0} (common : CommonState) (objects : List (K × O)) (things : List (K × Held O)) (locks : List (K × LockId (Held O))) where
-  abbrev IsRound : K × Held O → K × LockId (Held O) → Type 0
+module _ {K O : Type 0} (common : CommonState) (objects : List (K × O)) (things : List (K × Stamped O)) (locks : List (K × LockId (Stamped O))) where
+  abbrev IsRound : K × Stamped O → K × LockId (Stamped O) → Type 0
   IsRound thing lock = (lock.0 ≡ thing.0) × (lock.1.key.value ≡ thing.1)
 
   pub round_objects : things ≡ guarded_row common objects → AreRound (λ thing. thing) things locks → AreRound (guarded common) objects locks

@@ -20,7 +20,7 @@ use Rattle.object_things.specs.Books.{book_mark}
 use Rattle.object_things.specs.Disks.{disk_mark}
 use Rattle.object_things.specs.Lists.{list_mark}
 use Rattle.object_things.specs.Pools.{pool_mark}
-use Rattle.object_things.specs.Stamps.{CommonState, Held, MarkState}
+use Rattle.object_things.specs.Stamps.{CommonState, Stamped, MarkState}
 use Rattle.object_things.specs.Tallies.{tally_mark}
 use Rattle.shared_objects.specs.Guards.{guarded}
 use Rattle.shared_objects.specs.Holding.{AreLocked, IsNamed, LocksHold, dev_key, set_key, slip_key, writer_key}
@@ -40,11 +40,11 @@ placed_by ekey lkey used table entries locks are there = λ n is. record {
       ∙ sym (same_position (is_entry_of ekey n) (is_entry_of lkey n) entries locks are.lens (λ k e l lt. ap (λ x. x == n) (are.each k e l lt)));
 }
 
-module _ {K O : Type 0} (key : K → ℕ) (mark : Held O → MarkState) (name : ℕ → Object) (number : O → ℕ) (common : CommonState)
-    (marks : (o : O) → mark (guarded common o) ≡ record { common = common; name = name (number o) }) (objects : List (K × O)) (locks : List (K × LockId (Held O)))
+module _ {K O : Type 0} (key : K → ℕ) (mark : Stamped O → MarkState) (name : ℕ → Object) (number : O → ℕ) (common : CommonState)
+    (marks : (o : O) → mark (guarded common o) ≡ record { common = common; name = name (number o) }) (objects : List (K × O)) (locks : List (K × LockId (Stamped O)))
     (round : AreRound (guarded common) objects locks) where
   -- each lock is round the object that its key names
-  named_by : All (λ (entry : K × O). number entry.1 ≡ key entry.0) objects → All (λ (e : K × LockId (Held O)). IsNamed mark common (name (key e.0)) e.1) locks
+  named_by : All (λ (entry : K × O). number entry.1 ≡ key entry.0) objects → All (λ (e : K × LockId (Stamped O)). IsNamed mark common (name (key e.0)) e.1) locks
   named_by all k lock lt =
       let l = round.lens in
       let o = some_of objects k (omega (arith, lt, l)) in
@@ -52,10 +52,10 @@ module _ {K O : Type 0} (key : K → ℕ) (mark : Held O → MarkState) (name : 
       let entry : K × O = get_or objects k o in
       ap mark here.1 ∙ marks entry.1 ∙ ap (λ n. record { common = common; name = name n }) (all k o (omega (arith, lt, l)) ∙ ap key (sym here.0))
 
-  pub are_locked : {E : Type 0} (ekey : E → ℕ) (used : ℕ → Bool) (table : List ℕ) (entries : List E) → Abreast (λ e (lock : K × LockId (Held O)). key lock.0 ≡ ekey e) entries locks
+  pub are_locked : {E : Type 0} (ekey : E → ℕ) (used : ℕ → Bool) (table : List ℕ) (entries : List E) → Abreast (λ e (lock : K × LockId (Stamped O)). key lock.0 ≡ ekey e) entries locks
       → AreAt ekey used table entries → All (λ (entry : K × O). number entry.1 ≡ key entry.0) objects → AreLocked key mark name common used table locks
   are_locked ekey used table entries same there all = record {
-    placed = placed_by ekey (λ (e : K × LockId (Held O)). key e.0) used table entries locks same there;
+    placed = placed_by ekey (λ (e : K × LockId (Stamped O)). key e.0) used table entries locks same there;
     named = named_by all;
   }
 
@@ -63,7 +63,7 @@ module _ {K O : Type 0} (key : K → ℕ) (mark : Held O → MarkState) (name : 
   pub row_locked : (used : ℕ → Bool) (table : List ℕ) → AreAt (λ (entry : K × O). key entry.0) used table objects → All (λ (entry : K × O). number entry.1 ≡ key entry.0) objects
       → AreLocked key mark name common used table locks
   row_locked used table = are_locked (λ (entry : K × O). key entry.0) used table objects
-      (weaker_two _ (λ (entry : K × O) (lock : K × LockId (Held O)). key lock.0 ≡ key entry.0) (λ entry lock is. ap key is.0) objects locks round)
+      (weaker_two _ (λ (entry : K × O) (lock : K × LockId (Stamped O)). key lock.0 ≡ key entry.0) (λ entry lock is. ap key is.0) objects locks round)
 
 module _ (locks : Locks) (can : CanShare locks.common.value.opened) (round : AreOfOpened locks.common.value.opened locks) where
   abbrev common : CommonState
@@ -88,7 +88,7 @@ module _ (locks : Locks) (can : CanShare locks.common.value.opened) (round : Are
         (tables (λ i. AreAt list_number (λ dev. has_rescuer (stage_of plain) (at dev)) i.lists plain.lists.items) can.holds.entered.lists) (λ k d lt. (can.lists k d lt).1);
     disks = are_locked dev_key disk_mark OfDisk (λ (disk : DiskState). disk.dev.0) common (λ o. refl) (disks_by_device plain.disks.items) locks.disks.items round.disks
         disk_number (λ dev. has_disk (stage_of plain) (at dev)) locks.index.disks plain.disks.items
-        (weaker_two _ (λ (disk : DiskState) (lock : DevId × LockId (Held DiskState)). dev_key lock.0 ≡ disk_number disk) (λ disk lock is. ap dev_key is.0) plain.disks.items locks.disks.items
+        (weaker_two _ (λ (disk : DiskState) (lock : DevId × LockId (Stamped DiskState)). dev_key lock.0 ≡ disk_number disk) (λ disk lock is. ap dev_key is.0) plain.disks.items locks.disks.items
         (of_made (λ (disk : DiskState). (disk.dev, disk)) _ plain.disks.items locks.disks.items round.disks))
         (tables (λ i. AreAt disk_number (λ dev. has_disk (stage_of plain) (at dev)) i.disks plain.disks.items) can.holds.entered.disks)
         (All-map (λ (entry : DevId × DiskState). entry.1.dev.0 ≡ dev_key entry.0) (λ (disk : DiskState). (disk.dev, disk)) plain.disks.items (λ k d lt. refl));

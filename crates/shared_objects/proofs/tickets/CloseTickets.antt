@@ -23,7 +23,7 @@ use Rattle.shared_objects.specs.Led.{BrokeOff, IsLed}
 use Rattle.shared_objects.specs.Left.{HasClosed}
 use Rattle.shared_objects.specs.Logs.{FoundNone, is_event, is_glance, is_stop}
 use Rattle.shared_objects.specs.Passes.{found_by, numbers_of}
-use Rattle.shared_objects.specs.Tickets.{AreOfHistories, ClosesShowTickets, DrewTicket, Enters, IsBehind, IsEvent, IsRefusedCall, ShowsItsTickets}
+use Rattle.shared_objects.specs.Tickets.{AreOfHistories, ClosesShowTickets, DrewTicket, EntryCarries, IsBehind, IsEvent, IsRefusedCall, ShowsItsTickets}
 use Rattle.shared_objects.specs.declared.closed.Closed.{Closed}
 use Rattle.shared_objects.proofs.tickets.TicketsOfCalls.{drawn_of, drew_of, flat_all, in_row, last_drawn, map_from, map_there, ticket_from}
 use Rattle.shared_objects.proofs.logs.CallsLead.{kinds, logs_lead}
@@ -72,7 +72,7 @@ same_stops set first now log led call other there here stop halt = by_stops led.
 module _ (set : Setup) (plain : Plain) (names : List Object) (history : Object → List Call) (left : (name : Object) → ThingState (ThingAt name)) (tasks : List Returned)
     (pass : PassState) (c : ClosesAs set plain names history left tasks pass) (found : All (λ (task : Returned). found_by task.desk.pass ≤ pass.known) tasks) where
   -- a call that drew a ticket is an event, whose entry carries it, or was refused
-  told_or_refused : (name : Object) (call : Call) (n : ℕ) → Contains (history name) call → call.told.drawn ≡ Some n → Enters n call
+  told_or_refused : (name : Object) (call : Call) (n : ℕ) → Contains (history name) call → call.told.drawn ≡ Some n → EntryCarries n call
   told_or_refused name call n there is = by_event (is_event call.asked call.told.reply) refl
     where
       p : IsInPlace set plain names history left tasks pass c name call
@@ -81,7 +81,7 @@ module _ (set : Setup) (plain : Plain) (names : List Object) (history : Object �
       step : StepOf (serves_at name) (looks_at name) p.here call.asked call.told.reply (Some n) p.next
       step = subst (λ t. StepOf (serves_at name) (looks_at name) p.here call.asked call.told.reply t p.next) is p.answers.step
 
-      by_event : (b : Bool) → is_event call.asked call.told.reply ≡ b → Enters n call
+      by_event : (b : Bool) → is_event call.asked call.told.reply ≡ b → EntryCarries n call
       by_event true e = inl (e, p.answers.ticket ∙ carried_some (what_of call.asked call.told.reply) call.told.drawn e ∙ is)
       by_event false e = inr (
         served_refused name p.here.object p.next.object call.asked call.told.reply step.0 e,
@@ -89,7 +89,7 @@ module _ (set : Setup) (plain : Plain) (names : List Object) (history : Object �
       )
 
   abbrev HasDrawing : Ticket → Type 0
-  HasDrawing ticket = (call : Call) × DrewTicket history ticket.number call × Enters ticket.number call
+  HasDrawing ticket = (call : Call) × DrewTicket history ticket.number call × EntryCarries ticket.number call
 
   -- the ticket of a call of a task stands in the history of the object that was asked
   of_task : (place : ℕ) (task : Returned) → slice_get tasks place ≡ Some task → (ticket : Ticket) → Contains (drawn_of task) ticket → HasDrawing ticket

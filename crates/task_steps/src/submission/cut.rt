@@ -7,7 +7,7 @@ ghost use Rattle.task_steps.specs.declared.submission.Doing.TheVariants as doing
 ghost use Rattle.task_steps.specs.declared.submission.Want.TheVariants.{Punts, Links};
 ghost use Rattle.run_machine.specs.Submissions.{is_cut};
 ghost use Rattle.task_steps.specs.Within.{IsWithinDevice, ListsAreWithin};
-ghost use Rattle.task_steps.specs.Routed.{cut_front, device_tree};
+ghost use Rattle.task_steps.specs.Routed.{cut_front, routed_tree};
 ghost use Rattle.task_steps.specs.SubmissionViews.{cutting, IsDoingAlone};
 ghost use Rattle.task_steps.specs.Answers.{punt_request, Ready, Does, AlwaysDoes};
 
@@ -79,7 +79,7 @@ pub(crate) fn chain<O: Objects>(
     requires alone { IsAlone bio × IsAlone hand }
     requires rests { at.old ≡ doing'.Rests }
     requires within { IsWithinDevice routes.now.stack (item_of bio).bio }
-    requires cut { is_cut (device_tree routes.now (item_of bio).bio.dev) (item_of bio).bio.range ≡ true }
+    requires cut { is_cut (routed_tree routes.now (item_of bio).bio.dev) (item_of bio).bio.range ≡ true }
     requires lists { ListsAreWithin routes.now.stack lists.old }
     ensures does { Does O.Objects routes.now task (cutting bio (Links hand)) lists.old objects.old (at.new, result) lists.new objects.new }
     ensures alone { IsDoingAlone at.new }

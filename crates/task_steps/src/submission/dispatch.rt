@@ -4,7 +4,7 @@ ghost use Rattle.bio_records.specs.Items.{item_of, IsAlone};
 ghost use Rattle.run_machine.specs.Submissions.{Rests, Drives, goes_on, is_cut};
 ghost use Rattle.task_steps.specs.declared.submission.Doing.TheVariants as doing';
 ghost use Rattle.task_steps.specs.Within.{IsWithinDevice, ListsAreWithin, DoingFits, SubmissionFits};
-ghost use Rattle.task_steps.specs.Routed.{routing_setup, device_tree};
+ghost use Rattle.task_steps.specs.Routed.{routing_setup, routed_tree};
 ghost use Rattle.task_steps.specs.SubmissionViews.{asking, cutting, copying, attempt_of, ask_of, doing_of, landed_submission, submission_of, IsWantAlone, IsAskOfAlone, IsDoingAlone, is_asking};
 ghost use Rattle.task_steps.specs.Answers.{AsksFirst, Does, SubmissionReady};
 
@@ -78,7 +78,7 @@ fn cut<O: Objects>(
     requires rests { at.old ≡ doing'.Rests }
     requires no_attempt { attempt_of (cutting bio want) ≡ None }
     requires within { IsWithinDevice routes.now.stack (item_of bio).bio }
-    requires cut { is_cut (device_tree routes.now (item_of bio).bio.dev) (item_of bio).bio.range ≡ true }
+    requires cut { is_cut (routed_tree routes.now (item_of bio).bio.dev) (item_of bio).bio.range ≡ true }
     requires lists { ListsAreWithin routes.now.stack lists.old }
     ensures does { Does O.Objects routes.now task (cutting bio want) lists.old objects.old (at.new, result) lists.new objects.new }
     ensures alone { IsDoingAlone at.new }

@@ -8,7 +8,7 @@ ghost use Rattle.task_steps.specs.declared.submission.Doing.TheVariants as doing
 ghost use Rattle.task_steps.specs.declared.submission.DriverAsk.TheVariants.{ToRecord, ToMaster};
 ghost use Rattle.task_steps.specs.declared.submission.Want.TheVariants.{Punts, Links};
 ghost use Rattle.task_steps.specs.Within.{IsWithinDevice, ListsAreWithin};
-ghost use Rattle.task_steps.specs.Routed.{device_tree, routing_setup};
+ghost use Rattle.task_steps.specs.Routed.{routed_tree, routing_setup};
 ghost use Rattle.task_steps.specs.SubmissionViews.{asking, copying, submission_of, IsDoingAlone};
 ghost use Rattle.task_steps.specs.Answers.{punt_request, Ready, Does, AlwaysDoes, SubmissionReady};
 
@@ -133,7 +133,7 @@ pub(crate) fn copy_on(
 )
     requires rests { at.old ≡ doing'.Rests }
     requires bio { IsWithinDevice routes.now.stack run.bio }
-    requires legs { legs ≡ legs_of (device_tree routes.now run.bio.dev) }
+    requires legs { legs ≡ legs_of (routed_tree routes.now run.bio.dev) }
     requires lists { ListsAreWithin routes.now.stack lists.old }
     ensures submission { submission_of at.new lists.new ≡ copies (routing_setup routes.now) lists.old run.bio run.master run.leg }
     ensures alone { IsDoingAlone at.new }
@@ -192,8 +192,8 @@ pub(crate) fn punt_to_copy<O: Objects>(
 fn copy_of(routes: &Routes, bio: &Bio, leg: u32, node: u32, mut hand: BioElement) -> BioElement
     requires alone { IsAlone hand }
     requires within { IsWithinDevice routes.now.stack bio.now }
-    requires leg { leg < legs_of (device_tree routes.now bio.now.dev) }
-    ensures copy { item_of result ≡ leg_at bio.now (item_of hand) leg node (device_tree routes.now bio.now.dev) }
+    requires leg { leg < legs_of (routed_tree routes.now bio.now.dev) }
+    ensures copy { item_of result ≡ leg_at bio.now (item_of hand) leg node (routed_tree routes.now bio.now.dev) }
     ensures alone { IsAlone result }
     ensures within { IsWithinDevice routes.now.stack (item_of result).bio }
 {
@@ -216,7 +216,7 @@ pub(crate) fn leg<O: Objects>(
     requires alone { IsAlone hand }
     requires rests { at.old ≡ doing'.Rests }
     requires within { IsWithinDevice routes.now.stack run.bio }
-    requires leg { run.leg < legs_of (device_tree routes.now run.bio.dev) }
+    requires leg { run.leg < legs_of (routed_tree routes.now run.bio.dev) }
     requires lists { ListsAreWithin routes.now.stack lists.old }
     ensures does { Does O.Objects routes.now task (copying run (Links hand)) lists.old objects.old (at.new, result) lists.new objects.new }
     ensures alone { IsDoingAlone at.new }

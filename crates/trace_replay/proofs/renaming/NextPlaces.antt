@@ -32,7 +32,7 @@ use Rattle.block_core.proofs.moves.StepsTold.{touch_in}
 use Rattle.trace_replay.specs.Names.{Names, no_names, names_after, event_placed, placed}
 use Rattle.trace_replay.specs.Traces.{AreRead, NextPlacesAreVacant}
 use Rattle.trace_replay.proofs.renaming.Books.{elsewhere}
-use Rattle.trace_replay.proofs.renaming.Room.{HasLeft, to_open, opens, opens_of_those, opened_after, finds_next, room_left}
+use Rattle.trace_replay.proofs.renaming.Room.{HasLeft, writer_of, key_of, to_open, opens, opens_of_those, opened_after, finds_next, room_left}
 
 -- a place of a book at which no node is open, where another changes
 module _ (books : ℕ → BookState) (w place : ℕ) (none : node_at (books w) place ≡ None) where
@@ -157,14 +157,6 @@ module _ (names : Names) where
   as_many w Passes (Opens v k) is = absurd (is v k refl)
   as_many w Passes (Shuts v k) is = refl
   as_many w Passes Passes is = refl
-
-abbrev writer_of : Touch → ℕ
-writer_of (Opens writer key) = writer
-writer_of touch = 0
-
-abbrev key_of : Touch → ℕ
-key_of (Opens writer key) = key
-key_of touch = 0
 
 module _ (names : Names) (w place : ℕ) where
   not_next : (told read : Touch) → OpensAt names told read → names.opened w + opens w told ≤ place → Opens w place ≢ read

@@ -47,12 +47,13 @@ TouchIs (Opens writer key) = ⊥
 TouchIs (Shuts writer key) = Unit {0}
 TouchIs Passes = Unit {0}
 
-abbrev writer_of : Touch → ℕ
+-- the writer, and the key, of an opening
+abbrev pub writer_of : Touch → ℕ
 writer_of (Opens writer key) = writer
 writer_of (Shuts writer key) = 0
 writer_of Passes = 0
 
-abbrev key_of : Touch → ℕ
+abbrev pub key_of : Touch → ℕ
 key_of (Opens writer key) = key
 key_of (Shuts writer key) = 0
 key_of Passes = 0

@@ -1,14 +1,14 @@
 -- Line by line.
 use Rattle.std.proofs.Common.{length, sym, ap, ◌∙◌, arith}
 use Rattle.decl_text.specs.Text.{lines}
-use Rattle.decl_text.specs.Places.{At, left}
+use Rattle.decl_text.specs.Places.{TextPlace, left}
 use Rattle.trace_replay.proofs.CutLemmas.{at_first, goes_on, left_at, stops_at_end, stops_at_told}
 use Rattle.trace_replay.proofs.cut.first_told.Goals as goal
 
 pub loop-line-init : goal.loop-line-init
 loop-line-init c = record {
-  text = ap (λ (at : At). at.text) c.from-lines.ensures;
-  place = ap (λ (at : At). at.place) c.from-lines.ensures;
+  text = ap (λ (at : TextPlace). at.text) c.from-lines.ensures;
+  place = ap (λ (at : TextPlace). at.place) c.from-lines.ensures;
   within = omega arith;
   behind = at_first c.args.text.now;
 }

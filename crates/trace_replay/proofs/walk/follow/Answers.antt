@@ -1,7 +1,7 @@
 -- Line by line.
 use Rattle.std.proofs.Common.{◌≡◌, ◌+◌, ℕ, length, map, Bool, List, ◌∷◌, ap, sym, ◌∙◌, subst, arith}
 use Rattle.decl_text.specs.Text.{lines}
-use Rattle.decl_text.specs.Places.{At, left}
+use Rattle.decl_text.specs.Places.{TextPlace, left}
 use Rattle.plain_core.specs.Cores.{scene_of_core, state_of_core}
 use Rattle.std.specs.Global.{Vec}
 use Rattle.std.proofs.lemmas.List.{length-map}
@@ -20,10 +20,10 @@ use Rattle.model_disks.proofs.GrownLemmas.{kept_whole}
 pub loop-line-init : goal.loop-line-init
 loop-line-init c =
     let start : told_lines c.args.first (lines (left c.from-lines.result)) ≡ told_in c.args.first c.args.text.now =
-    ap (λ (at : At). told_lines c.args.first (lines (left at))) c.from-lines.ensures in
+    ap (λ (at : TextPlace). told_lines c.args.first (lines (left at))) c.from-lines.ensures in
     record {
-      text = ap (λ (at : At). at.text) c.from-lines.ensures;
-      within = omega (arith, ap (λ (at : At). at.place) c.from-lines.ensures);
+      text = ap (λ (at : TextPlace). at.text) c.from-lines.ensures;
+      within = omega (arith, ap (λ (at : TextPlace). at.place) c.from-lines.ensures);
       numbers = omega arith;
       counts = omega arith;
       come = subst (λ (names : Names). HasCome c.args.stack.now (scene_of_core c.args.core.now) (state_of_core c.args.core.now) (told_in c.args.first c.args.text.now)

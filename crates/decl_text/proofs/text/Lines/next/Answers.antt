@@ -1,6 +1,6 @@
 use Rattle.std.proofs.Common.{◌≡◌, ◌+◌, [], ◌∷◌, length, drop, take, refl, ◌∙◌, ap, subst, arith}
 use Rattle.std.proofs.lemmas.List.{nil_from_length}
-use Rattle.decl_text.specs.Places.{At, left}
+use Rattle.decl_text.specs.Places.{TextPlace, left}
 use Rattle.decl_text.specs.Text.{lines}
 use Rattle.decl_text.proofs.SplitLemmas.{line_within, no_lines}
 use Rattle.decl_text.proofs.text.Lines.next.Goals as goal
@@ -15,6 +15,6 @@ returns-clause-cut c = λ more.
     let place = c.self.inside.place in
     let taken = c.first_line-taken.result.1 in
     let line = c.first_line-taken.result.0.now in
-    subst (λ (at : At). lines (drop at.place (take (place + taken + more) at.text)) ≡ line ∷ lines (drop (place + taken) (take (place + taken + more) at.text)))
+    subst (λ (at : TextPlace). lines (drop at.place (take (place + taken + more) at.text)) ≡ line ∷ lines (drop (place + taken) (take (place + taken + more) at.text)))
     c.self.view_is
     (line_within c.self.inside.text.now c.split_at.result.1.now line place taken more c.split_at.ensures.back (c.first_line-taken.ensures.cut more))
