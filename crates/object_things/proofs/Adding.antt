@@ -33,10 +33,11 @@ use Rattle.object_things.specs.Lists.{ListServes, ListLooks}
 use Rattle.object_things.specs.Disks.{DiskServes, DiskLooks}
 use Rattle.object_things.specs.Tallies.{TallyServes, TallyLooks}
 
-module _ {O : Type 0} (mark : Stamped O → MarkState) (serves : O → Request → Reply → O → Type 0) (looks : ThingState O → Request → Reply → ThingState O → Type 0) (adds_up : O → List Call → O → Type 0)
+module _ {O : Type 0} (mark : Stamped O → MarkState) (serves : O → Request → Reply → O → Type 0) (looks : ThingState O → Request → Reply → ThingState O → Type 0)
+    (chooses : O → Reply → Option ℕ → Type 0) (adds_up : O → List Call → O → Type 0)
     (still : (object : O) → adds_up object [] object)
     (one : (old mid : ThingState O) (call : Call) (ticket : Option ℕ) (new : O) (rest : List Call) → StepOf serves looks old call.asked call.told.reply ticket mid → adds_up mid.object rest new → adds_up old.object (call ∷ rest) new) where
-  along : (old new : ThingState O) (history : List Call) → Leads (ThingAnswers serves looks) old history new → adds_up old.object history new.object
+  along : (old new : ThingState O) (history : List Call) → Leads (ThingAnswers serves looks chooses) old history new → adds_up old.object history new.object
   along old new [] l = subst (λ (k : ThingState O). adds_up old.object [] k.object) l (still old.object)
   along old new (c ∷ cs) l = one old l.0 c c.told.drawn new.object cs l.1.step (along l.0 new cs l.2)
 
@@ -45,7 +46,7 @@ module _ {O : Type 0} (mark : Stamped O → MarkState) (serves : O → Request �
   homes_tail (x ∷ xs) d = x
 
   at_home : (key : Snapshot (Stamped O)) (table : State (Stamped O) (View (Stamped O) Request Told)) (kept : Stamped O)
-      → (turning : IsTurning (λ held. thing_state held.object held.stamp) mark (ThingAnswers serves looks) key table) → table.homes ≡ some kept ∷ [] → adds_up key.value.object turning.log kept.object
+      → (turning : IsTurning (λ held. thing_state held.object held.stamp) mark (ThingAnswers serves looks chooses) key table) → table.homes ≡ some kept ∷ [] → adds_up key.value.object turning.log kept.object
   at_home key table kept turning home = ⊎_elim
       (λ p. let same : p.0 ≡ kept = some-injective p.0 kept (ap (λ hs. homes_tail hs none) (sym p.1 ∙ home)) in
       subst (λ (k : Stamped O). adds_up key.value.object turning.log k.object) same
@@ -53,7 +54,7 @@ module _ {O : Type 0} (mark : Stamped O → MarkState) (serves : O → Request �
       (λ p. absurd (some-ne-none kept (ap (λ hs. homes_tail hs (some kept)) (sym home ∙ p.0))))
       turning.place
 
-  pub adds_up_at_home : AddsUpAtHome mark (ThingAnswers serves looks) adds_up
+  pub adds_up_at_home : AddsUpAtHome mark (ThingAnswers serves looks chooses) adds_up
   adds_up_at_home = record { along = along; at_home = at_home }
 
 -- pools

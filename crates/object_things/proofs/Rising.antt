@@ -35,6 +35,7 @@ carried_rise last low end (c ∷ cs) under rises all =
     by_two what None t above up more = subst Rises (sym (t ∙ carried_none what)) (tt, more last low under up)
 
 module _ {O : Type 0} (serves : O → Request → Reply → O → Type 0) (looks : ThingState O → Request → Reply → ThingState O → Type 0)
+    (chooses : O → Reply → Option ℕ → Type 0)
     (quiet : (old new : ThingState O) (asked : Request) (reply : Reply) → looks old asked reply new → IsQuiet old reply (what_of asked reply) new)
     (refused : (old new : O) (asked : Request) (reply : Reply) → serves old asked reply new → what_of asked reply ≡ None → new ≡ old) where
   next_of : (old new : ThingState O) (asked : Request) (reply : Reply) (ticket : Option ℕ) → StepOf serves looks old asked reply ticket new
@@ -42,17 +43,17 @@ module _ {O : Type 0} (serves : O → Request → Reply → O → Type 0) (looks
   next_of old new asked reply None s = (tt, s.1)
   next_of old new asked reply (Some n) s = (s.2, s.3)
 
-  rises : (old new : ThingState O) (history : List Call) → Leads (ThingAnswers serves looks) old history new → TicketsRise old.note history new.note
+  rises : (old new : ThingState O) (history : List Call) → Leads (ThingAnswers serves looks chooses) old history new → TicketsRise old.note history new.note
   rises old new [] l = ap (λ (k : ThingState O). k.note) l
   rises old new (c ∷ cs) l =
       let here = next_of old l.0 c.asked c.told.reply c.told.drawn l.1.step in
       (here.0, subst (λ n. TicketsRise n cs new.note) here.1 (rises l.0 new cs l.2))
 
-  carry : (old new : ThingState O) (history : List Call) → Leads (ThingAnswers serves looks) old history new → All CarriesItsOwn history
+  carry : (old new : ThingState O) (history : List Call) → Leads (ThingAnswers serves looks chooses) old history new → All CarriesItsOwn history
   carry old new [] l = All-nil CarriesItsOwn
   carry old new (c ∷ cs) l = All-cons CarriesItsOwn c cs l.1.ticket (carry l.0 new cs l.2)
 
-  entries : (old new : ThingState O) (history : List Call) → Leads (ThingAnswers serves looks) old history new → CarriedRise old.note history new.note
+  entries : (old new : ThingState O) (history : List Call) → Leads (ThingAnswers serves looks chooses) old history new → CarriedRise old.note history new.note
   entries old new history l = carried_rise old.note old.note new.note history (omega arith) (rises old new history l) (carry old new history l)
 
   none_left : (old new : ThingState O) (asked : Request) (reply : Reply) (ticket : Option ℕ) → StepOf serves looks old asked reply ticket new → old.spent ≡ true
@@ -61,7 +62,7 @@ module _ {O : Type 0} (serves : O → Request → Reply → O → Type 0) (looks
   none_left old new asked reply (Some n) s h = absurd (cc (s.1, h))
 
   -- where a draw found no ticket, no call draws one later
-  none_drawn : (old new : ThingState O) (history : List Call) → old.spent ≡ true → Leads (ThingAnswers serves looks) old history new
+  none_drawn : (old new : ThingState O) (history : List Call) → old.spent ≡ true → Leads (ThingAnswers serves looks chooses) old history new
       → (drawn_in history ≡ []) × (ticketed_in history ≡ []) × (new.spent ≡ true)
   none_drawn old new [] h l = (refl, refl, sym (ap (λ (k : ThingState O). k.spent) l) ∙ h)
   none_drawn old new (c ∷ cs) h l =
@@ -82,7 +83,7 @@ module _ {O : Type 0} (serves : O → Request → Reply → O → Type 0) (looks
   passes old mid c rest last ticket is same run = subst (λ b. LeadDrawn serves old (cond b (c ∷ rest) rest) last) (sym is) (subst (λ x. LeadDrawn serves x rest last) same run)
 
   one_more : (old mid new : ThingState O) (c : Call) (cs : List Call) (what : Option What) (drawn : Option ℕ) → what_of c.asked c.told.reply ≡ what → c.told.drawn ≡ drawn
-      → c.told.ticket ≡ carried what drawn → StepOf serves looks old c.asked c.told.reply drawn mid → Leads (ThingAnswers serves looks) mid cs new → DrawnRun serves mid new cs
+      → c.told.ticket ≡ carried what drawn → StepOf serves looks old c.asked c.told.reply drawn mid → Leads (ThingAnswers serves looks chooses) mid cs new → DrawnRun serves mid new cs
       → DrawnRun serves old new (c ∷ cs)
   one_more old mid new c cs (Some what) (Some n) w d t s l r = record {
     last = r.last;
@@ -112,11 +113,11 @@ module _ {O : Type 0} (serves : O → Request → Reply → O → Type 0) (looks
         })
       ]
 
-  runs : (old new : ThingState O) (history : List Call) → Leads (ThingAnswers serves looks) old history new → DrawnRun serves old new history
+  runs : (old new : ThingState O) (history : List Call) → Leads (ThingAnswers serves looks chooses) old history new → DrawnRun serves old new history
   runs old new [] l = record { last = old.object; run = refl; entries = refl; ends = λ h. ap (λ (k : ThingState O). k.object) l }
   runs old new (c ∷ cs) l = one_more old l.0 new c cs (what_of c.asked c.told.reply) c.told.drawn refl refl l.1.ticket l.1.step l.2 (runs l.0 new cs l.2)
 
-  pub keeps_history : KeepsHistory serves looks
+  pub keeps_history : KeepsHistory serves looks chooses
   keeps_history = record { rises = rises; runs = runs; quiet = quiet; refused = refused; carry = carry; entries = entries }
 
   module _ (unserved : (old : O) (asked : Request) (new : O) → serves old asked Spent new → ⊥)
@@ -127,7 +128,7 @@ module _ {O : Type 0} (serves : O → Request → Reply → O → Type 0) (looks
     told_none old new asked reply None is s = (refl, found old new asked (subst (λ r. looks old asked r new) is s.0))
     told_none old new asked reply (Some n) is s = absurd (unserved old.object asked new.object (subst (λ r. serves old.object asked r new.object) is s.0))
 
-    follows : (old new : ThingState O) (call : Call) (rest : List Call) → Leads (ThingAnswers serves looks) old (call ∷ rest) new → call.told.reply ≡ Spent
+    follows : (old new : ThingState O) (call : Call) (rest : List Call) → Leads (ThingAnswers serves looks chooses) old (call ∷ rest) new → call.told.reply ≡ Spent
         → (drawn_in (call ∷ rest) ≡ []) × (ticketed_in (call ∷ rest) ≡ []) × (new.spent ≡ true)
     follows old new call rest l is =
         let here = told_none old l.0 call.asked call.told.reply call.told.drawn is l.1.step in
@@ -135,5 +136,5 @@ module _ {O : Type 0} (serves : O → Request → Reply → O → Type 0) (looks
         let bare = uncarried (what_of call.asked call.told.reply) call.told.drawn call.told.ticket l.1.ticket here.0 in
         (ap (λ b. cond b (call ∷ drawn_in rest) (drawn_in rest)) here.0 ∙ after.0, ap (λ b. cond b (call ∷ ticketed_in rest) (ticketed_in rest)) bare ∙ after.1, after.2)
 
-    pub stays_spent : StaysSpent serves looks
+    pub stays_spent : StaysSpent serves looks chooses
     stays_spent = record { found = found; stays = λ old new history l h. none_drawn old new history h l; follows = follows }

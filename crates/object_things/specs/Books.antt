@@ -15,7 +15,7 @@ use Rattle.object_things.specs.declared.book.BookAsk.{BookAsk}
 use Rattle.object_things.specs.declared.book.BookAsk.TheVariants as ask
 use Rattle.object_things.specs.declared.book.BookSaid.{BookSaid}
 use Rattle.object_things.specs.declared.book.BookSaid.TheVariants as said
-use Rattle.object_things.specs.Stamps.{Stamped, MarkState, mark_of, Told, ThingState, ThingAnswers, PassBy, FindsNone, stage_in, is_spent, StampState, thing_state}
+use Rattle.object_things.specs.Stamps.{Stamped, MarkState, mark_of, Told, ThingState, ThingAnswers, ChoosesNone, PassBy, FindsNone, stage_in, is_spent, StampState, thing_state}
 
 abbrev pub book_asked : BookAsk → Request
 book_asked (ask.Link writer asked) = Link writer (opening_of asked)
@@ -26,7 +26,7 @@ book_replied (said.Linked result) = linked_reply result
 book_replied (said.Dropped result) = dropped_reply result
 
 abbrev pub book_told : Replied BookSaid → Told
-book_told replied = record { reply = book_replied replied.said; note = replied.note; drew = replied.drew; drawn = replied.drawn.value; ticket = replied.ticket }
+book_told replied = record { reply = book_replied replied.said; note = replied.note; drew = replied.drew; drawn = replied.drawn.value; chosen = replied.chosen.value; ticket = replied.ticket }
 
 -- what is served by the book of a writer
 abbrev pub BookServes : BookState → Request → Reply → BookState → Type 0
@@ -40,7 +40,7 @@ BookLooks old (Drop writer node status part) Spent new = FindsNone old new
 BookLooks old request reply new = ⊥
 
 abbrev pub BookAnswers : ThingState BookState → Request → Told → ThingState BookState → Type 0
-BookAnswers = ThingAnswers BookServes BookLooks
+BookAnswers = ThingAnswers BookServes BookLooks ChoosesNone
 
 -- the same of a book with its stamp, which gave this reply
 abbrev pub BookReplies : BookState → StampState → Request → Replied BookSaid → BookState → StampState → Type 0

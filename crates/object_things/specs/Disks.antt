@@ -38,22 +38,32 @@ disk_replied (said.Waiting count) = LeftOver count
 disk_replied (said.Completed result) = completed_reply (or_unmade result)
 
 abbrev pub disk_told : Replied DiskSaid → Told
-disk_told replied = record { reply = disk_replied replied.said; note = replied.note; drew = replied.drew; drawn = replied.drawn.value; ticket = replied.ticket }
+disk_told replied = record { reply = disk_replied replied.said; note = replied.note; drew = replied.drew; drawn = replied.drawn.value; chosen = replied.chosen.value; ticket = replied.ticket }
 
 abbrev pub DiskServes : DiskState → Request → Reply → DiskState → Type 0
 DiskServes old (Push bio) Did new = (bio.bio.dev.0 ≡ old.dev.0) × (new ≡ pushed bio old)
 DiskServes old (Complete disk) (Completed index bio status) new = (disk.0 ≡ old.dev.0) × Completes old index bio status new
 DiskServes old request reply new = ⊥
 
+-- how many bios wait in a disk, as far as 64 bits tell
+abbrev pub waiting_count : DiskState → ℕ
+waiting_count disk = min (length disk.pending) (2 ^ 64 - 1)
+
 abbrev pub DiskLooks : ThingState DiskState → Request → Reply → ThingState DiskState → Type 0
-DiskLooks old (Complete disk) (LeftOver count) new = (count ≡ min (length old.object.pending) (2 ^ 64 - 1)) × OnlyLooks old new
-DiskLooks old (Complete disk) Nothing new = (min (length old.object.pending) (2 ^ 64 - 1) ≡ 0) × OnlyLooks old new
+DiskLooks old (Complete disk) (LeftOver count) new = (count ≡ waiting_count old.object) × OnlyLooks old new
+DiskLooks old (Complete disk) Nothing new = (waiting_count old.object ≡ 0) × OnlyLooks old new
 DiskLooks old (Push bio) Spent new = FindsNone old new
 DiskLooks old (Complete disk) Spent new = FindsNone old new
 DiskLooks old request reply new = ⊥
 
+-- the bio at the index that was chosen is completed, or the last one where fewer wait
+abbrev pub DiskChooses : DiskState → Reply → Option ℕ → Type 0
+DiskChooses old (Completed index bio status) (Some chosen) = index ≡ min chosen (waiting_count old - 1)
+DiskChooses old (Completed index bio status) None = ⊥
+DiskChooses old reply chosen = Unit {0}
+
 abbrev pub DiskAnswers : ThingState DiskState → Request → Told → ThingState DiskState → Type 0
-DiskAnswers = ThingAnswers DiskServes DiskLooks
+DiskAnswers = ThingAnswers DiskServes DiskLooks DiskChooses
 
 -- the same of a disk with its stamp, which gave this reply
 abbrev pub DiskReplies : DiskState → StampState → Request → Replied DiskSaid → DiskState → StampState → Type 0
@@ -82,9 +92,15 @@ DiskSays stage (ask.Complete disk index) (said.Completed result) =
     × Owes stage (Complete disk) (completed_reply (or_unmade result))
 DiskSays stage asked reply = ⊥
 
+-- the entry of a completion keeps the index that was asked for
+abbrev pub KeepsChoice : DiskAsk → Reply → Option ℕ → Type 0
+KeepsChoice (ask.Complete disk chosen) (Completed index bio status) kept = kept ≡ Some chosen
+KeepsChoice asked reply kept = Unit {0}
+
 pub record DiskOwes (mark : MarkState) (asking : Asking DiskAsk) (replied : Replied DiskSaid) : Type 0 where
   pub pass : PassBy asking.pass replied.note (is_spent (disk_replied replied.said)) replied.drew replied.drawn.value replied.pass
   pub says : DiskSays (stage_in mark.common) asking.ask replied.said
+  pub choice : KeepsChoice asking.ask (disk_replied replied.said) replied.chosen.value
 
 abbrev pub disk_mark : Stamped DiskState → MarkState
 disk_mark held = mark_of (OfDisk held.object.dev.0) held

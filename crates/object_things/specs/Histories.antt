@@ -65,23 +65,24 @@ module _ {O : Type 0} (serves : O → Request → Reply → O → Type 0) where
     pub entries : LeadDrawn old.object (ticketed_in history) last
     pub ends : new.spent ≡ false → last ≡ new.object
 
-module _ {O : Type 0} (serves : O → Request → Reply → O → Type 0) (looks : ThingState O → Request → Reply → ThingState O → Type 0) where
+module _ {O : Type 0} (serves : O → Request → Reply → O → Type 0) (looks : ThingState O → Request → Reply → ThingState O → Type 0)
+    (chooses : O → Reply → Option ℕ → Type 0) where
   -- what each history of a thing shows
   pub record KeepsHistory : Type 0 where
-    pub rises : (old new : ThingState O) (history : List Call) → Leads (ThingAnswers serves looks) old history new → TicketsRise old.note history new.note
-    pub runs : (old new : ThingState O) (history : List Call) → Leads (ThingAnswers serves looks) old history new → DrawnRun serves old new history
+    pub rises : (old new : ThingState O) (history : List Call) → Leads (ThingAnswers serves looks chooses) old history new → TicketsRise old.note history new.note
+    pub runs : (old new : ThingState O) (history : List Call) → Leads (ThingAnswers serves looks chooses) old history new → DrawnRun serves old new history
     pub quiet : (old new : ThingState O) (asked : Request) (reply : Reply) → looks old asked reply new → IsQuiet old reply (what_of asked reply) new
-    -- what was served and is no event was refused, and changed nothing
+    -- what was served and is no event changed nothing
     pub refused : (old new : O) (asked : Request) (reply : Reply) → serves old asked reply new → what_of asked reply ≡ None → new ≡ old
     -- so a ticket stands in the entries of events alone, and those rise too
-    pub carry : (old new : ThingState O) (history : List Call) → Leads (ThingAnswers serves looks) old history new → All CarriesItsOwn history
-    pub entries : (old new : ThingState O) (history : List Call) → Leads (ThingAnswers serves looks) old history new → CarriedRise old.note history new.note
+    pub carry : (old new : ThingState O) (history : List Call) → Leads (ThingAnswers serves looks chooses) old history new → All CarriesItsOwn history
+    pub entries : (old new : ThingState O) (history : List Call) → Leads (ThingAnswers serves looks chooses) old history new → CarriedRise old.note history new.note
 
   -- Once a draw at a thing found no ticket, none is drawn at it: a call that is told so leaves it marked, along each history it stays marked, and
   -- no call that drew a ticket follows, nor an entry that carries one.
   pub record StaysSpent : Type 0 where
     pub found : (old new : ThingState O) (asked : Request) → looks old asked Spent new → new.spent ≡ true
-    pub stays : (old new : ThingState O) (history : List Call) → Leads (ThingAnswers serves looks) old history new → old.spent ≡ true
+    pub stays : (old new : ThingState O) (history : List Call) → Leads (ThingAnswers serves looks chooses) old history new → old.spent ≡ true
         → (drawn_in history ≡ []) × (ticketed_in history ≡ []) × (new.spent ≡ true)
-    pub follows : (old new : ThingState O) (call : Call) (rest : List Call) → Leads (ThingAnswers serves looks) old (call ∷ rest) new → call.told.reply ≡ Spent
+    pub follows : (old new : ThingState O) (call : Call) (rest : List Call) → Leads (ThingAnswers serves looks chooses) old (call ∷ rest) new → call.told.reply ≡ Spent
         → (drawn_in (call ∷ rest) ≡ []) × (ticketed_in (call ∷ rest) ≡ []) × (new.spent ≡ true)

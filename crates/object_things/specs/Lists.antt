@@ -15,7 +15,7 @@ use Rattle.object_things.specs.declared.list.ListAsk.{ListAsk}
 use Rattle.object_things.specs.declared.list.ListAsk.TheVariants as ask
 use Rattle.object_things.specs.declared.list.ListSaid.{ListSaid}
 use Rattle.object_things.specs.declared.list.ListSaid.TheVariants as said
-use Rattle.object_things.specs.Stamps.{Stamped, MarkState, mark_of, Told, ThingState, ThingAnswers, PassBy, FindsNone, OnlyLooks, stage_in, is_spent, StampState, or_unmade, thing_state}
+use Rattle.object_things.specs.Stamps.{Stamped, MarkState, mark_of, Told, ThingState, ThingAnswers, ChoosesNone, PassBy, FindsNone, OnlyLooks, stage_in, is_spent, StampState, or_unmade, thing_state}
 
 abbrev pub list_asked : ListAsk → Request
 list_asked (ask.Punt dev moved) = Punt dev moved
@@ -31,7 +31,7 @@ list_replied (said.Punted result) = did (punt_or_unmade result)
 list_replied (said.Popped result) = popped_reply (or_unmade result)
 
 abbrev pub list_told : Replied ListSaid → Told
-list_told replied = record { reply = list_replied replied.said; note = replied.note; drew = replied.drew; drawn = replied.drawn.value; ticket = replied.ticket }
+list_told replied = record { reply = list_replied replied.said; note = replied.note; drew = replied.drew; drawn = replied.drawn.value; chosen = replied.chosen.value; ticket = replied.ticket }
 
 abbrev pub ListServes : Rescue → Request → Reply → Rescue → Type 0
 ListServes old (Punt dev moved) Did new = (dev.0 ≡ old.dev.0) × (new ≡ record old { bios = old.bios ++ moved })
@@ -45,7 +45,7 @@ ListLooks old (Pop dev) Spent new = FindsNone old new
 ListLooks old request reply new = ⊥
 
 abbrev pub ListAnswers : ThingState Rescue → Request → Told → ThingState Rescue → Type 0
-ListAnswers = ThingAnswers ListServes ListLooks
+ListAnswers = ThingAnswers ListServes ListLooks ChoosesNone
 
 -- the same of a list with its stamp, which gave this reply
 abbrev pub ListReplies : Rescue → StampState → Request → Replied ListSaid → Rescue → StampState → Type 0

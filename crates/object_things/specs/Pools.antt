@@ -27,7 +27,7 @@ use Rattle.object_things.specs.declared.pool.PoolAsk.{PoolAsk}
 use Rattle.object_things.specs.declared.pool.PoolAsk.TheVariants as ask
 use Rattle.object_things.specs.declared.pool.PoolSaid.{PoolSaid}
 use Rattle.object_things.specs.declared.pool.PoolSaid.TheVariants as said
-use Rattle.object_things.specs.Stamps.{Stamped, MarkState, mark_of, Told, ThingState, ThingAnswers, PassBy, FindsNone, stage_in, is_spent, StampState, or_unmade, thing_state}
+use Rattle.object_things.specs.Stamps.{Stamped, MarkState, mark_of, Told, ThingState, ThingAnswers, ChoosesNone, PassBy, FindsNone, stage_in, is_spent, StampState, or_unmade, thing_state}
 
 -- a pool of the stage: its elements are of the ledger that the stage has for its number, and its reserve may be as large
 pub record IsPoolOf (stage : Stage) (pool : LedgerPool) : Type 0 where
@@ -75,7 +75,7 @@ module _ {P : Type 0} where
   pool_replied (said.Resized result) = resized_reply (or_unmade result)
 
   abbrev pub pool_told : Replied (PoolSaid P) → Told
-  pool_told replied = record { reply = pool_replied replied.said; note = replied.note; drew = replied.drew; drawn = replied.drawn.value; ticket = replied.ticket }
+  pool_told replied = record { reply = pool_replied replied.said; note = replied.note; drew = replied.drew; drawn = replied.drawn.value; chosen = replied.chosen.value; ticket = replied.ticket }
 
 -- an element was had
 abbrev pub HasOne : LedgerPool → Got → LedgerPool → Type 0
@@ -131,7 +131,7 @@ PoolLooks old (Resize pool min) Spent new = FindsNone old new
 PoolLooks old request reply new = ⊥
 
 abbrev pub PoolAnswers : ThingState LedgerPool → Request → Told → ThingState LedgerPool → Type 0
-PoolAnswers = ThingAnswers PoolServes PoolLooks
+PoolAnswers = ThingAnswers PoolServes PoolLooks ChoosesNone
 
 -- the same of a pool with its stamp, which gave this reply
 abbrev pub PoolReplies : {P : Type 0} → LedgerPool → StampState → Request → Replied (PoolSaid P) → LedgerPool → StampState → Type 0

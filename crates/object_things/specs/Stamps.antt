@@ -76,17 +76,25 @@ carried None drawn = None
 carried (Some what) drawn = drawn
 
 -- the reply of a call that only looks: the pass has met the note, and there is no ticket
-abbrev pub looked : {S : Type 0} → StampState → PassState → Snapshot (Option ℕ) → S → Replied S
-looked stamp pass drawn said =
-    record { pass = record pass { seen = max pass.seen stamp.note }; said = said; note = stamp.note; drew = not stamp.spent; drawn = drawn; ticket = None }
+abbrev pub looked : {S : Type 0} → StampState → PassState → Snapshot (Option ℕ) → Snapshot (Option ℕ) → S → Replied S
+looked stamp pass drawn chosen said = record {
+  pass = record pass { seen = max pass.seen stamp.note };
+  said = said;
+  note = stamp.note;
+  drew = not stamp.spent;
+  drawn = drawn;
+  chosen = chosen;
+  ticket = None;
+}
 
--- what the history keeps of a reply: the reply, what the note had seen, whether no draw had failed before, the ticket that was drawn, and the one
--- that the entry carries
+-- what the history keeps of a reply: the reply, what the note had seen, whether no draw had failed before, the ticket that was drawn, of a
+-- completion the index that was chosen, and the ticket that the entry carries
 pub record Told : Type 0 where
   pub reply : Reply
   pub note : ℕ
   pub drew : Bool
   pub drawn : Option ℕ
+  pub chosen : Option ℕ
   pub ticket : Option ℕ
 
 -- what the machine sees of a thing
@@ -103,13 +111,19 @@ module _ {O : Type 0} (serves : O → Request → Reply → O → Type 0) (looks
   StepOf old asked reply (Some n) new = serves old.object asked reply new.object × (old.spent ≡ false) × (old.note < n) × (new.note ≡ n) × (new.spent ≡ false)
   StepOf old asked reply None new = looks old asked reply new × (new.note ≡ old.note)
 
-  -- The machine of a thing: what is served draws a ticket above all that the note had seen, and anything else is a look. The entry carries what was
-  -- drawn, where the call is an event.
-  pub record ThingAnswers (old : ThingState O) (asked : Request) (told : Told) (new : ThingState O) : Type 0 where
-    pub note : told.note ≡ old.note
-    pub drew : told.drew ≡ not old.spent
-    pub step : StepOf old asked told.reply told.drawn new
-    pub ticket : told.ticket ≡ carried (what_of asked told.reply) told.drawn
+  module _ (chooses : O → Reply → Option ℕ → Type 0) where
+    -- The machine of a thing: what is served draws a ticket above all that the note had seen, and anything else is a look. The entry carries what
+    -- was drawn, where the call is an event, and keeps what was chosen.
+    pub record ThingAnswers (old : ThingState O) (asked : Request) (told : Told) (new : ThingState O) : Type 0 where
+      pub note : told.note ≡ old.note
+      pub drew : told.drew ≡ not old.spent
+      pub step : StepOf old asked told.reply told.drawn new
+      pub chosen : chooses old.object told.reply told.chosen
+      pub ticket : told.ticket ≡ carried (what_of asked told.reply) told.drawn
+
+-- nothing was chosen in a call: only disks let choose
+abbrev pub ChoosesNone : {O : Type 0} → O → Reply → Option ℕ → Type 0
+ChoosesNone object reply chosen = chosen ≡ None
 
 -- there was no ticket for the call, and the object is as before
 abbrev pub FindsNone : {O : Type 0} → ThingState O → ThingState O → Type 0

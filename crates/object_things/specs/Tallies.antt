@@ -13,7 +13,7 @@ use Rattle.object_things.specs.declared.tally.TallyAsk.{TallyAsk}
 use Rattle.object_things.specs.declared.tally.TallyAsk.TheVariants as ask
 use Rattle.object_things.specs.declared.tally.TallySaid.{TallySaid}
 use Rattle.object_things.specs.declared.tally.TallySaid.TheVariants as said
-use Rattle.object_things.specs.Stamps.{Stamped, MarkState, mark_of, Told, ThingState, ThingAnswers, PassBy, FindsNone, stage_in, OnlyLooks, is_spent, StampState, or_unmade, thing_state}
+use Rattle.object_things.specs.Stamps.{Stamped, MarkState, mark_of, Told, ThingState, ThingAnswers, ChoosesNone, PassBy, FindsNone, stage_in, OnlyLooks, is_spent, StampState, or_unmade, thing_state}
 
 -- the numbers of the rounds behind the present one are as they were opened
 pub record IsLater (opened tally : TallyState) : Type 0 where
@@ -33,7 +33,7 @@ tally_replied (said.Round round) = Present round
 tally_replied (said.Left count) = LeftOver count
 
 abbrev pub tally_told : Replied TallySaid → Told
-tally_told replied = record { reply = tally_replied replied.said; note = replied.note; drew = replied.drew; drawn = replied.drawn.value; ticket = replied.ticket }
+tally_told replied = record { reply = tally_replied replied.said; note = replied.note; drew = replied.drew; drawn = replied.drawn.value; chosen = replied.chosen.value; ticket = replied.ticket }
 
 abbrev pub TallyServes : TallyState → Request → Reply → TallyState → Type 0
 TallyServes old (Done write status) Did new = new ≡ done_one write status old
@@ -48,7 +48,7 @@ TallyLooks old (NextRound round) Spent new = FindsNone old new
 TallyLooks old request reply new = ⊥
 
 abbrev pub TallyAnswers : ThingState TallyState → Request → Told → ThingState TallyState → Type 0
-TallyAnswers = ThingAnswers TallyServes TallyLooks
+TallyAnswers = ThingAnswers TallyServes TallyLooks ChoosesNone
 
 -- the same of the tally with its stamp, which gave this reply
 abbrev pub TallyReplies : TallyState → StampState → Request → Replied TallySaid → TallyState → StampState → Type 0

@@ -6,7 +6,7 @@ ghost use Rattle.run_machine.specs.Requests.{Push, Complete as CompleteOf};
 ghost use Rattle.task_steps.specs.Stage.{RequestFits};
 ghost use Rattle.object_things.specs.declared.disk.DiskAsk.TheVariants as ask;
 ghost use Rattle.object_things.specs.Stamps.{PassBy, is_spent, stage_in};
-ghost use Rattle.object_things.specs.Disks.{DiskReplies, DiskSays, disk_replied};
+ghost use Rattle.object_things.specs.Disks.{DiskReplies, DiskSays, KeepsChoice, disk_replied};
 
 use crate::stamp::{Asked, Asking, Mark, NoTicket, Replied, Stamp, Told};
 use bio_records::BioElement;
@@ -153,6 +153,7 @@ fn push(disk: &mut Disk, stamp: &mut Stamp, pass: Pass, el: BioElement) -> Repli
     ensures answers { DiskReplies disk.old stamp.old (Push (item_of el)) result disk.new stamp.new }
     ensures pass { PassBy pass result.note (is_spent (disk_replied result.said)) result.drew result.drawn.value result.pass }
     ensures says { DiskSays (stage_in stamp.old.common) (ask.Push el) result.said }
+    ensures choice { KeepsChoice (ask.Push el) (disk_replied result.said) result.chosen.value }
     ensures same { (stamp.new.common ≡ stamp.old.common) × (disk.new.dev ≡ disk.old.dev) }
     ensures of { IsDiskOf (stage_in stamp.old.common) disk.old.dev.0 disk.new }
 {
@@ -181,6 +182,7 @@ fn complete(
     ensures answers { DiskReplies disk.old stamp.old (CompleteOf dev) result disk.new stamp.new }
     ensures pass { PassBy pass result.note (is_spent (disk_replied result.said)) result.drew result.drawn.value result.pass }
     ensures says { DiskSays (stage_in stamp.old.common) (ask.Complete dev index) result.said }
+    ensures choice { KeepsChoice (ask.Complete dev index) (disk_replied result.said) result.chosen.value }
     ensures same { (stamp.new.common ≡ stamp.old.common) × (disk.new.dev ≡ disk.old.dev) }
     ensures of { IsDiskOf (stage_in stamp.old.common) disk.old.dev.0 disk.new }
 {
@@ -194,5 +196,6 @@ fn complete(
     };
     let at = index.min(pending - 1);
     let done = disk.complete(at);
-    turn.reply(Some(ticket), DiskSaid::Completed(Ok(Some((at, done)))))
+    let said = DiskSaid::Completed(Ok(Some((at, done))));
+    turn.choosing(index).reply(Some(ticket), said)
 }

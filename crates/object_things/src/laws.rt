@@ -1,31 +1,32 @@
 //! What holds of things, as functions that do nothing.
 ghost use Rattle.object_things.specs.Books.{BookAnswers, BookLooks, BookServes, book_mark};
-ghost use Rattle.object_things.specs.Disks.{DiskAnswers, DiskLooks, DiskServes, disk_mark};
+ghost use Rattle.object_things.specs.Disks.{DiskAnswers, DiskChooses, DiskLooks, DiskServes, disk_mark};
 ghost use Rattle.object_things.specs.Histories.{KeepsHistory, StaysSpent};
 ghost use Rattle.object_things.specs.Homes.{AddsUpAtHome, PoolAddsUp, ListAddsUp, DiskAddsUp, BookAddsUp, TallyAddsUp};
 ghost use Rattle.object_things.specs.Lists.{ListAnswers, ListLooks, ListServes, list_mark};
 ghost use Rattle.object_things.specs.Pools.{PoolAnswers, PoolLooks, PoolServes, pool_mark};
+ghost use Rattle.object_things.specs.Stamps.{ChoosesNone};
 ghost use Rattle.object_things.specs.Tallies.{TallyAnswers, TallyLooks, TallyServes, tally_mark};
 
 /// Along each history of a thing tickets rise, from what the note had seen to what it has seen. The entries that carry one are a run of the object's
-/// machine, which leaves the object as it is while no draw failed, and so are the calls that drew one. A call that was served and is no event was
-/// refused: its entry carries no ticket, and it changed nothing. One that drew none changes nothing, or found none, and tells of no event.
+/// machine, which leaves the object as it is while no draw failed, and so are the calls that drew one. A call that was served and is no event changed
+/// nothing, and its entry carries no ticket. One that drew none changes nothing, or found none, and tells of no event.
 pub fn things_keep_histories()
-    ensures pools { KeepsHistory PoolServes PoolLooks }
-    ensures lists { KeepsHistory ListServes ListLooks }
-    ensures disks { KeepsHistory DiskServes DiskLooks }
-    ensures books { KeepsHistory BookServes BookLooks }
-    ensures tally { KeepsHistory TallyServes TallyLooks }
+    ensures pools { KeepsHistory PoolServes PoolLooks ChoosesNone }
+    ensures lists { KeepsHistory ListServes ListLooks ChoosesNone }
+    ensures disks { KeepsHistory DiskServes DiskLooks DiskChooses }
+    ensures books { KeepsHistory BookServes BookLooks ChoosesNone }
+    ensures tally { KeepsHistory TallyServes TallyLooks ChoosesNone }
 {}
 
 /// Once a draw at a thing found no ticket, none is drawn at it: no entry with a ticket follows one that was told so, and what is asked later finds
 /// the thing marked.
 pub fn things_stay_spent()
-    ensures pools { StaysSpent PoolServes PoolLooks }
-    ensures lists { StaysSpent ListServes ListLooks }
-    ensures disks { StaysSpent DiskServes DiskLooks }
-    ensures books { StaysSpent BookServes BookLooks }
-    ensures tally { StaysSpent TallyServes TallyLooks }
+    ensures pools { StaysSpent PoolServes PoolLooks ChoosesNone }
+    ensures lists { StaysSpent ListServes ListLooks ChoosesNone }
+    ensures disks { StaysSpent DiskServes DiskLooks DiskChooses }
+    ensures books { StaysSpent BookServes BookLooks ChoosesNone }
+    ensures tally { StaysSpent TallyServes TallyLooks ChoosesNone }
 {}
 
 /// What lies in a lock adds up at every moment at which it is at home, whatever calls were made and whether or not a draw failed: the numbers of a

@@ -1,5 +1,5 @@
 //! What each thing has beside its object.
-ghost use Rattle.std.specs.Prelude.{◌≡◌, ◌<◌, ◌≤◌, max, not, None, true, false, IfSome};
+ghost use Rattle.std.specs.Prelude.{◌≡◌, ◌<◌, ◌≤◌, max, not, None, Some, true, false, IfSome};
 ghost use Rattle.tick_clock.specs.Tickets.{drawn_with};
 ghost use Rattle.object_things.specs.Stamps.{HasDrawn, IsOver, PassBy, looked};
 
@@ -79,7 +79,7 @@ impl Model for Told {
 
     ghost Value = { State };
 
-    ghost view = { λ _. record { reply = Spent; note = 0; drew = false; drawn = None; ticket = None } };
+    ghost view = { λ _. record { reply = Spent; note = 0; drew = false; drawn = None; chosen = None; ticket = None } };
 }
 
 /// What is asked of a thing, with the pass of the task that asks. Of a kind that has several objects it names the one, since what the history
@@ -93,12 +93,13 @@ pub struct Asking<Q> {
 #[derive(Clone, Copy)]
 pub struct NoTicket;
 
-/// What a call found of an object's note before it drew, and the pass and the ticket behind that draw.
+/// What a call found of an object's note before it drew, the pass and the ticket behind that draw, and what was chosen.
 pub(crate) struct Turn {
     pass: Pass,
     note: u64,
     drew: bool,
     drawn: Snapshot<Option<u64>>,
+    chosen: Snapshot<Option<u64>>,
 }
 
 /// What a thing replies.
@@ -111,6 +112,8 @@ pub struct Replied<S> {
     pub drew: bool,
     /// The ticket that was drawn. It has no bytes: only clauses read it.
     pub drawn: Snapshot<Option<u64>>,
+    /// The index that a completion was asked for. It has no bytes either.
+    pub chosen: Snapshot<Option<u64>>,
     /// The ticket that the entry of this call carries: the one that was drawn, where the call is an event. One that was refused is none.
     pub ticket: Option<u64>,
 }
@@ -153,8 +156,9 @@ impl Stamp {
     /// What a call says that only looks: the pass meets the note, and nothing is drawn.
     #[inline(always)] // as the `serve` of each thing
     pub(crate) fn look<S>(&self, mut pass: Pass, said: S) -> Replied<S>
-        ensures looks { result ≡ looked self.now pass result.drawn said }
+        ensures looks { result ≡ looked self.now pass result.drawn result.chosen said }
         ensures none { result.drawn.value ≡ None }
+        ensures chosen { result.chosen.value ≡ None }
     {
         pass.meet(&self.note);
         let ticket = None;
@@ -164,6 +168,7 @@ impl Stamp {
             note: self.note.seen(),
             drew: !self.spent,
             drawn: Snapshot::of(&ticket),
+            chosen: Snapshot::of(&ticket),
             ticket,
         }
     }
@@ -174,6 +179,7 @@ impl Stamp {
         requires { pass.clock ≡ self.old.common.clock }
         ensures found { (result.0.note ≡ self.old.note) × (result.0.drew ≡ not self.old.spent) }
         ensures drawn { result.0.drawn.value ≡ result.1 }
+        ensures chosen { result.0.chosen.value ≡ None }
         ensures some { IfSome result.1 (λ n. HasDrawn self.old n self.new) }
         ensures none { result.1 ≡ None → self.new ≡ record self.old { spent = true } }
         ensures pass { PassBy pass self.old.note true (not self.old.spent) result.1 result.0.pass }
@@ -188,6 +194,7 @@ impl Stamp {
                 note,
                 drew,
                 drawn,
+                chosen: Snapshot::of(&None),
             },
             ticket,
         )
@@ -215,16 +222,39 @@ impl Stamp {
 }
 
 impl Turn {
-    /// What a call says, with the ticket that its entry carries.
+    /// The same turn, of a completion of the bio at this index.
     #[inline(always)] // as the `serve` of each thing
-    pub(crate) fn reply<S>(self, ticket: Option<u64>, said: S) -> Replied<S>
-        ensures { result ≡ record { pass = self.pass; said = said; note = self.note; drew = self.drew; drawn = self.drawn; ticket = ticket } }
+    pub(crate) fn choosing(self, index: u64) -> Turn
+        ensures same { result ≡ record self { chosen = result.chosen } }
+        ensures chosen { result.chosen.value ≡ Some index }
     {
         let Turn {
             pass,
             note,
             drew,
             drawn,
+            chosen: _,
+        } = self;
+        Turn {
+            pass,
+            note,
+            drew,
+            drawn,
+            chosen: Snapshot::of(&Some(index)),
+        }
+    }
+
+    /// What a call says, with the ticket that its entry carries.
+    #[inline(always)] // as the `serve` of each thing
+    pub(crate) fn reply<S>(self, ticket: Option<u64>, said: S) -> Replied<S>
+        ensures { result ≡ record { pass = self.pass; said = said; note = self.note; drew = self.drew; drawn = self.drawn; chosen = self.chosen; ticket = ticket } }
+    {
+        let Turn {
+            pass,
+            note,
+            drew,
+            drawn,
+            chosen,
         } = self;
         Replied {
             pass,
@@ -232,6 +262,7 @@ impl Turn {
             note,
             drew,
             drawn,
+            chosen,
             ticket,
         }
     }

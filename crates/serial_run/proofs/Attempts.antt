@@ -90,11 +90,11 @@ picks_none state (what.Round round) stream after none same = same
 least_of : (l m : ℕ) → 64 ≤ m → min (min l m) 64 ≡ min l 64
 least_of l m le = omega (arith, le)
 
-module _ (plain : Plain) (tasks : List TaskOf) (stream after : Lcg) where
-  picks_chosen : (own : DevId) (event : Event) → Chosen Chooses (PlainPicks plain) own stream (Stepped event) after → PicksByWord (run_state plain tasks) event.what stream after
+module _ (plain now : Plain) (tasks : List TaskOf) (stream after : Lcg) where
+  picks_chosen : (own : DevId) (event : Event) → Chosen Chooses (PlainPicks plain) now own stream (Stepped event) after → PicksByWord (run_state plain tasks) event.what stream after
   picks_chosen own event chosen = by_what event.what chosen
     where
-      by_what : (w : What) → Chosen Chooses (PlainPicks plain) own stream (Stepped (record event { what = w })) after → PicksByWord (run_state plain tasks) w stream after
+      by_what : (w : What) → Chosen Chooses (PlainPicks plain) now own stream (Stepped (record event { what = w })) after → PicksByWord (run_state plain tasks) w stream after
       by_what (what.Complete disk index status) (pending, (place, chooses, picks)) = (
         picks.1 ∙ chooses.0 ∙ ap (λ n. word stream % min n 64) picks.0
             ∙ ap (λ n. word stream % n) (least_of (length ((objects_of plain).disk disk.0).pending) (2 ^ 64 - 1) (omega arith)),
@@ -113,23 +113,23 @@ module _ (plain : Plain) (tasks : List TaskOf) (stream after : Lcg) where
       by_what (what.Round round) same = same
 
   picks : (task : TaskState) (event : Event) → (IsNoCompleter task → is_complete event.what ≡ false)
-      → ChosenBy task Chooses (PlainPicks plain) stream (Stepped event) after → PicksByWord (run_state plain tasks) event.what stream after
+      → ChosenBy task Chooses (PlainPicks plain) now stream (Stepped event) after → PicksByWord (run_state plain tasks) event.what stream after
   picks (Writer number todo taken submission) event none chosen = picks_none (run_state plain tasks) event.what stream after (none tt) chosen
   picks (Rescuer dev submission) event none chosen = picks_none (run_state plain tasks) event.what stream after (none tt) chosen
   picks (Completer disk carried) event none chosen = picks_chosen disk event chosen
   picks (Keeper keeping) event none chosen = picks_none (run_state plain tasks) event.what stream after (none tt) chosen
 
   -- nobody takes a bio between two looks of one thread
-  stayed : (own : DevId) → (after ≡ stream) ⊎ IsAsked Chooses (PlainPicks plain own) stream None after → after ≡ stream
+  stayed : (own : DevId) → (after ≡ stream) ⊎ ((between : Plain) × IsAsked Chooses (PlainPicks plain between own) stream None after) → after ≡ stream
   stayed own (inl same) = same
-  stayed own (inr (pending, (place, chooses, none))) = absurd none
+  stayed own (inr (between, (pending, (place, chooses, none)))) = absurd none
 
-  stays_still : (task : TaskState) (step : Step) → IsStill step → ChosenBy task Chooses (PlainPicks plain) stream step after → after ≡ stream
+  stays_still : (task : TaskState) (step : Step) → IsStill step → ChosenBy task Chooses (PlainPicks plain) now stream step after → after ≡ stream
   stays_still (Writer number todo taken submission) step still chosen = chosen
   stays_still (Rescuer dev submission) step still chosen = chosen
   stays_still (Completer disk carried) step still chosen = by_step step still chosen
     where
-      by_step : (step : Step) → IsStill step → Chosen Chooses (PlainPicks plain) disk stream step after → after ≡ stream
+      by_step : (step : Step) → IsStill step → Chosen Chooses (PlainPicks plain) now disk stream step after → after ≡ stream
       by_step (Stepped event) still chosen = absurd still
       by_step (Blocked pool) still chosen = chosen
       by_step Waiting still chosen = stayed disk chosen
@@ -159,13 +159,13 @@ module _ (old new : Plain) (tasks : List TaskOf) (place : ℕ) (lt : place < len
 
   module _ {V : Type 0} (happens : V → Event → V → Type 0) (stream after : Lcg) (before now : V) (answer : Bool) where
     stepped : (event : Event) → TakesStep old (tasks_at tasks) place next.state new (Stepped event)
-        → ChosenBy (tasks_at tasks place) Chooses (PlainPicks old) stream (Stepped event) after → happens before event now → FitsEvent event
+        → ChosenBy (tasks_at tasks place) Chooses (PlainPicks old) new stream (Stepped event) after → happens before event now → FitsEvent event
         → Tried happens stack scene place (run_state old tasks) stream before true (run_state new (set tasks place next)) after now
     stepped event turns chosen happened fits =
         let steps = steps_are_events.stepped old new (tasks_at tasks) (length tasks) place next.state event lt round_there turns in (
           event,
           subst (λ state. Steps scene (run_state old tasks) place event state) (sym (state_goes_on tasks place lt next new)) steps,
-          picks old tasks stream after (tasks_at tasks place) event
+          picks old new tasks stream after (tasks_at tasks place) event
               (λ none. none_completed (routing_setup (stage_of old).routing) (tasks_at tasks place) steps.reply event.what none steps.told) chosen,
           happened,
           tasks_name_the_stack (stage_of old) (tasks_at tasks place) steps.reply event one.holds.stack_is (subst (IsTaskOf (stage_of old)) (sym is) home) steps.by
@@ -174,20 +174,20 @@ module _ (old new : Plain) (tasks : List TaskOf) (place : ℕ) (lt : place < len
         )
 
     still : (step : Step) → IsStill step → TakesStep old (tasks_at tasks) place next.state new step
-        → ChosenBy (tasks_at tasks place) Chooses (PlainPicks old) stream step after → now ≡ before
+        → ChosenBy (tasks_at tasks place) Chooses (PlainPicks old) new stream step after → now ≡ before
         → Tried happens stack scene place (run_state old tasks) stream before false (run_state new (set tasks place next)) after now
     still step quiet turns chosen same =
         let stays = steps_are_events.still old new (tasks_at tasks) (length tasks) place next.state step quiet turns in
         let tasks_stay : upd (tasks_at tasks) place next.state ≡ tasks_at tasks = ap (upd (tasks_at tasks) place) stays.1 ∙ upd_own (tasks_at tasks) place in
         let made : (ℕ → TaskState) → State = λ task. record { objects = objects_of new; task = task } in (
           state_goes_on tasks place lt next new ∙ ap made tasks_stay ∙ ap (λ objects. record (run_state old tasks) { objects = objects }) stays.0,
-          stays_still old tasks stream after (tasks_at tasks place) step quiet chosen,
+          stays_still old new tasks stream after (tasks_at tasks place) step quiet chosen,
           same,
           stays.2,
         )
 
     by_step : (step : Step) → TakesStep old (tasks_at tasks) place next.state new step
-        → ChosenBy (tasks_at tasks place) Chooses (PlainPicks old) stream step after → HandsEvent happens step before answer now
+        → ChosenBy (tasks_at tasks place) Chooses (PlainPicks old) new stream step after → HandsEvent happens step before answer now
         → Tried happens stack scene place (run_state old tasks) stream before answer (run_state new (set tasks place next)) after now
     by_step step turns chosen hands = by_cases step turns chosen hands
       where
@@ -195,7 +195,7 @@ module _ (old new : Plain) (tasks : List TaskOf) (place : ℕ) (lt : place < len
         Outcome b = Tried happens stack scene place (run_state old tasks) stream before b (run_state new (set tasks place next)) after now
 
         by_cases : (step : Step) → TakesStep old (tasks_at tasks) place next.state new step
-            → ChosenBy (tasks_at tasks place) Chooses (PlainPicks old) stream step after → HandsEvent happens step before answer now → Outcome answer
+            → ChosenBy (tasks_at tasks place) Chooses (PlainPicks old) new stream step after → HandsEvent happens step before answer now → Outcome answer
         by_cases (Stepped event) turns chosen hands = subst Outcome (sym hands.0) (stepped event turns chosen hands.1 hands.2)
         by_cases (Blocked pool) turns chosen hands = subst Outcome (sym hands.0) (still (Blocked pool) tt turns chosen hands.1)
         by_cases Waiting turns chosen hands = subst Outcome (sym hands.0) (still Waiting tt turns chosen hands.1)
@@ -204,10 +204,10 @@ module _ (old new : Plain) (tasks : List TaskOf) (place : ℕ) (lt : place < len
             absurd (unbroken old new (tasks_at tasks) (length tasks) place next.state lt well.unrefused round_there breach turns)
 
     pub tried : (step : Step) → Turns PlainServes (Owes (stage_of old)) (routing_setup task.routing) task.state old next.state new step
-        → ChosenBy task.state Chooses (PlainPicks old) stream step after → HandsEvent happens step before answer now
+        → ChosenBy task.state Chooses (PlainPicks old) new stream step after → HandsEvent happens step before answer now
         → Tried happens stack scene place (run_state old tasks) stream before answer (run_state new (set tasks place next)) after now
     tried step turns chosen hands =
-        by_step step (takes step turns) (subst (λ t. ChosenBy t Chooses (PlainPicks old) stream step after) (sym is) chosen) hands
+        by_step step (takes step turns) (subst (λ t. ChosenBy t Chooses (PlainPicks old) new stream step after) (sym is) chosen) hands
 
 -- objects and tasks stay those of one scenario
 pub kept_one : (old new : Plain) (tasks : List TaskOf) (place : ℕ) → place < length tasks → (other next : TaskOf) (step : Step) → AreOfOne old tasks

@@ -4,3 +4,4 @@ pub mod GlanceStays
 pub mod BrokenRests
 pub mod EventOrRefused
 pub mod TurnsSeen
+pub mod ChoicesSeen

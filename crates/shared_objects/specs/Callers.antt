@@ -1,6 +1,9 @@
 -- What a call says of the caller that made it.
 use Rattle.std.specs.Prelude.{◌≡◌}
 use Rattle.run_machine.specs.Requests.{Request, Reply}
+use Rattle.object_things.specs.declared.disk.DiskAsk.{DiskAsk}
+use Rattle.object_things.specs.declared.disk.DiskSaid.{DiskSaid}
+use Rattle.object_things.specs.Disks.{KeepsChoice, disk_asked, disk_replied}
 use Rattle.shared_objects.specs.declared.caller.Caller.{Caller}
 use Rattle.shared_objects.specs.Desks.{HasCalled}
 use Rattle.shared_objects.specs.Holding.{DeskHolds, desk_of}
@@ -12,3 +15,8 @@ pub record CallerHasCalled {R : Type 0} (old : Caller R) (asked : Request) (repl
   pub kept : DeskHolds old.locks.now new.seats.now
   pub same : new.locks.now ≡ old.locks.now
   pub lent : new.seats.ghost_name ≡ old.seats.ghost_name
+
+-- It called a disk so, and the entry of a completion keeps the index that was asked for.
+pub record CallerHasAskedDisk {R : Type 0} (old : Caller R) (ask : DiskAsk) (said : DiskSaid) (new : Caller R) : Type 0 where
+  pub called : CallerHasCalled old (disk_asked ask) (disk_replied said) new
+  pub choice : KeepsChoice ask (disk_replied said) called.calls.told.chosen

@@ -4,6 +4,7 @@ use Rattle.stack_base.specs.declared.ids.DevId.{DevId}
 use Rattle.tick_clock.specs.Tickets.{PassState}
 use Rattle.run_machine.specs.Laws.{object_of}
 use Rattle.run_machine.specs.Requests.{Request, Reply, Complete, LeftOver, Nothing, Rest}
+use Rattle.task_steps.specs.Views.{completed_index}
 use Rattle.object_things.specs.Histories.{Call}
 use Rattle.object_things.specs.Stamps.{Told, PassBy, is_spent}
 use Rattle.shared_objects.specs.Calls.{CallsAt, struck, with_call}
@@ -41,14 +42,20 @@ DeskServes old Rest reply new = ⊥
 DeskServes old (Complete disk) reply new = LooksAndCompletes old disk reply new
 DeskServes old request reply new = HasCalled old (struck request) reply new
 
--- the index is the one that was chosen, or the last one where fewer waited by then
-abbrev pub PicksBy : ℕ → Option ℕ → Type 0
-PicksBy chosen None = Unit {0}
-PicksBy chosen (Some index) = index ≤ chosen
+-- A bio was completed by the last call at a disk, whose entry keeps the index that was chosen. The disk's history tells that it is the bio at that
+-- index, or the last one where fewer waited by then.
+pub record CompletesChosen (disk : DevId) (chosen index : ℕ) (new : DeskState) : Type 0 where
+  pub between : DeskState
+  pub reply : Reply
+  pub calls : HasCalled between (Complete disk) reply new
+  pub picked : completed_index reply ≡ Some index
+  pub kept : calls.told.chosen ≡ Some chosen
+  pub most : index ≤ chosen
 
--- so it is at each disk
-abbrev pub DeskPicks : DevId → ℕ → ℕ → Option ℕ → Type 0
-DeskPicks disk pending chosen picked = PicksBy chosen picked
+-- what became of a choice at a desk, where a bio was completed
+abbrev pub DeskPicks : DeskState → DeskState → DevId → ℕ → ℕ → Option ℕ → Type 0
+DeskPicks old new disk pending chosen (Some index) = CompletesChosen disk chosen index new
+DeskPicks old new disk pending chosen None = Unit {0}
 
 -- the look of a completion told that so many bios wait
 abbrev pub DeskFinds : DeskState → DeskState → DevId → ℕ → Type 0

@@ -1,5 +1,5 @@
 -- The things behind the locks, by the names of their objects.
-use Rattle.std.specs.Prelude.{◌≡◌, ℕ, false, []}
+use Rattle.std.specs.Prelude.{◌≡◌, ℕ, Option, false, []}
 use Rattle.bio_records.specs.Rescue.{Rescue}
 use Rattle.bio_books.specs.Books.{BookState}
 use Rattle.mempool_core.specs.Pool.{LedgerPool}
@@ -11,10 +11,10 @@ use Rattle.run_machine.specs.Requests.{Request, Reply}
 use Rattle.task_core.specs.declared.plain.Plain.{Plain}
 use Rattle.task_core.specs.Plains.{list_number, objects_of, pool_at, tally_of}
 use Rattle.task_core.specs.Tables.{look_up}
-use Rattle.object_things.specs.Stamps.{Told, ThingState, ThingAnswers}
+use Rattle.object_things.specs.Stamps.{Told, ThingState, ThingAnswers, ChoosesNone}
 use Rattle.object_things.specs.Pools.{PoolServes, PoolLooks}
 use Rattle.object_things.specs.Lists.{ListServes, ListLooks}
-use Rattle.object_things.specs.Disks.{DiskServes, DiskLooks}
+use Rattle.object_things.specs.Disks.{DiskChooses, DiskServes, DiskLooks}
 use Rattle.object_things.specs.Books.{BookServes, BookLooks}
 use Rattle.object_things.specs.Tallies.{TallyServes, TallyLooks}
 
@@ -44,8 +44,17 @@ looks_at (OfBook writer) = BookLooks
 looks_at OfTally = TallyLooks
 looks_at OfNone = λ old request reply new. ⊥
 
+-- what became of a choice in it
+abbrev pub chooses_at : (name : Object) → ThingAt name → Reply → Option ℕ → Type 0
+chooses_at (OfPool number) = ChoosesNone
+chooses_at (OfRescuer dev) = ChoosesNone
+chooses_at (OfDisk dev) = DiskChooses
+chooses_at (OfBook writer) = ChoosesNone
+chooses_at OfTally = ChoosesNone
+chooses_at OfNone = ChoosesNone
+
 abbrev pub answers_at : (name : Object) → ThingState (ThingAt name) → Request → Told → ThingState (ThingAt name) → Type 0
-answers_at name = ThingAnswers (serves_at name) (looks_at name)
+answers_at name = ThingAnswers (serves_at name) (looks_at name) (chooses_at name)
 
 -- the list of a rescuer that there is not
 abbrev pub no_list : ℕ → Rescue

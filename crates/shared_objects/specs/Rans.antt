@@ -4,16 +4,17 @@ use Rattle.std.specs.Option.{is_some}
 use Rattle.tick_clock.specs.declared.ticking.Rank.TheVariants as pass_rank
 use Rattle.tick_clock.specs.Tickets.{PassState}
 use Rattle.run_machine.specs.Laws.{Object}
+use Rattle.run_machine.specs.Tasks.{TaskState}
 use Rattle.task_steps.specs.declared.step.Step.{Step}
 use Rattle.task_steps.specs.declared.step.Step.TheVariants.{Stepped, Ended, Broken}
 use Rattle.task_steps.specs.Homes.{IsTaskOf}
 use Rattle.task_steps.specs.Routed.{routing_setup}
 use Rattle.task_steps.specs.Stage.{Stage, Owes}
-use Rattle.task_steps.specs.TaskViews.{TaskOf}
+use Rattle.task_steps.specs.TaskViews.{ChosenBy, TaskOf}
 use Rattle.task_steps.specs.Turns.{Turns}
 use Rattle.object_things.specs.Histories.{Call}
 use Rattle.shared_objects.specs.Calls.{calls_at}
-use Rattle.shared_objects.specs.Desks.{DeskState, DeskServes}
+use Rattle.shared_objects.specs.Desks.{DeskPicks, DeskState, DeskServes}
 use Rattle.shared_objects.specs.Holding.{DeskHolds, desk_of, stage_at}
 use Rattle.shared_objects.specs.Logs.{events_in, IsLogged, HasStopped, seen_by}
 use Rattle.shared_objects.specs.Noting.{notes_of, AreNoted, HaveTickets, IsBlank, NotesStep}
@@ -35,6 +36,10 @@ pub record IsRan (first task : TaskOf) (desk : DeskState) (events : ℕ) (stoppe
 abbrev pub TurnsWith : Locks → TaskOf → TaskSeats → TaskOf → TaskSeats → Step → Type 0
 TurnsWith locks task seats next after step =
     Turns DeskServes (Owes (stage_at locks)) (routing_setup task.routing) task.state (desk_of seats) next.state (desk_of after) step
+
+-- what became of the chooser in such a step
+abbrev pub ChosenWith : {C : Type 0} → (C → ℕ → ℕ → C → Type 0) → TaskState → TaskSeats → TaskSeats → C → Step → C → Type 0
+ChosenWith chooses task seats after old step new = ChosenBy task chooses (DeskPicks (desk_of seats)) (desk_of after) old step new
 
 -- how many events there are behind a step, and whether the task has stopped
 abbrev pub events_after : Step → ℕ → ℕ

@@ -4,11 +4,11 @@ ghost use Rattle.bio_records.specs.Clear.{IsClearBody, IsClearSlip, IsClearVecto
 ghost use Rattle.run_machine.specs.Laws.{OfPool, OfRescuer, OfDisk, OfBook, OfTally, object_of};
 ghost use Rattle.task_steps.specs.Stage.{RequestFits, Owes, has_book, has_disk, has_rescuer, is_bios, is_slips};
 ghost use Rattle.object_things.specs.Books.{BookAskAlone, BookSays, book_asked, book_replied};
-ghost use Rattle.object_things.specs.Disks.{DiskAskAlone, DiskSays, disk_asked, disk_replied};
+ghost use Rattle.object_things.specs.Disks.{DiskAskAlone, DiskSays, disk_asked};
 ghost use Rattle.object_things.specs.Lists.{ListSays, list_asked, list_replied};
 ghost use Rattle.object_things.specs.Pools.{PoolAskFits, PoolSays, pool_asked, pool_replied};
 ghost use Rattle.object_things.specs.Tallies.{TallySays, tally_asked, tally_replied};
-ghost use Rattle.shared_objects.specs.Callers.{CallerHasCalled};
+ghost use Rattle.shared_objects.specs.Callers.{CallerHasAskedDisk, CallerHasCalled};
 ghost use Rattle.shared_objects.specs.Holding.{DeskHolds, stage_at};
 
 pub mod objects;
@@ -132,7 +132,7 @@ impl<'a, R: Wait> Caller<'a, R> {
         requires named { object_of (disk_asked ask) ≡ OfDisk disk.0 }
         requires fits { RequestFits (stage_at self.old.locks.now) (disk_asked ask) }
         requires alone { DiskAskAlone ask }
-        ensures called { CallerHasCalled self.old (disk_asked ask) (disk_replied result) self.new }
+        ensures called { CallerHasAskedDisk self.old ask result self.new }
         ensures says { DiskSays (stage_at self.old.locks.now) ask result }
     {
         let locks = self.locks;

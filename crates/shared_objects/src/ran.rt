@@ -69,11 +69,9 @@ impl Ran {
     ghost use Rattle.std.specs.Prelude.{false};
     ghost use Rattle.run_machine.specs.Events.{id_of};
     ghost use Rattle.task_steps.specs.Homes.{IsTaskOf};
-    ghost use Rattle.task_steps.specs.TaskViews.{ChosenBy};
-    ghost use Rattle.shared_objects.specs.Desks.{DeskPicks};
     ghost use Rattle.shared_objects.specs.Holding.{DeskHolds, desk_of, stage_at};
     ghost use Rattle.shared_objects.specs.Joining.{HasJoinedSeats, IsPutAway};
-    ghost use Rattle.shared_objects.specs.Rans.{IsNewDesk, IsOtherPass, RanHolds, TurnsWith, progress_of, ran_key, ran_of};
+    ghost use Rattle.shared_objects.specs.Rans.{ChosenWith, IsNewDesk, IsOtherPass, RanHolds, TurnsWith, progress_of, ran_key, ran_of};
     ghost use Rattle.shared_objects.specs.Shared.{FirstsHold};
 
     /// A task as it was opened, with seats of these locks, at which nothing was called yet, and an empty list for its events, where the locks
@@ -105,7 +103,7 @@ impl Ran {
     pub fn step<R: Wait, C: Chooser>(&mut self, rt: &R, locks: &Locks, chooser: &mut C) -> Step
         requires home { self.old.home ≡ locks.now }
         ensures turns { TurnsWith locks.now self.old.task self.old.seats self.new.task self.new.seats result }
-        ensures chosen { ChosenBy self.old.task.state C.chooses DeskPicks chooser.old result chooser.new }
+        ensures chosen { ChosenWith C.chooses self.old.task.state self.old.seats self.new.seats chooser.old result chooser.new }
         ensures key { ran_key self.new ≡ ran_key self.old }
         ensures events { self.new.events ≡ events_after result self.old.events }
         ensures stopped { self.new.stopped ≡ stopped_after result self.old.stopped }

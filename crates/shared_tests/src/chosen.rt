@@ -110,7 +110,6 @@ fn chosen_alone(alloc: Global, scene: &Scene) -> Result<Option<u64>, AllocError>
     }
 }
 
-// The contract of a desk says only that the index is at most the chosen one.
 #[test]
 fn the_chosen_bio_is_completed(rt: HostRuntime) -> Result<(), Fail> {
     let scene = scene_of(rt.alloc(), TWO_BIOS)?;

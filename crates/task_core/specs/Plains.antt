@@ -132,6 +132,6 @@ abbrev pub PlainFinds : Plain → Plain → DevId → ℕ → Type 0
 PlainFinds old new dev pending = pending ≡ min (length ((objects_of old).disk dev.0).pending) (2 ^ 64 - 1)
 
 -- the bio at the chosen place is completed, which nobody took meanwhile
-abbrev pub PlainPicks : Plain → DevId → ℕ → ℕ → Option ℕ → Type 0
-PlainPicks plain dev pending chosen (Some index) = (pending ≡ min (length ((objects_of plain).disk dev.0).pending) (2 ^ 64 - 1)) × (index ≡ chosen)
-PlainPicks plain dev pending chosen None = ⊥
+abbrev pub PlainPicks : Plain → Plain → DevId → ℕ → ℕ → Option ℕ → Type 0
+PlainPicks old new dev pending chosen (Some index) = (pending ≡ min (length ((objects_of old).disk dev.0).pending) (2 ^ 64 - 1)) × (index ≡ chosen)
+PlainPicks old new dev pending chosen None = ⊥

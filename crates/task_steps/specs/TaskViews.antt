@@ -22,8 +22,8 @@ task_of (kind.Completer disk carried) = Completer disk carried
 task_of (kind.Keeper keeper) = Keeper keeper
 
 -- the completer of a disk asks its chooser, and no other task does
-abbrev pub ChosenBy : {C : Type 0} → TaskState → (C → ℕ → ℕ → C → Type 0) → (DevId → ℕ → ℕ → Option ℕ → Type 0) → C → Step → C → Type 0
-ChosenBy (Writer number todo taken submission) chooses picks old step new = new ≡ old
-ChosenBy (Rescuer dev submission) chooses picks old step new = new ≡ old
-ChosenBy (Completer disk carried) chooses picks old step new = Chosen chooses picks disk old step new
-ChosenBy (Keeper keeping) chooses picks old step new = new ≡ old
+abbrev pub ChosenBy : {S C : Type 0} → TaskState → (C → ℕ → ℕ → C → Type 0) → (S → DevId → ℕ → ℕ → Option ℕ → Type 0) → S → C → Step → C → Type 0
+ChosenBy (Writer number todo taken submission) chooses picks now old step new = new ≡ old
+ChosenBy (Rescuer dev submission) chooses picks now old step new = new ≡ old
+ChosenBy (Completer disk carried) chooses picks now old step new = Chosen chooses picks now disk old step new
+ChosenBy (Keeper keeping) chooses picks now old step new = new ≡ old

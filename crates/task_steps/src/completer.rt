@@ -167,7 +167,7 @@ impl Carried {
         requires empty { self.old ≡ Empty }
         requires ready { HoldsTask O.Objects objects.old (Completes disk Empty) }
         ensures does { CompleterDoes O.Objects disk Empty objects.old (self.new, result) objects.new }
-        ensures chosen { Chosen C.chooses (O.picks objects.old) disk chooser.old result chooser.new }
+        ensures chosen { Chosen C.chooses (O.picks objects.old) objects.new disk chooser.old result chooser.new }
     {
         match objects.complete(disk, chooser) {
             Ok(Some((index, Done { el, status }))) => {
@@ -240,7 +240,7 @@ impl Carried {
     ) -> Step
         requires ready { HoldsTask O.Objects objects.old (Completes disk self.old) }
         ensures does { CompleterDoes O.Objects disk self.old objects.old (self.new, result) objects.new }
-        ensures chosen { Chosen C.chooses (O.picks objects.old) disk chooser.old result chooser.new }
+        ensures chosen { Chosen C.chooses (O.picks objects.old) objects.new disk chooser.old result chooser.new }
     {
         if !self.is_busy() {
             return self.complete(objects, chooser, disk);

@@ -95,9 +95,9 @@ pub trait Objects {
     /// What they tell of a call: the objects before, what was asked and replied, and the objects after.
     ghost serves: { Self → Request → Reply → Self → Type 0 };
 
-    /// What becomes of a choice: in these objects, of the bios that wait in this disk, so many that a chooser is told of and the index that it
-    /// chooses, the one at this index is completed, or none where others had taken them all by then.
-    ghost picks: { Self → DevId' → ℕ → ℕ → Option ℕ → Type 0 };
+    /// What becomes of a choice: the objects before it and after it, the disk, how many bios wait there as a chooser is told, the index that it
+    /// chooses, and that of the bio which is completed, or none where others had taken them all by then.
+    ghost picks: { Self → Self → DevId' → ℕ → ℕ → Option ℕ → Type 0 };
 
     /// What a completion finds: the objects before it and after it, the disk, and how many bios waited there at its first look.
     ghost finds: { Self → Self → DevId' → ℕ → Type 0 };
@@ -192,7 +192,7 @@ pub trait Objects {
         requires fits { RequestFits (stage self.old) (Complete disk) }
         ensures serves { serves self.old (Complete disk) (completed_reply result) self.new }
         ensures owed { Owes (stage self.old) (Complete disk) (completed_reply result) }
-        ensures chosen { Choice C.chooses (finds self.old self.new disk) (picks self.old disk) chooser.old (completed_reply result) chooser.new }
+        ensures chosen { Choice C.chooses (finds self.old self.new disk) (picks self.old self.new disk) chooser.old (completed_reply result) chooser.new }
         ensures alone { CompletedAlone result }
         ensures back { IfErr result (λ back. back ≡ unmade.Nothing) }
         ensures kept { holds self.new × (stage self.new ≡ stage self.old) };

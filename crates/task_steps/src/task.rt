@@ -99,7 +99,7 @@ impl Task {
         requires routing { self.old.routing ≡ (O.stage objects.old).routing }
         requires ready { HoldsTask O.Objects objects.old self.old.state }
         ensures does { TaskDoes O.Objects self.old.routing self.old.state objects.old self.new.state objects.new result }
-        ensures chosen { ChosenBy self.old.state C.chooses (O.picks objects.old) chooser.old result chooser.new }
+        ensures chosen { ChosenBy self.old.state C.chooses (O.picks objects.old) objects.new chooser.old result chooser.new }
         ensures same { self.new.routing ≡ self.old.routing }
     {
         match &mut self.kind {

@@ -26,7 +26,7 @@ use Rattle.object_things.specs.declared.tally.TallySaid.{TallySaid}
 use Rattle.object_things.specs.Histories.{Call}
 use Rattle.object_things.specs.Stamps.{MarkState, Told, stage_in}
 use Rattle.object_things.specs.Books.{BookAskAlone, BookFits, BookOwes, BookSays, book_asked, book_mark, book_replied, book_told}
-use Rattle.object_things.specs.Disks.{DiskAskAlone, DiskFits, DiskOwes, DiskSays, disk_asked, disk_mark, disk_replied, disk_told}
+use Rattle.object_things.specs.Disks.{DiskAskAlone, DiskFits, DiskOwes, DiskSays, KeepsChoice, disk_asked, disk_mark, disk_replied, disk_told}
 use Rattle.object_things.specs.Lists.{ListFits, ListOwes, ListSays, list_asked, list_mark, list_replied, list_told}
 use Rattle.object_things.specs.Tallies.{TallyFits, TallyOwes, TallySays, tally_asked, tally_mark, tally_replied, tally_told}
 use Rattle.shared_objects.specs.declared.locks.Locks.{Locks}
@@ -129,8 +129,12 @@ module _ (locks : Locks) (seats : TaskSeats) (holds : DeskHolds locks seats) whe
       disk_calls =
           row_calls disk_locked disk_seats n place is there disk_asked disk_replied DiskOwes made (λ m asking replied owed. owed.pass)
 
-      pub disk_called : HasCalled (desk_of seats) (disk_asked ask) (disk_replied said) (desk_of with_disk)
+      abbrev pub disk_called : HasCalled (desk_of seats) (disk_asked ask) (disk_replied said) (desk_of with_disk)
       disk_called = has_called (OfDisk n) (calls_of seats) (calls_of with_disk) named disk_call (ap (λ (f : ℕ → List Call). record (calls_of seats) { disk = f }) disk_calls)
+
+      -- and the entry keeps the index that was chosen
+      pub disk_choice : KeepsChoice ask (disk_replied said) disk_called.told.chosen
+      disk_choice = subst (λ s. KeepsChoice ask (disk_replied s) made.made.replied.chosen.value) made.made.says made.made.owed.choice
 
       pub disk_holds : DeskHolds locks with_disk
       disk_holds = record {

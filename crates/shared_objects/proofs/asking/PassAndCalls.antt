@@ -47,7 +47,7 @@ pub record SeatCalls {T : Type 0} (task : ℕ) (old new : Known T Request Told) 
 
 -- what a history keeps of a reply
 abbrev pub told_by : {S : Type 0} → (S → Reply) → Replied S → Told
-told_by reply_of replied = record { reply = reply_of replied.said; note = replied.note; drew = replied.drew; drawn = replied.drawn.value; ticket = replied.ticket }
+told_by reply_of replied = record { reply = reply_of replied.said; note = replied.note; drew = replied.drew; drawn = replied.drawn.value; chosen = replied.chosen.value; ticket = replied.ticket }
 
 -- what is owed of the pass
 abbrev pub PassesBy : {S Q : Type 0} → (S → Reply) → Asking Q → Replied S → Type 0
@@ -60,7 +60,7 @@ module _ {Q S T : Type 0} (asked_of : Q → Request) (reply_of : S → Reply) {o
   asking = record { pass = made.pass; ask = ask }
 
   -- where the pass is owed, the task has made a call
-  pub seat_calls : (task : ℕ) → IsNumbered task old → (owes asking made.replied → PassesBy reply_of asking made.replied)
+  abbrev pub seat_calls : (task : ℕ) → IsNumbered task old → (owes asking made.replied → PassesBy reply_of asking made.replied)
       → SeatCalls task old new before (asked_of ask) (reply_of said) after
   seat_calls task is passes =
       let told : Told = told_by reply_of made.replied in
@@ -78,7 +78,7 @@ module _ {Q S T : Type 0} (asked_of : Q → Request) (reply_of : S → Reply) {o
   owed_of P owed = subst P made.says (owed made.owed)
 
 -- A call that stands last among those of its object is a call of the task.
-pub has_called : {T : Type 0} {task : ℕ} {old new : Known T Request Told} {before after : Option PassState} {asked : Request} {reply : Reply} (name : Object)
+abbrev pub has_called : {T : Type 0} {task : ℕ} {old new : Known T Request Told} {before after : Option PassState} {asked : Request} {reply : Reply} (name : Object)
     (calls next : CallsAt) → object_of asked ≡ name → (made : SeatCalls task old new before asked reply after)
     → next ≡ with_call calls name (record { by = task + 1; asked = asked; told = made.told })
     → HasCalled (record { number = task + 1; pass = before; calls = calls }) asked reply (record { number = task + 1; pass = after; calls = next })

@@ -35,7 +35,7 @@ module _ {K T : Type 0} {key : K → ℕ} {mark : T → MarkState} {name : ℕ �
     seat_is_of = seat_of locked seated n i is place made.lock made.lock_is made.seat made.seat_is
 
     module _ (passes : (m : MarkState) (asking : Asking Q) (replied : Replied S) → owes m asking replied → PassesBy reply_of asking replied) where
-      pub row_call : SeatCalls task made.seat.1.known made.now.known before (asked_of ask) (reply_of said) after
+      abbrev pub row_call : SeatCalls task made.seat.1.known made.now.known before (asked_of ask) (reply_of said) after
       row_call =
           seat_calls asked_of reply_of made.made task seat_is_of.numbered
           (passes (mark made.lock.1.key.value) (record { pass = made.made.pass; ask = ask }) made.made.replied)

@@ -11,29 +11,29 @@ use Rattle.run_machine.specs.Laws.{Object, object_of}
 use Rattle.run_machine.specs.Scene.{Setup}
 use Rattle.task_core.specs.declared.plain.Plain.{Plain}
 use Rattle.object_things.specs.Histories.{Call, KeepsHistory, or_last, TicketsRise}
-use Rattle.object_things.specs.Stamps.{ThingState}
+use Rattle.object_things.specs.Stamps.{ChoosesNone, ThingState}
 use Rattle.object_things.proofs.Looking.{book_quiet, tally_quiet, disk_quiet, list_quiet, pool_quiet}
 use Rattle.object_things.proofs.Refused.{book_stays, disk_stays, list_stays, pool_stays, tally_stays}
 use Rattle.object_things.proofs.Rising.{keeps_history}
 use Rattle.object_things.specs.Books.{BookServes, BookLooks}
-use Rattle.object_things.specs.Disks.{DiskServes, DiskLooks}
+use Rattle.object_things.specs.Disks.{DiskChooses, DiskServes, DiskLooks}
 use Rattle.object_things.specs.Lists.{ListServes, ListLooks}
 use Rattle.object_things.specs.Pools.{PoolServes, PoolLooks}
 use Rattle.object_things.specs.Tallies.{TallyServes, TallyLooks}
 use Rattle.run_machine.specs.Laws.{OfPool, OfRescuer, OfDisk, OfBook, OfTally, OfNone}
 use Rattle.shared_objects.specs.Closes.{Returned, ClosesAs}
 use Rattle.shared_objects.specs.Passes.{drawn_by, found_by, numbers_of}
-use Rattle.shared_objects.specs.Kinds.{ThingAt, looks_at, opened_at, serves_at, unasked}
+use Rattle.shared_objects.specs.Kinds.{ThingAt, chooses_at, looks_at, opened_at, serves_at, unasked}
 use Rattle.shared_objects.specs.Logs.{tickets_in, IsSeenIn, FoundNone, KnowsLast, HasPass, IsLogged}
 use Rattle.shared_objects.proofs.tickets.CallOwners.{split_at, first_there, at_all, IsCallOfTask, owner, logged, kept, IsInPlace, in_place}
 
-pub keeps : (name : Object) → KeepsHistory (serves_at name) (looks_at name)
-keeps (OfPool number) = keeps_history PoolServes PoolLooks pool_quiet pool_stays
-keeps (OfRescuer dev) = keeps_history ListServes ListLooks list_quiet list_stays
-keeps (OfDisk dev) = keeps_history DiskServes DiskLooks disk_quiet disk_stays
-keeps (OfBook writer) = keeps_history BookServes BookLooks book_quiet book_stays
-keeps OfTally = keeps_history TallyServes TallyLooks tally_quiet tally_stays
-keeps OfNone = keeps_history (serves_at OfNone) (looks_at OfNone) (λ old new asked reply looks. absurd looks) (λ old new asked reply serves none. absurd serves)
+pub keeps : (name : Object) → KeepsHistory (serves_at name) (looks_at name) (chooses_at name)
+keeps (OfPool number) = keeps_history PoolServes PoolLooks ChoosesNone pool_quiet pool_stays
+keeps (OfRescuer dev) = keeps_history ListServes ListLooks ChoosesNone list_quiet list_stays
+keeps (OfDisk dev) = keeps_history DiskServes DiskLooks DiskChooses disk_quiet disk_stays
+keeps (OfBook writer) = keeps_history BookServes BookLooks ChoosesNone book_quiet book_stays
+keeps OfTally = keeps_history TallyServes TallyLooks ChoosesNone tally_quiet tally_stays
+keeps OfNone = keeps_history (serves_at OfNone) (looks_at OfNone) (chooses_at OfNone) (λ old new asked reply looks. absurd looks) (λ old new asked reply serves none. absurd serves)
 
 pub map_there : {X Y : Type 0} (f : X → Y) (xs : List X) (x : X) → Contains xs x → Contains (map f xs) (f x)
 map_there f xs x there =

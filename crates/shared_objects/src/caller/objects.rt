@@ -5,12 +5,11 @@ ghost use Rattle.bioset_pools.specs.Sets.{bios_of};
 ghost use Rattle.run_machine.specs.Requests.{Complete, LeftOver, Resize};
 ghost use Rattle.task_steps.specs.declared.objects.Unmade.TheVariants as unmade;
 ghost use Rattle.task_steps.specs.Stage.{RequestFits};
-ghost use Rattle.task_steps.specs.Views.{completed_reply, resized_reply};
+ghost use Rattle.task_steps.specs.Views.{resized_reply};
 ghost use Rattle.object_things.specs.declared.disk.DiskAsk.TheVariants as asks;
 ghost use Rattle.object_things.specs.declared.disk.DiskSaid.TheVariants as says;
 ghost use Rattle.object_things.specs.Disks.{DiskSays};
-ghost use Rattle.object_things.specs.Stamps.{or_unmade};
-ghost use Rattle.shared_objects.specs.Callers.{CallerHasCalled};
+ghost use Rattle.shared_objects.specs.Callers.{CallerHasAskedDisk, CallerHasCalled};
 ghost use Rattle.shared_objects.specs.Holding.{DeskHolds, stage_at};
 
 use crate::caller::Caller;
@@ -48,7 +47,7 @@ impl<'a, R: Wait> Caller<'a, R> {
     fn complete_at(&mut self, disk: DevId, index: u64) -> Result<Option<(u64, Done)>, NoTicket>
         requires holds { DeskHolds self.old.locks.now self.old.seats.now }
         requires fits { RequestFits (stage_at self.old.locks.now) (Complete disk) }
-        ensures called { CallerHasCalled self.old (Complete disk) (completed_reply (or_unmade result)) self.new }
+        ensures called { CallerHasAskedDisk self.old (asks.Complete disk index) (says.Completed result) self.new }
         ensures says { DiskSays (stage_at self.old.locks.now) (asks.Complete disk index) (says.Completed result) }
     {
         match self.ask_disk(disk, DiskAsk::Complete { disk, index }) {
@@ -112,7 +111,7 @@ impl<'a, R: Wait> Objects for Caller<'a, R> {
 
     ghost serves = { λ old request reply new. DeskServes (desk_of old.seats.now) request reply (desk_of new.seats.now) × (new.locks.now ≡ old.locks.now) × (new.seats.ghost_name ≡ old.seats.ghost_name) };
 
-    ghost picks = { λ caller. DeskPicks };
+    ghost picks = { λ old new. DeskPicks (desk_of old.seats.now) (desk_of new.seats.now) };
 
     ghost finds = { λ old new. DeskFinds (desk_of old.seats.now) (desk_of new.seats.now) };
 

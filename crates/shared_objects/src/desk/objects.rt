@@ -21,7 +21,7 @@ impl<'a, R: Wait> Objects for Desk<'a, R> {
 
     ghost serves = { λ old request reply new. DeskServes (desk_of old.seats) request reply (desk_of new.seats) × (new.locks.now ≡ old.locks.now) };
 
-    ghost picks = { λ desk. DeskPicks };
+    ghost picks = { λ old new. DeskPicks (desk_of old.seats) (desk_of new.seats) };
 
     ghost finds = { λ old new. DeskFinds (desk_of old.seats) (desk_of new.seats) };
 

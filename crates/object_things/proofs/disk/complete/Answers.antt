@@ -1,7 +1,7 @@
 use Rattle.std.proofs.Common.{rules, ◌≤◌, Ok, Some, sym, ◌∙◌, ap, subst}
 use Rattle.bio_records.specs.Items.{item_of}
 use Rattle.run_machine.specs.Opened.{at}
-use Rattle.object_things.specs.Disks.{DiskSays}
+use Rattle.object_things.specs.Disks.{DiskSays, KeepsChoice, disk_replied}
 use Rattle.object_things.specs.Stamps.{stage_in}
 use Rattle.object_things.specs.declared.disk.DiskAsk.TheVariants as ask
 use Rattle.object_things.specs.declared.disk.DiskSaid.{DiskSaid}
@@ -22,3 +22,8 @@ returns-clause-says c =
     let is : DiskSays (stage_in c.args.stamp.now.common) (ask.Complete c.args.dev c.args.index) (says.Completed (Ok (Some (c.min-at.result, c.complete-done.result)))) =
     (c.complete-done.ensures.alone, tt, up, (there.0, there.1 ∙ ap at (sym c.requires.own))) in
     subst (DiskSays (stage_in c.args.stamp.now.common) (ask.Complete c.args.dev c.args.index)) (sym (ap (λ (r : Replied DiskSaid). r.said) c.reply-2.ensures)) is
+
+pub returns-clause-choice : goal.returns-clause-choice
+returns-clause-choice c =
+    subst (λ (r : Replied DiskSaid). KeepsChoice (ask.Complete c.args.dev c.args.index) (disk_replied r.said) r.chosen.value) (sym c.reply-2.ensures)
+    c.choosing.ensures.chosen

@@ -1,5 +1,5 @@
 use Rattle.std.proofs.Common.{refl, rules}
-use Rattle.shared_objects.proofs.asking.ObjectCalls.{disk_seated, disk_fits, disk_called, disk_holds, disk_says}
+use Rattle.shared_objects.proofs.asking.ObjectCalls.{disk_seated, disk_fits, disk_called, disk_choice, disk_holds, disk_says}
 use Rattle.shared_objects.proofs.caller.Caller.ask_disk.Goals as goal
 
 pub call_at-requires-clause-seated : goal.call_at-requires-clause-seated
@@ -13,14 +13,19 @@ call_at-requires-clause-fits g c =
 
 pub returns-clause-called : goal.returns-clause-called
 returns-clause-called g c = record {
-  calls =
-      disk_called c.args.self.now.locks.now c.args.self.now.seats.now c.requires.holds c.deref.result.now c.deref.ensures.value c.args.disk.0 c.place-at.result c.requires.disk c.place-at.ensures c.args.ask c.requires.named
+  called = record {
+    calls =
+        disk_called c.args.self.now.locks.now c.args.self.now.seats.now c.requires.holds c.deref.result.now c.deref.ensures.value c.args.disk.0 c.place-at.result c.requires.disk c.place-at.ensures c.args.ask c.requires.named
+        c.call_at.result c.call_at.new.seats c.call_at.new.pass c.call_at.ensures;
+    kept =
+        disk_holds c.args.self.now.locks.now c.args.self.now.seats.now c.requires.holds c.deref.result.now c.deref.ensures.value c.args.disk.0 c.place-at.result c.requires.disk c.place-at.ensures c.args.ask c.requires.named
+        c.call_at.result c.call_at.new.seats c.call_at.new.pass c.call_at.ensures;
+    same = refl;
+    lent = refl;
+  };
+  choice =
+      disk_choice c.args.self.now.locks.now c.args.self.now.seats.now c.requires.holds c.deref.result.now c.deref.ensures.value c.args.disk.0 c.place-at.result c.requires.disk c.place-at.ensures c.args.ask c.requires.named
       c.call_at.result c.call_at.new.seats c.call_at.new.pass c.call_at.ensures;
-  kept =
-      disk_holds c.args.self.now.locks.now c.args.self.now.seats.now c.requires.holds c.deref.result.now c.deref.ensures.value c.args.disk.0 c.place-at.result c.requires.disk c.place-at.ensures c.args.ask c.requires.named
-      c.call_at.result c.call_at.new.seats c.call_at.new.pass c.call_at.ensures;
-  same = refl;
-  lent = refl;
 }
 
 pub returns-clause-says : goal.returns-clause-says
