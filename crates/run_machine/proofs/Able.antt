@@ -62,6 +62,7 @@ CanEnd book place status part left.Top = (closed : Closed) × (new : BookState) 
 
 -- what an event needs of the objects, where its task asks for this; an event of anything else is not the task's
 abbrev pub Needs : Objects → Request → What → Type 0
+-- takes and gives: of the pool that is asked, which can make the move
 Needs old (TakeBio set true) (what.Take pool got) = (pool ≡ bios_of set) × CanTake (old.pool (pool_number (bios_of set))) got
 Needs old (TakeBio set false) (what.Try pool got) = (pool ≡ bios_of set) × CanTry (old.pool (pool_number (bios_of set))) got
 Needs old TakeVec (what.Take pool got) = (pool ≡ FsVecs) × CanTake (old.pool (pool_number FsVecs)) got
@@ -69,17 +70,22 @@ Needs old (TakeSlip dev) (what.Take pool got) = (pool ≡ Records dev) × CanTak
 Needs old (GiveBio bio) (what.Give pool) = (pool ≡ pool_of bio.share.no) × CanMove (old.pool bio.share.no) gives
 Needs old (GiveVec vector) (what.Give pool) = (pool ≡ pool_of vector.share.no) × CanMove (old.pool vector.share.no) gives
 Needs old (GiveSlip slip) (what.Give pool) = (pool ≡ pool_of slip.share.no) × CanMove (old.pool slip.share.no) gives
+-- lists of rescuers: the event has as many bios as are moved, or one waits
 Needs old (Punt dev bios) (what.Punt of moved) = (of ≡ dev) × (moved ≡ min (length bios) (2 ^ 64 - 1))
 Needs old (Pop dev) (what.Pop of) = (of ≡ dev) × (0 < length (old.rescue dev.0))
+-- disks: the event has the range of the bio, or one waits at this index
 Needs old (Push bio) (what.Push disk at len leg) =
     (disk ≡ bio.bio.dev) × (at ≡ bio.bio.range.start) × (len ≡ bio.bio.range.len) × (leg ≡ bio.pad.leg)
 Needs old (Complete disk) (what.Complete of index status) = (of ≡ disk) × CanComplete (old.disk disk.0) index status
+-- books: a node can be opened or told of an end so
 Needs old (Link writer opening) (what.Link of how place) = (of ≡ writer) × (how ≡ how_of opening) × CanOpen (old.book writer) opening place
 Needs old (Drop writer node status part) (what.Drop of place ended end) =
     (of ≡ writer) × (place ≡ node) × (ended ≡ status) × CanEnd (old.book writer) node status part end
+-- the tally and reserves: of a reserve nothing is out, and a round is behind the present one
 Needs old (Done write status) (what.Done of ended) = (of ≡ write) × (ended ≡ status)
 Needs old (Resize pool min) (what.Resize of to) = (of ≡ pool) × (to ≡ min) × ((old.pool (pool_number pool)).facts.out ≡ 0)
 Needs old (NextRound round) (what.Round of) = (of ≡ round) × (old.tally.round + 1 < length old.tally.left)
+-- an event of anything else is not the task's
 Needs old request what = ⊥
 
 -- whether what a task looks at lets it ask
@@ -136,6 +142,7 @@ module _ (ledger : ℕ → LedgerId) (old new : Objects) (told : What) where
   of_resizes pool least out false home said is = absurd (none-some told said)
 
   needs_of : (request : Request) (reply : Reply) → Told request reply
+  -- takes: the pool made the move; a miss of a take that waits, with no entry used up, is no event
   needs_of (TakeBio set true) (HadBio got bio) said serves =
       by_told (TakeBio set true) (what.Take (bios_of set) got) said (refl, has_take old new (pool_number (bios_of set)) got serves.0)
   needs_of (TakeBio set true) (Missed true) said serves =
@@ -153,26 +160,33 @@ module _ (ledger : ℕ → LedgerId) (old new : Objects) (told : What) where
       by_told (TakeSlip dev) (what.Take (Records dev) got) said (refl, has_take old new (pool_number (Records dev)) got serves.0)
   needs_of (TakeSlip dev) (Missed true) said serves = by_told (TakeSlip dev) (what.Take (Records dev) got.Missed) said (refl, serves.0)
   needs_of (TakeSlip dev) (Missed false) said serves = absurd (none-some told said)
+  -- gives: the pool made the move
   needs_of (GiveBio bio) Did said serves = by_told (GiveBio bio) (what.Give (pool_of bio.share.no)) said (refl, serves.0)
   needs_of (GiveVec vector) Did said serves = by_told (GiveVec vector) (what.Give (pool_of vector.share.no)) said (refl, serves.0)
   needs_of (GiveSlip slip) Did said serves = by_told (GiveSlip slip) (what.Give (pool_of slip.share.no)) said (refl, serves.0)
+  -- lists of rescuers: what is popped waited there
   needs_of (Punt dev moved) Did said serves =
       by_told (Punt dev moved) (what.Punt dev (min (length moved) (2 ^ 64 - 1))) said (refl, refl)
   needs_of (Pop dev) (Popped bio) said serves =
       by_told (Pop dev) (what.Pop dev) said (refl, subst (λ bios. 0 < length bios) (sym serves.0) (omega arith))
   needs_of (Pop dev) Nothing said serves = absurd (none-some told said)
+  -- disks: what is completed waited there
   needs_of (Push bio) Did said serves =
       by_told (Push bio) (what.Push bio.bio.dev bio.bio.range.start bio.bio.range.len bio.pad.leg) said (refl, refl, refl, refl)
   needs_of (Complete disk) (Completed index bio status) said serves =
       by_told (Complete disk) (what.Complete disk index status) said (refl, (bio, serves.0.taken, serves.0.status))
   needs_of (Complete disk) Nothing said serves = absurd (none-some told said)
+  -- books
   needs_of (Link writer opening) reply said serves = of_links writer opening reply said serves
   needs_of (Drop writer node status part) reply said serves = of_drops writer node status part reply said serves
+  -- the tally and reserves
   needs_of (Done write status) Did said serves = by_told (Done write status) (what.Done write status) said (refl, refl)
   needs_of (Resize pool least) (OutIs out) said serves = of_resizes pool least out (out == 0) refl said serves.0
   needs_of (NextRound round) Did said serves = by_told (NextRound round) (what.Round round) said (refl, serves.0)
+  -- looks are no events
   needs_of LookRound (Present round) said serves = absurd (none-some told said)
   needs_of LookLeft (LeftOver count) said serves = absurd (none-some told said)
+  -- no other reply is one to the request
   needs_of _ reply said serves = absurd serves
 
 -- what it saw is what is there

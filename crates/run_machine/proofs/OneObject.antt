@@ -60,6 +60,7 @@ resizes_too old new other number min false same is = pool_too old new other numb
 
 serves_too : (ledger : ℕ → LedgerId) (old new other : Objects) (asked : Request) (reply : Reply) → AgreeAt (object_of asked) old other
     → Serves ledger old asked reply new → Serves ledger other asked reply (with_object other new (object_of asked))
+-- takes and gives: a pool that is alike makes the same move
 serves_too ledger old new other (TakeBio set waits) (HadBio from bio) same serves = (has_too old new other _ from same serves.0, serves.1)
 serves_too ledger old new other (TakeBio set waits) (Missed used) same serves = moves_too old new other _ (misses used) same serves
 serves_too ledger old new other TakeVec (HadVec from vector) same serves = (has_too old new other _ from same serves.0, serves.1)
@@ -69,6 +70,7 @@ serves_too ledger old new other (TakeSlip dev) (Missed used) same serves = moves
 serves_too ledger old new other (GiveBio bio) Did same serves = moves_too old new other _ gives same serves
 serves_too ledger old new other (GiveVec vector) Did same serves = moves_too old new other _ gives same serves
 serves_too ledger old new other (GiveSlip slip) Did same serves = moves_too old new other _ gives same serves
+-- lists of rescuers: one that is alike gets the same bios, and has the same first one
 serves_too ledger old new other (Punt dev moved) Did same serves =
     ap (λ l. record other { rescue = upd other.rescue dev.0 l })
     (ap (λ o. o.rescue dev.0) serves ∙ upd_same old.rescue dev.0 _ ∙ ap (λ l. l ++ moved) same)
@@ -76,6 +78,7 @@ serves_too ledger old new other (Pop dev) (Popped bio) same serves =
     let at = upd_same other.rescue dev.0 (new.rescue dev.0) in
     (sym same ∙ serves.0 ∙ ap (λ l. bio ∷ l) (sym at), ap (λ l. record other { rescue = upd other.rescue dev.0 l }) (sym at))
 serves_too ledger old new other (Pop dev) Nothing same serves = (sym same ∙ serves.0, rescue_too old new other dev.0 same serves.1)
+-- disks: one that is alike gets the same bio, and ends the same one
 serves_too ledger old new other (Push bio) Did same serves =
     ap (λ d. record other { disk = upd other.disk bio.bio.dev.0 d })
     (ap (λ o. o.disk bio.bio.dev.0) serves ∙ upd_same old.disk bio.bio.dev.0 _ ∙ ap (pushed bio) same)
@@ -86,6 +89,7 @@ serves_too ledger old new other (Complete disk) (Completed index bio status) sam
     (subst (Completes (other.disk disk.0) index bio status) (sym at) here, ap (λ d. record other { disk = upd other.disk disk.0 d }) (sym at))
 serves_too ledger old new other (Complete disk) Nothing same serves =
     (ap (λ d. d.pending) (sym same) ∙ serves.0, disk_too old new other disk.0 same serves.1)
+-- books: one that is alike opens the same node, or is told of the same end
 serves_too ledger old new other (Link writer opening) (LinkedTo answer) same serves =
     let at = upd_same other.book writer (new.book writer) in
     let here : Opened (other.book writer) opening answer (new.book writer) =
@@ -96,6 +100,7 @@ serves_too ledger old new other (Drop writer node status part) (DroppedTo ended)
     let here : Drops (other.book writer) node status part ended (new.book writer) =
     subst (λ b. Drops b node status part ended (new.book writer)) same serves.0 in
     (subst (Drops (other.book writer) node status part ended) (sym at) here, ap (λ b. record other { book = upd other.book writer b }) (sym at))
+-- the tally and reserves
 serves_too ledger old new other (Done write status) Did same serves =
     ap (λ t. record other { tally = t }) (ap (λ o. o.tally) serves ∙ ap (done_one write status) same)
 serves_too ledger old new other (Resize pool min) (OutIs out) same serves =
@@ -104,8 +109,10 @@ serves_too ledger old new other (NextRound round) Did same serves = (
   subst (λ t. t.round + 1 < length t.left) same serves.0,
   ap (λ t. record other { tally = t }) (ap (λ o. o.tally) serves.1 ∙ ap {A = TallyState} {B = TallyState} (λ t. record t { round = t.round + 1 }) same),
 )
+-- looks: a tally that is alike shows the same, and stays
 serves_too ledger old new other LookRound (Present round) same serves = (serves.0 ∙ ap (λ t. t.round) same, tally_too old new other same serves.1)
 serves_too ledger old new other LookLeft (LeftOver count) same serves = (serves.0 ∙ ap (λ t. sum t.left) same, tally_too old new other same serves.1)
+-- no other reply is one to the request
 serves_too ledger old new other asked reply same serves = absurd serves
 
 -- objects with one of them put there that they have already are as they were

@@ -40,6 +40,7 @@ resized true pool min = refl
 resized false pool min = refl
 
 told_other : (asked : Request) (reply : Reply) → completes asked ≡ false → told_complete (what_of asked reply) ≡ false
+-- takes
 told_other (requests.TakeBio set true) (requests.HadBio got bio) others = refl
 told_other (requests.TakeBio set false) (requests.HadBio got bio) others = refl
 told_other (requests.TakeBio set true) (requests.Missed true) others = refl
@@ -54,19 +55,23 @@ told_other (requests.TakeSlip dev) (requests.HadSlip got slip) others = refl
 told_other (requests.TakeSlip dev) (requests.Missed true) others = refl
 told_other (requests.TakeSlip dev) (requests.Missed false) others = refl
 told_other (requests.TakeSlip dev) _ others = refl
+-- gives
 told_other (requests.GiveBio bio) requests.Did others = refl
 told_other (requests.GiveBio bio) _ others = refl
 told_other (requests.GiveVec vector) requests.Did others = refl
 told_other (requests.GiveVec vector) _ others = refl
 told_other (requests.GiveSlip slip) requests.Did others = refl
 told_other (requests.GiveSlip slip) _ others = refl
+-- lists of rescuers
 told_other (requests.Punt dev moved) requests.Did others = refl
 told_other (requests.Punt dev moved) _ others = refl
 told_other (requests.Pop dev) (requests.Popped bio) others = refl
 told_other (requests.Pop dev) _ others = refl
+-- disks: a completion is the one request that is left out
 told_other (requests.Push bio) requests.Did others = refl
 told_other (requests.Push bio) _ others = refl
 told_other (requests.Complete disk) reply others = absurd (true≢false others)
+-- books
 told_other (requests.Link writer opening) (requests.LinkedTo (Made node)) others = refl
 told_other (requests.Link writer opening) (requests.LinkedTo (NoRoom back)) others = refl
 told_other (requests.Link writer opening) (requests.LinkedTo (Stray back)) others = refl
@@ -76,12 +81,14 @@ told_other (requests.Drop writer node status part) (requests.DroppedTo (end.Up c
 told_other (requests.Drop writer node status part) (requests.DroppedTo (end.Top closed)) others = refl
 told_other (requests.Drop writer node status part) (requests.DroppedTo (end.Stray back)) others = refl
 told_other (requests.Drop writer node status part) _ others = refl
+-- the tally, and reserves
 told_other (requests.Done write status) requests.Did others = refl
 told_other (requests.Done write status) _ others = refl
 told_other (requests.Resize pool min) (requests.OutIs out) others = resized _ pool min
 told_other (requests.Resize pool min) _ others = refl
 told_other (requests.NextRound round) requests.Did others = refl
 told_other (requests.NextRound round) _ others = refl
+-- looks and rests are no events
 told_other requests.LookRound reply others = refl
 told_other requests.LookLeft reply others = refl
 told_other requests.Rest reply others = refl
@@ -103,14 +110,17 @@ other_has_round objects _ other = tt
 module _ (setup : Setup) where
   -- writers and rescuers ask for nothing else
   submission_asks : (doing : Doing) (lists : TaskLists) → is_other (submission_request setup doing lists) ≡ true
+  -- one that rests or broke off
   submission_asks Rests lists = refl
   submission_asks (Breaks breach kept) lists = refl
+  -- a bio that is driven
   submission_asks (Drives bio ToPush) lists = refl
   submission_asks (Drives bio (ToCut (Takes waits))) lists = refl
   submission_asks (Drives bio (ToCut Punts)) lists = refl
   submission_asks (Drives bio (ToCut (Links hand))) lists = refl
   submission_asks (Drives bio ToRecord) lists = refl
   submission_asks (Drives bio (ToMaster slip)) lists = refl
+  -- copies for the legs of a mirror
   submission_asks (Copies bio master leg (Takes waits)) lists = refl
   submission_asks (Copies bio master leg Punts) lists = refl
   submission_asks (Copies bio master leg (Links hand)) lists = refl
@@ -121,25 +131,32 @@ module _ (setup : Setup) where
 
   writer_asks : (writer : ℕ) (todos : List Todo) (taken : Gathered) (doing : Doing) (submission : Submission)
       → is_other (writer_request setup writer todos taken doing submission) ≡ true
+  -- at rest: its next write, if there is one, takes what it needs and opens its top node
   writer_asks writer [] taken Rests submission = refl
   writer_asks writer (todo ∷ later) NoBio Rests submission = refl
   writer_asks writer (todo ∷ later) (HasBio bio) Rests submission = bio_asks (needs_vector todo.write) writer todo
   writer_asks writer (todo ∷ later) (HasBoth bio vector) Rests submission = refl
+  -- at work: what its submission asks for
   writer_asks writer todos taken (Drives bio ask) submission = submission_asks (Drives bio ask) submission.lists
   writer_asks writer todos taken (Copies bio master leg want) submission = submission_asks (Copies bio master leg want) submission.lists
   writer_asks writer todos taken (Breaks breach kept) submission = refl
 
   rescuer_asks : (dev : DevId) (doing : Doing) (submission : Submission) → is_other (rescuer_request setup dev doing submission) ≡ true
+  -- at rest: a pop
   rescuer_asks dev Rests submission = refl
+  -- at work: what its submission asks for
   rescuer_asks dev (Drives bio ask) submission = submission_asks (Drives bio ask) submission.lists
   rescuer_asks dev (Copies bio master leg want) submission = submission_asks (Copies bio master leg want) submission.lists
   rescuer_asks dev (Breaks breach kept) submission = refl
 
   asks_other : (task : TaskState) → IsNoCompleter task → completes (request setup task) ≡ false
+  -- writers and rescuers
   asks_other (Writer number todos taken submission) none =
       other_completes (writer_request setup number todos taken submission.doing submission) (writer_asks number todos taken submission.doing submission)
   asks_other (Rescuer dev submission) none = other_completes (rescuer_request setup dev submission.doing submission) (rescuer_asks dev submission.doing submission)
+  -- completers are left out
   asks_other (Completer disk carried) none = absurd none
+  -- the keeper
   asks_other (Keeper (Keeps [])) none = refl
   asks_other (Keeper (Keeps (Resizes pool min later ∷ duties))) none = refl
   asks_other (Keeper (Keeps (Starts round later ∷ duties))) none = refl
@@ -153,9 +170,11 @@ module _ (setup : Setup) where
   pub has_round : (objects : Objects) (task : TaskState)
       → ((round later : ℕ) (duties : List Duty) → task ≡ Keeper (Keeps (Starts round later ∷ duties)) → objects.tally.round + 1 < length objects.tally.left)
       → HasRound objects (request setup task)
+  -- writers and rescuers
   has_round objects (Writer number todos taken submission) ahead =
       other_has_round objects (writer_request setup number todos taken submission.doing submission) (writer_asks number todos taken submission.doing submission)
   has_round objects (Rescuer dev submission) ahead = other_has_round objects (rescuer_request setup dev submission.doing submission) (rescuer_asks dev submission.doing submission)
+  -- completers
   has_round objects (Completer disk Empty) ahead = tt
   has_round objects (Completer disk (Brings bio status)) ahead = tt
   has_round objects (Completer disk (Carries writer closed)) ahead = by_held closed.held.vector closed.held.bio closed.held.slip closed.parent
@@ -167,6 +186,7 @@ module _ (setup : Setup) where
       by_held None None None (Some parent) = tt
       by_held None None None None = tt
   has_round objects (Completer disk (Fails breach kept)) ahead = tt
+  -- the keeper
   has_round objects (Keeper (Keeps [])) ahead = tt
   has_round objects (Keeper (Keeps (Resizes pool min later ∷ duties))) ahead = tt
   has_round objects (Keeper (Keeps (Starts round later ∷ duties))) ahead = ahead round later duties refl

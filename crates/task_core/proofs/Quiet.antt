@@ -26,6 +26,7 @@ module _ (ledger : ℕ → LedgerId) (setup : Setup) (some old new : Objects) wh
   -- a reply that is not told of, where the task does not break off, found nothing
   pub quiet : (request : Request) (reply : Reply) → IsFair some request → Serves ledger old request reply new → what_of request reply ≡ None → IsStill (silent_step setup request reply)
       → IsIdle request reply × (new ≡ old)
+  -- takes: all are told but a miss of a take that waits, with no entry used up, which changes nothing
   quiet (requests.TakeBio set true) (requests.HadBio got bio) fair serves untold still = absurd (none-some _ (sym untold))
   quiet (requests.TakeBio set true) (requests.Missed true) fair serves untold still = absurd (none-some _ (sym untold))
   quiet (requests.TakeBio set true) (requests.Missed false) fair serves untold still = (tt, same_pool old new (pool_number (bios_of set)) serves.0.1 serves.1)
@@ -41,22 +42,26 @@ module _ (ledger : ℕ → LedgerId) (setup : Setup) (some old new : Objects) wh
   quiet (requests.TakeSlip dev) (requests.Missed true) fair serves untold still = absurd (none-some _ (sym untold))
   quiet (requests.TakeSlip dev) (requests.Missed false) fair serves untold still = (tt, same_pool old new (pool_number (Records dev)) serves.0.1 serves.1)
   quiet (requests.TakeSlip dev) _ fair serves untold still = absurd serves
+  -- gives are told
   quiet (requests.GiveBio bio) requests.Did fair serves untold still = absurd (none-some _ (sym untold))
   quiet (requests.GiveBio bio) _ fair serves untold still = absurd serves
   quiet (requests.GiveVec vector) requests.Did fair serves untold still = absurd (none-some _ (sym untold))
   quiet (requests.GiveVec vector) _ fair serves untold still = absurd serves
   quiet (requests.GiveSlip slip) requests.Did fair serves untold still = absurd (none-some _ (sym untold))
   quiet (requests.GiveSlip slip) _ fair serves untold still = absurd serves
+  -- lists of rescuers: all is told but a pop of an empty list
   quiet (requests.Punt dev moved) requests.Did fair serves untold still = absurd (none-some _ (sym untold))
   quiet (requests.Punt dev moved) _ fair serves untold still = absurd serves
   quiet (requests.Pop dev) (requests.Popped bio) fair serves untold still = absurd (none-some _ (sym untold))
   quiet (requests.Pop dev) requests.Nothing fair serves untold still = (tt, serves.1)
   quiet (requests.Pop dev) _ fair serves untold still = absurd serves
+  -- disks: all is told but a completion where no bio waits
   quiet (requests.Push bio) requests.Did fair serves untold still = absurd (none-some _ (sym untold))
   quiet (requests.Push bio) _ fair serves untold still = absurd serves
   quiet (requests.Complete disk) (requests.Completed index bio status) fair serves untold still = absurd (none-some _ (sym untold))
   quiet (requests.Complete disk) requests.Nothing fair serves untold still = (tt, serves.1)
   quiet (requests.Complete disk) _ fair serves untold still = absurd serves
+  -- books: a task that is refused breaks off, and all else is told
   quiet (requests.Link writer opening) (requests.LinkedTo (Made place)) fair serves untold still = absurd (none-some _ (sym untold))
   quiet (requests.Link writer opening) (requests.LinkedTo (NoRoom back)) fair serves untold still = absurd still
   quiet (requests.Link writer opening) (requests.LinkedTo (Stray back)) fair serves untold still = absurd still
@@ -66,12 +71,16 @@ module _ (ledger : ℕ → LedgerId) (setup : Setup) (some old new : Objects) wh
   quiet (requests.Drop writer node status part) (requests.DroppedTo (end.Top closed)) fair serves untold still = absurd (none-some _ (sym untold))
   quiet (requests.Drop writer node status part) (requests.DroppedTo (end.Stray back)) fair serves untold still = absurd still
   quiet (requests.Drop writer node status part) _ fair serves untold still = absurd serves
+  -- ends of writes are told
   quiet (requests.Done write status) requests.Did fair serves untold still = absurd (none-some _ (sym untold))
   quiet (requests.Done write status) _ fair serves untold still = absurd serves
+  -- resizes: one that is not told breaks the keeper off
   quiet (requests.Resize pool min) (requests.OutIs out) fair serves untold still = absurd still
   quiet (requests.Resize pool min) _ fair serves untold still = absurd serves
+  -- starts of rounds are told
   quiet (requests.NextRound round) requests.Did fair serves untold still = absurd (none-some _ (sym untold))
   quiet (requests.NextRound round) _ fair serves untold still = absurd serves
+  -- looks are not asked for, and rests are not answered
   quiet requests.LookRound reply fair serves untold still = absurd fair
   quiet requests.LookLeft reply fair serves untold still = absurd fair
   quiet requests.Rest reply fair serves untold still = absurd serves
@@ -91,6 +100,7 @@ module _ (ledger : ℕ → LedgerId) (old new other : Objects) where
   -- then whatever is told there is a take of ordinary memory
   pub passed : (request : Request) (reply second : Reply) (told : What) → IsIdle request reply → what_of request reply ≡ None
       → Serves ledger old request reply new → Serves ledger old request second other → what_of request second ≡ Some told → IsTrue (is_ordinary told)
+  -- takes of bios: where one missed with no entry used up there is no spare, and no entry to use up
   passed (requests.TakeBio set true) (requests.Missed true) second told idle untold serves again tells = absurd (none-some _ (sym untold))
   passed (requests.TakeBio set true) (requests.Missed false) (requests.HadBio Ordinary bio) told idle untold serves again tells =
       subst (λ w. IsTrue (is_ordinary w)) (is_told _ _ tells) refl
@@ -104,6 +114,7 @@ module _ (ledger : ℕ → LedgerId) (old new other : Objects) where
   passed (requests.TakeBio set true) _ second told idle untold serves again tells = absurd idle
   passed (requests.TakeBio set false) (requests.Missed used) second told idle untold serves again tells = absurd idle
   passed (requests.TakeBio set false) _ second told idle untold serves again tells = absurd idle
+  -- takes of vectors
   passed requests.TakeVec (requests.Missed true) second told idle untold serves again tells = absurd (none-some _ (sym untold))
   passed requests.TakeVec (requests.Missed false) (requests.HadVec Ordinary vector) told idle untold serves again tells =
       subst (λ w. IsTrue (is_ordinary w)) (is_told _ _ tells) refl
@@ -115,6 +126,7 @@ module _ (ledger : ℕ → LedgerId) (old new other : Objects) where
   passed requests.TakeVec (requests.Missed false) (requests.Missed false) told idle untold serves again tells = absurd (none-some _ tells)
   passed requests.TakeVec (requests.Missed false) _ told idle untold serves again tells = absurd again
   passed requests.TakeVec _ second told idle untold serves again tells = absurd idle
+  -- takes of records
   passed (requests.TakeSlip dev) (requests.Missed true) second told idle untold serves again tells = absurd (none-some _ (sym untold))
   passed (requests.TakeSlip dev) (requests.Missed false) (requests.HadSlip Ordinary slip) told idle untold serves again tells =
       subst (λ w. IsTrue (is_ordinary w)) (is_told _ _ tells) refl
@@ -126,8 +138,10 @@ module _ (ledger : ℕ → LedgerId) (old new other : Objects) where
   passed (requests.TakeSlip dev) (requests.Missed false) (requests.Missed false) told idle untold serves again tells = absurd (none-some _ tells)
   passed (requests.TakeSlip dev) (requests.Missed false) _ told idle untold serves again tells = absurd again
   passed (requests.TakeSlip dev) _ second told idle untold serves again tells = absurd idle
+  -- an empty list has nothing to pop, and a disk where no bio waits nothing to complete
   passed (requests.Pop dev) requests.Nothing second told idle untold serves again tells = absurd (empty_waits ledger old dev serves.0 second other told again tells)
   passed (requests.Pop dev) _ second told idle untold serves again tells = absurd idle
   passed (requests.Complete disk) requests.Nothing second told idle untold serves again tells = absurd (idle_waits ledger old disk serves.0 second other told again tells)
   passed (requests.Complete disk) _ second told idle untold serves again tells = absurd idle
+  -- no other answer changes nothing
   passed asked reply second told idle untold serves again tells = absurd idle

@@ -41,6 +41,7 @@ IsBehind stack verb words rest one = IsWhat stack one × (verb_word verb ∷ wor
 
 behind_takes : (stack : Stack) (verb : Verb) (words rest : List (List ℕ)) (one : What) → DevicesAreNamed stack → what_behind stack verb words ≡ Some (one, rest)
     → IsBehind stack verb words rest one
+-- pools: what was had of one, or what went back
 behind_takes stack verb.Take words rest one named e =
     made_takes (then (of_word (pool_is stack named)) (of_word got_is)) (λ of. what.Take of.0 of.1) words one rest (IsBehind stack verb.Take words rest)
     (λ of is said. ((is.0, tt), ap (λ w. codes "take" ∷ w) said)) e
@@ -50,12 +51,14 @@ behind_takes stack verb.Try words rest one named e =
 behind_takes stack verb.Give words rest one named e =
     made_takes (of_word (pool_is stack named)) what.Give words one rest (IsBehind stack verb.Give words rest)
     (λ of is said. ((is, tt), ap (λ w. codes "give" ∷ w) said)) e
+-- lists of rescuers
 behind_takes stack verb.Punt words rest one named e =
     made_takes (then (of_word (device_is stack named)) long) (λ of. what.Punt of.0 of.1) words one rest (IsBehind stack verb.Punt words rest)
     (λ of is said. ((is.0, is.1), ap (λ w. codes "punt" ∷ w) said)) e
 behind_takes stack verb.Pop words rest one named e =
     made_takes (of_word (device_is stack named)) what.Pop words one rest (IsBehind stack verb.Pop words rest)
     (λ of is said. ((is, tt), ap (λ w. codes "pop" ∷ w) said)) e
+-- disks
 behind_takes stack verb.Push words rest one named e =
     made_takes (then (of_word (disk_is stack named)) (then long (then long (then (of_word (mark_is (codes "leg"))) short))))
     (λ of. what.Push of.0 of.1.0 of.1.1.0 of.1.1.1.1) words one rest (IsBehind stack verb.Push words rest)
@@ -64,6 +67,7 @@ behind_takes stack verb.Complete words rest one named e =
     made_takes (then (of_word (disk_is stack named)) (then long (of_word status_is)))
     (λ of. what.Complete of.0 of.1.0 of.1.1) words one rest (IsBehind stack verb.Complete words rest)
     (λ of is said. ((is.0, is.1.0), ap (λ w. codes "complete" ∷ w) said)) e
+-- books
 behind_takes stack verb.Link words rest one named e =
     made_takes (then short (then (of_word how_is) short))
     (λ of. what.Link of.0 of.1.0 of.1.1) words one rest (IsBehind stack verb.Link words rest)
@@ -72,6 +76,7 @@ behind_takes stack verb.Drop words rest one named e =
     made_takes (then short (then short (then (of_word status_is) (of_word end_is))))
     (λ of. what.Drop of.0 of.1.0 of.1.1.0 of.1.1.1) words one rest (IsBehind stack verb.Drop words rest)
     (λ of is said. ((tt, (is.0, is.1.0)), ap (λ w. codes "drop" ∷ w) said)) e
+-- ends of writes, reserves and rounds
 behind_takes stack verb.Done words rest one named e =
     made_takes (then short (of_word status_is)) (λ of. what.Done of.0 of.1) words one rest (IsBehind stack verb.Done words rest)
     (λ of is said. ((tt, is.0), ap (λ w. codes "done" ∷ w) said)) e
@@ -86,6 +91,7 @@ verb_first : (one : Verb) (words : List (List ℕ)) → field verb_of_word (verb
 verb_first one words = (of_word verb_is).again one words tt
 
 what_again : (stack : Stack) (one : What) (rest : List (List ℕ)) → DevicesAreNamed stack → IsWhat stack one → what_in stack (what_words stack one ++ rest) ≡ Some (one, rest)
+-- pools: what was had of one, or what went back
 what_again stack (what.Take pool got) rest named is =
     behind_verb stack _ _ verb.Take verb.Take _ (verb_first verb.Take _) refl
     (made_again (then (of_word (pool_is stack named)) (of_word got_is)) (λ of. what.Take of.0 of.1) (pool, got) rest (is.0, tt))
@@ -95,12 +101,14 @@ what_again stack (what.Try pool got) rest named is =
 what_again stack (what.Give pool) rest named is =
     behind_verb stack _ _ verb.Give verb.Give _ (verb_first verb.Give _) refl
     (made_again (of_word (pool_is stack named)) what.Give pool rest is.0)
+-- lists of rescuers
 what_again stack (what.Punt dev moved) rest named is =
     behind_verb stack _ _ verb.Punt verb.Punt _ (verb_first verb.Punt _) refl
     (made_again (then (of_word (device_is stack named)) long) (λ of. what.Punt of.0 of.1) (dev, moved) rest is)
 what_again stack (what.Pop dev) rest named is =
     behind_verb stack _ _ verb.Pop verb.Pop _ (verb_first verb.Pop _) refl
     (made_again (of_word (device_is stack named)) what.Pop dev rest is.0)
+-- disks
 what_again stack (what.Push disk at len leg) rest named is =
     behind_verb stack _ _ verb.Push verb.Push _ (verb_first verb.Push _) refl
     (made_again (then (of_word (disk_is stack named)) (then long (then long (then (of_word (mark_is (codes "leg"))) short))))
@@ -109,6 +117,7 @@ what_again stack (what.Complete disk index status) rest named is =
     behind_verb stack _ _ verb.Complete verb.Complete _ (verb_first verb.Complete _) refl
     (made_again (then (of_word (disk_is stack named)) (then long (of_word status_is))) (λ of. what.Complete of.0 of.1.0 of.1.1)
     (disk, (index, status)) rest (is.0, (is.1, tt)))
+-- books
 what_again stack (what.Link writer how node) rest named is =
     behind_verb stack _ _ verb.Link verb.Link _ (verb_first verb.Link _) refl
     (made_again (then short (then (of_word how_is) short)) (λ of. what.Link of.0 of.1.0 of.1.1) (writer, (how, node)) rest (is.1.0, (tt, is.1.1)))
@@ -116,6 +125,7 @@ what_again stack (what.Drop writer node status end) rest named is =
     behind_verb stack _ _ verb.Drop verb.Drop _ (verb_first verb.Drop _) refl
     (made_again (then short (then short (then (of_word status_is) (of_word end_is)))) (λ of. what.Drop of.0 of.1.0 of.1.1.0 of.1.1.1)
     (writer, (node, (status, end))) rest (is.1.0, (is.1.1, (tt, tt))))
+-- ends of writes, reserves and rounds
 what_again stack (what.Done write status) rest named is =
     behind_verb stack _ _ verb.Done verb.Done _ (verb_first verb.Done _) refl
     (made_again (then short (of_word status_is)) (λ of. what.Done of.0 of.1) (write, status) rest (is.1, tt))

@@ -43,6 +43,7 @@ done_of w (Some what) = done_in w what
 
 -- an event tells a write done exactly where its request does
 pub told_done : (w : ℕ) (request : Request) (reply : Reply) (what : What) → what_of request reply ≡ Some what → done_of w (what_of request reply) ≡ asked w request
+-- takes: none tells a write done
 told_done w (requests.TakeBio set true) (requests.HadBio from bio) what told = refl
 told_done w (requests.TakeBio set false) (requests.HadBio from bio) what told = refl
 told_done w (requests.TakeBio set true) (requests.Missed true) what told = refl
@@ -57,20 +58,24 @@ told_done w (requests.TakeSlip dev) (requests.HadSlip from slip) what told = ref
 told_done w (requests.TakeSlip dev) (requests.Missed true) what told = refl
 told_done w (requests.TakeSlip dev) (requests.Missed false) what told = none_told what told
 told_done w (requests.TakeSlip dev) reply what told = none_told what told
+-- gives
 told_done w (requests.GiveBio bio) requests.Did what told = refl
 told_done w (requests.GiveBio bio) reply what told = none_told what told
 told_done w (requests.GiveVec vector) requests.Did what told = refl
 told_done w (requests.GiveVec vector) reply what told = none_told what told
 told_done w (requests.GiveSlip slip) requests.Did what told = refl
 told_done w (requests.GiveSlip slip) reply what told = none_told what told
+-- lists of rescuers
 told_done w (requests.Punt dev moved) requests.Did what told = refl
 told_done w (requests.Punt dev moved) reply what told = none_told what told
 told_done w (requests.Pop dev) (requests.Popped bio) what told = refl
 told_done w (requests.Pop dev) reply what told = none_told what told
+-- disks
 told_done w (requests.Push bio) requests.Did what told = refl
 told_done w (requests.Push bio) reply what told = none_told what told
 told_done w (requests.Complete disk) (requests.Completed index bio status) what told = refl
 told_done w (requests.Complete disk) reply what told = none_told what told
+-- books: one that is refused is no event
 told_done w (requests.Link writer opening) (requests.LinkedTo (Made node)) what told = refl
 told_done w (requests.Link writer opening) (requests.LinkedTo (NoRoom back)) what told = none_told what told
 told_done w (requests.Link writer opening) (requests.LinkedTo (Stray back)) what told = none_told what told
@@ -80,30 +85,37 @@ told_done w (requests.Drop writer node status part) (requests.DroppedTo (end.Up 
 told_done w (requests.Drop writer node status part) (requests.DroppedTo (end.Top closed)) what told = refl
 told_done w (requests.Drop writer node status part) (requests.DroppedTo (end.Stray back)) what told = none_told what told
 told_done w (requests.Drop writer node status part) reply what told = none_told what told
+-- ends of writes: the event is of the write that was asked
 told_done w (requests.Done write status) requests.Did what told = refl
 told_done w (requests.Done write status) reply what told = none_told what told
+-- resizes: none tells a write done
 told_done w (requests.Resize pool min) (requests.OutIs out) what told = by_test (out == 0)
   where
     by_test : (v : Bool) → done_of w (resize_of v pool min) ≡ 0
     by_test true = refl
     by_test false = refl
 told_done w (requests.Resize pool min) reply what told = none_told what told
+-- starts of rounds
 told_done w (requests.NextRound round) requests.Did what told = refl
 told_done w (requests.NextRound round) reply what told = none_told what told
+-- looks and rests are no events
 told_done w requests.LookRound reply what told = none_told what told
 told_done w requests.LookLeft reply what told = none_told what told
 told_done w requests.Rest reply what told = none_told what told
 
 -- no submission tells a write done
 submission_asks_none : (w : ℕ) (setup : Setup) (doing : Doing) (lists : TaskLists) → asked w (submission_request setup doing lists) ≡ 0
+-- one that rests or broke off
 submission_asks_none w setup Rests lists = refl
 submission_asks_none w setup (Breaks breach kept) lists = refl
+-- a bio that is driven
 submission_asks_none w setup (Drives bio ToPush) lists = refl
 submission_asks_none w setup (Drives bio (ToCut (Takes waits))) lists = refl
 submission_asks_none w setup (Drives bio (ToCut WantsPunt)) lists = refl
 submission_asks_none w setup (Drives bio (ToCut (Links hand))) lists = refl
 submission_asks_none w setup (Drives bio ToRecord) lists = refl
 submission_asks_none w setup (Drives bio (ToMaster slip)) lists = refl
+-- copies for the legs of a mirror
 submission_asks_none w setup (Copies bio master leg (Takes waits)) lists = refl
 submission_asks_none w setup (Copies bio master leg WantsPunt) lists = refl
 submission_asks_none w setup (Copies bio master leg (Links hand)) lists = refl
@@ -141,6 +153,7 @@ hands_asks_none w disk writer number closed held setup (inr (inr h)) = by_two cl
 
 -- what the task asks for tells a write done exactly where the event is its end
 pub asked_by : (scene : Scene) (s : State) (w : ℕ) (m : Move) → Can scene s m → asked w (request scene.setup (s.task (place_of m))) ≡ done_by w m
+-- takes of a write, and of a submission
 asked_by scene s w (moves.TakesFirst place writer todo later move) c = ap (λ x. asked w (request scene.setup x)) c.1
 asked_by scene s w (moves.TakesVector place writer todo later item move) c = ap (λ x. asked w (request scene.setup x)) c.1 ∙ with_vector (needs_vector todo.write)
   where
@@ -151,37 +164,44 @@ asked_by scene s w (moves.TakesSub place x doing lists dev waits move) c =
     ap (λ x. asked w (request scene.setup x)) c.1 ∙ ap (asked w) (asks_submission scene.setup x doing lists c.2 (wants_busy doing dev (Takes waits) c.3)) ∙ submission_asks_none w scene.setup doing lists
 asked_by scene s w (moves.TakesSlip place x bio lists move) c =
     ap (λ x. asked w (request scene.setup x)) c.1 ∙ ap (asked w) (asks_submission scene.setup x (Drives bio ToRecord) lists c.2 tt)
+-- takes that miss
 asked_by scene s w (moves.MissesOne place x number used) c = ap (λ x. asked w (request scene.setup x)) c.1 ∙ taking_asks_none w (request scene.setup x) c.3
 asked_by scene s w (moves.MissesTry place x doing lists dev used) c =
     ap (λ x. asked w (request scene.setup x)) c.1 ∙ ap (asked w) (asks_submission scene.setup x doing lists c.2 (wants_busy doing dev (Takes false) c.3)) ∙ submission_asks_none w scene.setup doing lists
+-- bios go to a rescuer and come from it, and go to a disk and come from it
 asked_by scene s w (moves.Punts place x doing lists dev) c =
     ap (λ x. asked w (request scene.setup x)) c.1 ∙ ap (asked w) (asks_submission scene.setup x doing lists c.2 (wants_busy doing dev WantsPunt c.3)) ∙ submission_asks_none w scene.setup doing lists
 asked_by scene s w (moves.Pops place dev bio bios) c = ap (λ x. asked w (request scene.setup x)) c.1
 asked_by scene s w (moves.Pushes place x bio lists) c =
     ap (λ x. asked w (request scene.setup x)) c.1 ∙ ap (asked w) (asks_submission scene.setup x (Drives bio ToPush) lists c.2 tt)
 asked_by scene s w (moves.Completed place disk index bio status new) c = ap (λ x. asked w (request scene.setup x)) c.1
+-- a write begins: with a vector, or without one
 asked_by scene s w (moves.Begins place writer todo later item None key) c = ap (λ x. asked w (request scene.setup x)) c.1 ∙ with_none (needs_vector todo.write)
   where
     with_none : (b : Bool) → asked w (with_bio writer b todo) ≡ 0
     with_none true = refl
     with_none false = refl
 asked_by scene s w (moves.Begins place writer todo later item (Some vector) key) c = ap (λ x. asked w (request scene.setup x)) c.1
+-- nodes are opened: of a front, a master and a leg
 asked_by scene s w (moves.Chained place x bio lists hand number kind sizes members key node) c =
     ap (λ x. asked w (request scene.setup x)) c.1 ∙ ap (asked w) (asks_submission scene.setup x (Drives bio (ToCut (Links hand))) lists c.2 tt)
 asked_by scene s w (moves.Mastered place x bio lists slip key node) c =
     ap (λ x. asked w (request scene.setup x)) c.1 ∙ ap (asked w) (asks_submission scene.setup x (Drives bio (ToMaster slip)) lists c.2 tt)
 asked_by scene s w (moves.Legged place x bio lists master leg hand key node) c =
     ap (λ x. asked w (request scene.setup x)) c.1 ∙ ap (asked w) (asks_submission scene.setup x (Copies bio master leg (Links hand)) lists c.2 tt)
+-- a node is told of an end: it waits for others, or closes
 asked_by scene s w (moves.Told place disk carried writer key status part node) c =
     ap (λ x. asked w (request scene.setup x)) c.1 ∙ tells_asks_none w disk carried writer key status part scene.setup c.2
 asked_by scene s w (moves.Closes place disk carried writer key status part node) c =
     ap (λ x. asked w (request scene.setup x)) c.1 ∙ tells_asks_none w disk carried writer key status part scene.setup c.2
+-- what a closed node held goes back, and its write is done
 asked_by scene s w (moves.Gives place disk writer number closed held) c =
     ap (λ x. asked w (request scene.setup x)) c.1 ∙ hands_asks_none w disk writer number closed held scene.setup c.2
 asked_by scene s w (moves.Ends place disk writer closed) c =
     ap (λ x. asked w (request scene.setup x)) c.1
     ∙ ap (λ (held : Holding). asked w (closed_request writer closed held.vector held.bio held.slip closed.parent)) c.2
     ∙ ap (λ parent. asked w (closed_request writer closed None None None parent)) c.3
+-- the keeper
 asked_by scene s w (moves.Resized place pool min later duties) c = ap (λ x. asked w (request scene.setup x)) c.1
 asked_by scene s w (moves.Started place round later duties) c = ap (λ x. asked w (request scene.setup x)) c.1
 

@@ -31,6 +31,7 @@ some_is : (first second : What) → Some first ≡ Some second → first ≡ sec
 some_is first second is = cc
 
 pub says : (request : Request) (reply : Reply) (what : What) → what_of request reply ≡ Some what → EventSays request what
+-- takes: where an event is told, it is of the others
 says (requests.TakeBio set true) (requests.HadBio from bio) what tells = subst IsOther (some_is _ what tells) tt
 says (requests.TakeBio set true) (requests.Missed true) what tells = subst IsOther (some_is _ what tells) tt
 says (requests.TakeBio set true) (requests.Missed false) what tells = none_told what tells
@@ -45,20 +46,24 @@ says (requests.TakeSlip dev) (requests.HadSlip from slip) what tells = subst IsO
 says (requests.TakeSlip dev) (requests.Missed true) what tells = subst IsOther (some_is _ what tells) tt
 says (requests.TakeSlip dev) (requests.Missed false) what tells = none_told what tells
 says (requests.TakeSlip dev) reply what tells = none_told what tells
+-- gives
 says (requests.GiveBio bio) requests.Did what tells = subst IsOther (some_is _ what tells) tt
 says (requests.GiveBio bio) reply what tells = none_told what tells
 says (requests.GiveVec vector) requests.Did what tells = subst IsOther (some_is _ what tells) tt
 says (requests.GiveVec vector) reply what tells = none_told what tells
 says (requests.GiveSlip slip) requests.Did what tells = subst IsOther (some_is _ what tells) tt
 says (requests.GiveSlip slip) reply what tells = none_told what tells
+-- lists of rescuers
 says (requests.Punt dev moved) requests.Did what tells = subst IsOther (some_is _ what tells) tt
 says (requests.Punt dev moved) reply what tells = none_told what tells
 says (requests.Pop dev) (requests.Popped bio) what tells = subst IsOther (some_is _ what tells) tt
 says (requests.Pop dev) reply what tells = none_told what tells
+-- disks
 says (requests.Push bio) requests.Did what tells = subst IsOther (some_is _ what tells) tt
 says (requests.Push bio) reply what tells = none_told what tells
 says (requests.Complete disk) (requests.Completed index bio status) what tells = subst IsOther (some_is _ what tells) tt
 says (requests.Complete disk) reply what tells = none_told what tells
+-- books: one that is refused is no event
 says (requests.Link writer opening) (requests.LinkedTo (Made key)) what tells = subst IsOther (some_is _ what tells) tt
 says (requests.Link writer opening) (requests.LinkedTo (NoRoom back)) what tells = none_told what tells
 says (requests.Link writer opening) (requests.LinkedTo (Stray back)) what tells = none_told what tells
@@ -68,35 +73,44 @@ says (requests.Drop writer key status part) (requests.DroppedTo (end.Up closed))
 says (requests.Drop writer key status part) (requests.DroppedTo (end.Top closed)) what tells = subst IsOther (some_is _ what tells) tt
 says (requests.Drop writer key status part) (requests.DroppedTo (end.Stray back)) what tells = none_told what tells
 says (requests.Drop writer key status part) reply what tells = none_told what tells
+-- ends of writes: the event has the write and the status that were asked
 says (requests.Done write status) requests.Did what tells = sym (some_is _ what tells)
 says (requests.Done write status) reply what tells = none_told what tells
+-- resizes: one that found elements out is no event
 says (requests.Resize pool min) (requests.OutIs out) what tells = by_test (out == 0) tells
   where
     by_test : (v : Bool) → resize_of v pool min ≡ Some what → IsOther what
     by_test true tells = subst IsOther (some_is _ what tells) tt
     by_test false tells = none_told what tells
 says (requests.Resize pool min) reply what tells = none_told what tells
+-- starts of rounds: the event has the number that was asked
 says (requests.NextRound round) requests.Did what tells = sym (some_is _ what tells)
 says (requests.NextRound round) reply what tells = none_told what tells
+-- looks and rests are no events
 says requests.LookRound reply what tells = none_told what tells
 says requests.LookLeft reply what tells = none_told what tells
 says requests.Rest reply what tells = none_told what tells
 
 -- so a write is told done by a request to do so,
 pub asks_done : (request : Request) (write : ℕ) (status : Status) → EventSays request (what.Done write status) → request ≡ requests.Done write status
+-- takes and gives tell other events
 asks_done (requests.TakeBio set waits) write status h = absurd h
 asks_done requests.TakeVec write status h = absurd h
 asks_done (requests.TakeSlip dev) write status h = absurd h
 asks_done (requests.GiveBio bio) write status h = absurd h
 asks_done (requests.GiveVec vector) write status h = absurd h
 asks_done (requests.GiveSlip slip) write status h = absurd h
+-- so do lists of rescuers and disks
 asks_done (requests.Punt dev moved) write status h = absurd h
 asks_done (requests.Pop dev) write status h = absurd h
 asks_done (requests.Push bio) write status h = absurd h
 asks_done (requests.Complete disk) write status h = absurd h
+-- and books
 asks_done (requests.Link writer opening) write status h = absurd h
 asks_done (requests.Drop writer key ending part) write status h = absurd h
+-- an end of a write is of this one, with this status
 asks_done (requests.Done other ending) write status h = let a : other ≡ write = cc in let b : ending ≡ status = cc in λ i. requests.Done (a i) (b i)
+-- resizes, rounds, looks and rests tell other events, or none
 asks_done (requests.Resize pool min) write status h = absurd h
 asks_done (requests.NextRound round) write status h = absurd cc
 asks_done requests.LookRound write status h = absurd h
@@ -105,21 +119,27 @@ asks_done requests.Rest write status h = absurd h
 
 -- and a round started by one
 pub asks_round : (request : Request) (number : ℕ) → EventSays request (what.Round number) → request ≡ requests.NextRound number
+-- takes and gives tell other events
 asks_round (requests.TakeBio set waits) number h = absurd h
 asks_round requests.TakeVec number h = absurd h
 asks_round (requests.TakeSlip dev) number h = absurd h
 asks_round (requests.GiveBio bio) number h = absurd h
 asks_round (requests.GiveVec vector) number h = absurd h
 asks_round (requests.GiveSlip slip) number h = absurd h
+-- so do lists of rescuers and disks
 asks_round (requests.Punt dev moved) number h = absurd h
 asks_round (requests.Pop dev) number h = absurd h
 asks_round (requests.Push bio) number h = absurd h
 asks_round (requests.Complete disk) number h = absurd h
+-- and books
 asks_round (requests.Link writer opening) number h = absurd h
 asks_round (requests.Drop writer key status part) number h = absurd h
+-- ends of writes and resizes tell other events
 asks_round (requests.Done write status) number h = absurd cc
 asks_round (requests.Resize pool min) number h = absurd h
+-- a start of a round is of this one
 asks_round (requests.NextRound round) number h = let a : round ≡ number = cc in ap requests.NextRound a
+-- looks and rests tell none
 asks_round requests.LookRound number h = absurd h
 asks_round requests.LookLeft number h = absurd h
 asks_round requests.Rest number h = absurd h
@@ -127,21 +147,29 @@ asks_round requests.Rest number h = absurd h
 -- all other requests keep statuses and the round
 pub tally_stays : (ledger : ℕ → LedgerId) (old new : Objects) (request : Request) (reply : Reply) (what : What) → EventSays request what → IsOther what → Serves ledger old request reply new
     → new.tally ≡ old.tally
+-- takes and gives change a pool
 tally_stays ledger old new (requests.TakeBio set waits) reply what h other serves = ap (λ (o : Objects). o.tally) (one_object_changes ledger old new (requests.TakeBio set waits) reply serves)
 tally_stays ledger old new requests.TakeVec reply what h other serves = ap (λ (o : Objects). o.tally) (one_object_changes ledger old new requests.TakeVec reply serves)
 tally_stays ledger old new (requests.TakeSlip dev) reply what h other serves = ap (λ (o : Objects). o.tally) (one_object_changes ledger old new (requests.TakeSlip dev) reply serves)
 tally_stays ledger old new (requests.GiveBio bio) reply what h other serves = ap (λ (o : Objects). o.tally) (one_object_changes ledger old new (requests.GiveBio bio) reply serves)
 tally_stays ledger old new (requests.GiveVec vector) reply what h other serves = ap (λ (o : Objects). o.tally) (one_object_changes ledger old new (requests.GiveVec vector) reply serves)
 tally_stays ledger old new (requests.GiveSlip slip) reply what h other serves = ap (λ (o : Objects). o.tally) (one_object_changes ledger old new (requests.GiveSlip slip) reply serves)
+-- punts and pops change the list of a rescuer
 tally_stays ledger old new (requests.Punt dev moved) reply what h other serves = ap (λ (o : Objects). o.tally) (one_object_changes ledger old new (requests.Punt dev moved) reply serves)
 tally_stays ledger old new (requests.Pop dev) reply what h other serves = ap (λ (o : Objects). o.tally) (one_object_changes ledger old new (requests.Pop dev) reply serves)
+-- pushes and completions change a disk
 tally_stays ledger old new (requests.Push bio) reply what h other serves = ap (λ (o : Objects). o.tally) (one_object_changes ledger old new (requests.Push bio) reply serves)
 tally_stays ledger old new (requests.Complete disk) reply what h other serves = ap (λ (o : Objects). o.tally) (one_object_changes ledger old new (requests.Complete disk) reply serves)
+-- nodes that are opened or told of an end change a book
 tally_stays ledger old new (requests.Link writer opening) reply what h other serves = ap (λ (o : Objects). o.tally) (one_object_changes ledger old new (requests.Link writer opening) reply serves)
 tally_stays ledger old new (requests.Drop writer key status part) reply what h other serves = ap (λ (o : Objects). o.tally) (one_object_changes ledger old new (requests.Drop writer key status part) reply serves)
+-- an end of a write is none of the other events
 tally_stays ledger old new (requests.Done write status) reply what h other serves = absurd (subst IsOther h other)
+-- resizes change a pool
 tally_stays ledger old new (requests.Resize pool min) reply what h other serves = ap (λ (o : Objects). o.tally) (one_object_changes ledger old new (requests.Resize pool min) reply serves)
+-- a start of a round is none of the other events
 tally_stays ledger old new (requests.NextRound round) reply what h other serves = absurd (subst IsOther h other)
+-- looks and rests change nothing
 tally_stays ledger old new requests.LookRound (requests.Present round) what h other serves = ap (λ (o : Objects). o.tally) serves.1
 tally_stays ledger old new requests.LookRound reply what h other serves = absurd serves
 tally_stays ledger old new requests.LookLeft (requests.LeftOver count) what h other serves = ap (λ (o : Objects). o.tally) serves.1

@@ -188,16 +188,21 @@ module _ (ledger : ℕ → LedgerId) (old new : Objects) (w k : ℕ) (ends : Lis
   told_drop : (writer key : ℕ) (status : Status) (part : Option (Item Pad)) (ended : DropOutcome) (found : Option Node) (what : What) → node_at (old.book writer) key ≡ found
       → what_of (requests.Drop writer key status part) (requests.DroppedTo ended) ≡ Some what → DropsAt (old.book writer) key found status part ended (new.book writer)
       → new ≡ record old { book = upd old.book writer (new.book writer) } → Keeps (what_of (requests.Drop writer key status part) (requests.DroppedTo ended))
+  -- an open node that stays open keeps it
   told_drop writer key status part end.Left (Some node) what at tells d is = drops writer key status node _ at d.1 is (λ keeps. keeps_more node.role ends node.status status keeps)
+  -- one that closes is no node any more
   told_drop writer key status part (end.Up closed) (Some node) what at tells d is = drops writer key status node None at d.3 is (λ keeps. tt)
   told_drop writer key status part (end.Top closed) (Some node) what at tells d is = drops writer key status node None at d.3 is (λ keeps. tt)
+  -- a drop at no node is no event
   told_drop writer key status part (end.Stray back) found what at tells d is = absurd cc
+  -- without a node nothing else is answered
   told_drop writer key status part end.Left None what at tells d is = absurd d
   told_drop writer key status part (end.Up closed) None what at tells d is = absurd d
   told_drop writer key status part (end.Top closed) None what at tells d is = absurd d
 
   -- what is no event of a book tells no node of an end
   pub served_keeps : (request : Request) (reply : Reply) (what : What) → what_of request reply ≡ Some what → Serves ledger old request reply new → Keeps (what_of request reply)
+  -- takes: books stay as they are; a miss of a take that waits, with no entry used up, is no event
   served_keeps (requests.TakeBio set true) (requests.HadBio from bio) what tells serves = books_stay (ap (λ (o : Objects). o.book) (one_object_changes ledger old new (requests.TakeBio set true) (requests.HadBio from bio) serves))
   served_keeps (requests.TakeBio set true) (requests.Missed true) what tells serves = books_stay (ap (λ (o : Objects). o.book) (one_object_changes ledger old new (requests.TakeBio set true) (requests.Missed true) serves))
   served_keeps (requests.TakeBio set true) (requests.Missed false) what tells serves = none_told what tells
@@ -212,20 +217,24 @@ module _ (ledger : ℕ → LedgerId) (old new : Objects) (w k : ℕ) (ends : Lis
   served_keeps (requests.TakeSlip dev) (requests.Missed true) what tells serves = books_stay (ap (λ (o : Objects). o.book) (one_object_changes ledger old new (requests.TakeSlip dev) (requests.Missed true) serves))
   served_keeps (requests.TakeSlip dev) (requests.Missed false) what tells serves = none_told what tells
   served_keeps (requests.TakeSlip dev) reply what tells serves = none_told what tells
+  -- gives: books stay as they are
   served_keeps (requests.GiveBio bio) requests.Did what tells serves = books_stay (ap (λ (o : Objects). o.book) (one_object_changes ledger old new (requests.GiveBio bio) requests.Did serves))
   served_keeps (requests.GiveBio bio) reply what tells serves = none_told what tells
   served_keeps (requests.GiveVec vector) requests.Did what tells serves = books_stay (ap (λ (o : Objects). o.book) (one_object_changes ledger old new (requests.GiveVec vector) requests.Did serves))
   served_keeps (requests.GiveVec vector) reply what tells serves = none_told what tells
   served_keeps (requests.GiveSlip slip) requests.Did what tells serves = books_stay (ap (λ (o : Objects). o.book) (one_object_changes ledger old new (requests.GiveSlip slip) requests.Did serves))
   served_keeps (requests.GiveSlip slip) reply what tells serves = none_told what tells
+  -- lists of rescuers: books stay as they are
   served_keeps (requests.Punt dev moved) requests.Did what tells serves = books_stay (ap (λ (o : Objects). o.book) (one_object_changes ledger old new (requests.Punt dev moved) requests.Did serves))
   served_keeps (requests.Punt dev moved) reply what tells serves = none_told what tells
   served_keeps (requests.Pop dev) (requests.Popped bio) what tells serves = books_stay (ap (λ (o : Objects). o.book) (one_object_changes ledger old new (requests.Pop dev) (requests.Popped bio) serves))
   served_keeps (requests.Pop dev) reply what tells serves = none_told what tells
+  -- disks: books stay as they are
   served_keeps (requests.Push bio) requests.Did what tells serves = books_stay (ap (λ (o : Objects). o.book) (one_object_changes ledger old new (requests.Push bio) requests.Did serves))
   served_keeps (requests.Push bio) reply what tells serves = none_told what tells
   served_keeps (requests.Complete disk) (requests.Completed index bio status) what tells serves = books_stay (ap (λ (o : Objects). o.book) (one_object_changes ledger old new (requests.Complete disk) (requests.Completed index bio status) serves))
   served_keeps (requests.Complete disk) reply what tells serves = none_told what tells
+  -- books: a node is opened, or told of an end; one that is refused is no event
   served_keeps (requests.Link writer opening) (requests.LinkedTo (Made key)) what tells serves = links writer opening key serves.0 serves.1
   served_keeps (requests.Link writer opening) (requests.LinkedTo (NoRoom back)) what tells serves = none_told what tells
   served_keeps (requests.Link writer opening) (requests.LinkedTo (Stray back)) what tells serves = none_told what tells
@@ -233,8 +242,10 @@ module _ (ledger : ℕ → LedgerId) (old new : Objects) (w k : ℕ) (ends : Lis
   served_keeps (requests.Drop writer key status part) (requests.DroppedTo ended) what tells serves =
       told_drop writer key status part ended (node_at (old.book writer) key) what refl tells serves.0 serves.1
   served_keeps (requests.Drop writer key status part) reply what tells serves = none_told what tells
+  -- ends of writes: books stay as they are
   served_keeps (requests.Done write status) requests.Did what tells serves = books_stay (ap (λ (o : Objects). o.book) (one_object_changes ledger old new (requests.Done write status) requests.Did serves))
   served_keeps (requests.Done write status) reply what tells serves = none_told what tells
+  -- resizes: books stay as they are, whether one is an event or not
   served_keeps (requests.Resize pool min) (requests.OutIs out) what tells serves = λ held.
       subst (λ told. KeepsAt told (node_at (new.book w) k)) (sym (by_test (out == 0)))
       (books_stay (ap (λ (o : Objects). o.book) (one_object_changes ledger old new (requests.Resize pool min) (requests.OutIs out) serves)) held)
@@ -243,8 +254,10 @@ module _ (ledger : ℕ → LedgerId) (old new : Objects) (w k : ℕ) (ends : Lis
       by_test true = refl
       by_test false = refl
   served_keeps (requests.Resize pool min) reply what tells serves = none_told what tells
+  -- starts of rounds: books stay as they are
   served_keeps (requests.NextRound round) requests.Did what tells serves = books_stay (ap (λ (o : Objects). o.book) (one_object_changes ledger old new (requests.NextRound round) requests.Did serves))
   served_keeps (requests.NextRound round) reply what tells serves = none_told what tells
+  -- looks and rests are no events
   served_keeps requests.LookRound reply what tells serves = none_told what tells
   served_keeps requests.LookLeft reply what tells serves = none_told what tells
   served_keeps requests.Rest reply what tells serves = none_told what tells

@@ -27,6 +27,7 @@ MakesEvent request reply = (what : What) × (what_of request reply ≡ Some what
 module _ (ledger : ℕ → LedgerId) (old new : Objects) where
   told_or_idle : (request : Request) (reply : Reply) → IsReady old request → IsFair old request → Serves ledger old request reply new
       → MakesEvent request reply ⊎ (IsIdle request reply × (new ≡ old))
+  -- takes: an event, but for a miss of a take that waits, with no entry used up, which changes nothing
   told_or_idle (requests.TakeBio set true) (requests.HadBio got bio) ready fair h = inl (_, refl)
   told_or_idle (requests.TakeBio set true) (requests.Missed true) ready fair h = inl (_, refl)
   told_or_idle (requests.TakeBio set true) (requests.Missed false) ready fair h = inr (tt, same_pool old new (pool_number (bios_of set)) h.0.1 h.1)
@@ -42,22 +43,26 @@ module _ (ledger : ℕ → LedgerId) (old new : Objects) where
   told_or_idle (requests.TakeSlip dev) (requests.Missed true) ready fair h = inl (_, refl)
   told_or_idle (requests.TakeSlip dev) (requests.Missed false) ready fair h = inr (tt, same_pool old new (pool_number (Records dev)) h.0.1 h.1)
   told_or_idle (requests.TakeSlip dev) _ ready fair h = absurd h
+  -- gives: an event
   told_or_idle (requests.GiveBio bio) requests.Did ready fair h = inl (_, refl)
   told_or_idle (requests.GiveBio bio) _ ready fair h = absurd h
   told_or_idle (requests.GiveVec vector) requests.Did ready fair h = inl (_, refl)
   told_or_idle (requests.GiveVec vector) _ ready fair h = absurd h
   told_or_idle (requests.GiveSlip slip) requests.Did ready fair h = inl (_, refl)
   told_or_idle (requests.GiveSlip slip) _ ready fair h = absurd h
+  -- lists of rescuers: an event, but for a pop of an empty list
   told_or_idle (requests.Punt dev moved) requests.Did ready fair h = inl (_, refl)
   told_or_idle (requests.Punt dev moved) _ ready fair h = absurd h
   told_or_idle (requests.Pop dev) (requests.Popped bio) ready fair h = inl (_, refl)
   told_or_idle (requests.Pop dev) requests.Nothing ready fair h = inr (tt, h.1)
   told_or_idle (requests.Pop dev) _ ready fair h = absurd h
+  -- disks: an event, but for a completion where no bio waits
   told_or_idle (requests.Push bio) requests.Did ready fair h = inl (_, refl)
   told_or_idle (requests.Push bio) _ ready fair h = absurd h
   told_or_idle (requests.Complete disk) (requests.Completed index bio status) ready fair h = inl (_, refl)
   told_or_idle (requests.Complete disk) requests.Nothing ready fair h = inr (tt, h.1)
   told_or_idle (requests.Complete disk) _ ready fair h = absurd h
+  -- books: an event, since none is refused
   told_or_idle (requests.Link writer opening) (requests.LinkedTo (Made place)) ready fair h = inl (_, refl)
   told_or_idle (requests.Link writer opening) (requests.LinkedTo (NoRoom back)) ready fair h =
       absurd (true≢false (not_refused ledger old new (requests.Link writer opening) (requests.LinkedTo (NoRoom back)) ready h))
@@ -70,14 +75,18 @@ module _ (ledger : ℕ → LedgerId) (old new : Objects) where
   told_or_idle (requests.Drop writer node status part) (requests.DroppedTo (end.Stray back)) ready fair h =
       absurd (true≢false (not_refused ledger old new (requests.Drop writer node status part) (requests.DroppedTo (end.Stray back)) ready h))
   told_or_idle (requests.Drop writer node status part) _ ready fair h = absurd h
+  -- ends of writes: an event
   told_or_idle (requests.Done write status) requests.Did ready fair h = inl (_, refl)
   told_or_idle (requests.Done write status) _ ready fair h = absurd h
+  -- resizes: an event, since nothing is out
   told_or_idle (requests.Resize pool min) (requests.OutIs out) ready fair h =
       let none : out ≡ 0 = h.0 ∙ fair in
       inl (_, ap (λ b. resize_of b pool min) (eq-eqb out 0 none))
   told_or_idle (requests.Resize pool min) _ ready fair h = absurd h
+  -- starts of rounds: an event
   told_or_idle (requests.NextRound round) requests.Did ready fair h = inl (_, refl)
   told_or_idle (requests.NextRound round) _ ready fair h = absurd h
+  -- looks are not asked for, and rests are not answered
   told_or_idle requests.LookRound reply ready fair h = absurd fair
   told_or_idle requests.LookLeft reply ready fair h = absurd fair
   told_or_idle requests.Rest reply ready fair h = absurd h

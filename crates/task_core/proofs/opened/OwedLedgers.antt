@@ -13,6 +13,7 @@ use Rattle.task_steps.specs.Stage.{Stage, Owes}
 module _ (stage : Stage) (ledger : ℕ → LedgerId) (old new : Objects) where
   pub of_ledgers : (request : Request) (reply : Reply) → Owes stage request reply → Serves ledger old request reply new
       → Serves stage.ledger old request reply new
+  -- takes: the share of the element names the ledger, and a miss has no element
   of_ledgers (requests.TakeBio set waits) (requests.HadBio got bio) owed serves =
       let n = pool_number (bios_of set) in
       let same : ledger n ≡ stage.ledger n = sym (ap (λ b. b.share) serves.1) ∙ owed.home.ledger ∙ ap stage.ledger owed.numbered in
@@ -31,26 +32,31 @@ module _ (stage : Stage) (ledger : ℕ → LedgerId) (old new : Objects) where
       (serves.0, serves.1 ∙ ap clear_slip same)
   of_ledgers (requests.TakeSlip dev) (requests.Missed used) owed serves = serves
   of_ledgers (requests.TakeSlip dev) _ owed serves = absurd serves
+  -- gives: no ledger is named, nor in what follows
   of_ledgers (requests.GiveBio bio) requests.Did owed serves = serves
   of_ledgers (requests.GiveBio bio) _ owed serves = absurd serves
   of_ledgers (requests.GiveVec vector) requests.Did owed serves = serves
   of_ledgers (requests.GiveVec vector) _ owed serves = absurd serves
   of_ledgers (requests.GiveSlip slip) requests.Did owed serves = serves
   of_ledgers (requests.GiveSlip slip) _ owed serves = absurd serves
+  -- lists of rescuers
   of_ledgers (requests.Punt dev moved) requests.Did owed serves = serves
   of_ledgers (requests.Punt dev moved) _ owed serves = absurd serves
   of_ledgers (requests.Pop dev) (requests.Popped bio) owed serves = serves
   of_ledgers (requests.Pop dev) requests.Nothing owed serves = serves
   of_ledgers (requests.Pop dev) _ owed serves = absurd serves
+  -- disks
   of_ledgers (requests.Push bio) requests.Did owed serves = serves
   of_ledgers (requests.Push bio) _ owed serves = absurd serves
   of_ledgers (requests.Complete disk) (requests.Completed index bio status) owed serves = serves
   of_ledgers (requests.Complete disk) requests.Nothing owed serves = serves
   of_ledgers (requests.Complete disk) _ owed serves = absurd serves
+  -- books
   of_ledgers (requests.Link writer opening) (requests.LinkedTo answer) owed serves = serves
   of_ledgers (requests.Link writer opening) _ owed serves = absurd serves
   of_ledgers (requests.Drop writer node status part) (requests.DroppedTo ended) owed serves = serves
   of_ledgers (requests.Drop writer node status part) _ owed serves = absurd serves
+  -- the tally, and reserves
   of_ledgers (requests.Done write status) requests.Did owed serves = serves
   of_ledgers (requests.Done write status) _ owed serves = absurd serves
   of_ledgers (requests.Resize pool min) (requests.OutIs out) owed serves = serves
@@ -61,4 +67,5 @@ module _ (stage : Stage) (ledger : ℕ → LedgerId) (old new : Objects) where
   of_ledgers requests.LookRound _ owed serves = absurd serves
   of_ledgers requests.LookLeft (requests.LeftOver count) owed serves = serves
   of_ledgers requests.LookLeft _ owed serves = absurd serves
+  -- rests are not answered
   of_ledgers requests.Rest reply owed serves = absurd serves
