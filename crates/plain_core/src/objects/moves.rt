@@ -171,7 +171,7 @@ impl Objects {
         Ok(())
     }
 
-    /// The round behind the present one starts, which has this number.
+    /// The round behind the present one starts, where there is one and the event tells of a round of this number. The tally does not see the number.
     pub fn next_round(&mut self, round: u32, what: &What) -> Result<(), CoreFault>
         ensures { StartsRound self.old round what.now result self.new }
     {

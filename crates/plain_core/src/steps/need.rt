@@ -220,7 +220,7 @@ fn keeper_need(keeper: &Keeper) -> Need
     }
 }
 
-/// What a task needs.
+/// What the next request of a task needs of the objects, to be served without ordinary memory. Whether its look lets it ask is not in it.
 pub fn task_need(task: &Task) -> Need
     ensures { IsNeedOfTask result (task_of_plain task.now) }
 {
