@@ -3,29 +3,29 @@ use Rattle.std.proofs.Common.{◌≡◌, ℕ, ◌+◌, ◌<◌, ◌++◌, List, 
 use Prim.Native.Nat.{zero, suc}
 use Rattle.std.proofs.lemmas.List.{take_more_set, drop-set-lt, length-set}
 use Rattle.std.proofs.lemmas.List.Elements.{All-push}
-use Rattle.bio_workers.specs.declared.work.Progress.{Progress}
-use Rattle.bio_workers.specs.declared.work.Progress.TheVariants.{Event, Nothing, Over}
-use Rattle.bio_workers.specs.Progress.{both}
+use Rattle.bio_workers.specs.declared.work.WorkOutcome.{WorkOutcome}
+use Rattle.bio_workers.specs.declared.work.WorkOutcome.TheVariants.{Event, Nothing, Over}
+use Rattle.bio_workers.specs.WorkOutcomes.{both}
 use Rattle.bio_workers.specs.Visits.{IsVisit, IsVisitAt, AreVisited}
 
 -- those before it are over, and the one that was stepped
 pub more_over : {T : Type 0} (P : T → Type 0) (xs : List T) (at : ℕ) (x : T) → at < length xs → All P (take at xs) → P x → All P (take (at + 1) (slice_set xs at x))
 more_over P xs at x below before over = subst (All P) (sym (take_more_set xs at x below)) (All-push P (take at xs) x before over)
 
-pub both_over : (a : Progress) → both a Over ≡ a
+pub both_over : (a : WorkOutcome) → both a Over ≡ a
 both_over Event = refl
 both_over Nothing = refl
 both_over Over = refl
 
 -- no task goes on where none does in either
-pub over_together : (a b : Progress) → both a b ≡ Over → (a ≡ Over) × (b ≡ Over)
+pub over_together : (a b : WorkOutcome) → both a b ≡ Over → (a ≡ Over) × (b ≡ Over)
 over_together Over b e = (refl, e)
 over_together Event b e = absurd (cc)
 over_together Nothing Event e = absurd (cc)
 over_together Nothing Nothing e = absurd (cc)
 over_together Nothing Over e = absurd (cc)
 
-pub both_turned : (a b c : Progress) → both (both a b) c ≡ both a (both b c)
+pub both_turned : (a b c : WorkOutcome) → both (both a b) c ≡ both a (both b c)
 both_turned Event b c = refl
 both_turned Over b c = refl
 both_turned Nothing Event c = refl
@@ -61,9 +61,9 @@ module _ {T : Type 0} where
   standing (y ∷ ys) zero x rest e = omega arith
   standing (y ∷ ys) (suc at) x rest e = let below = standing ys at x rest e in omega arith
 
-module _ {T : Type 0} (goes : Progress → T → T → Type 0) where
+module _ {T : Type 0} (goes : WorkOutcome → T → T → Type 0) where
   -- one visit more
-  pub visited_more : (came last : Progress) (olds news : List T) (old new : T)
+  pub visited_more : (came last : WorkOutcome) (olds news : List T) (old new : T)
       → AreVisited goes came olds news → IsVisit goes last old new → AreVisited goes (both came last) (olds ++ old ∷ []) (news ++ new ∷ [])
   visited_more came last [] [] old new all visit =
       (last, Over, visit, refl, ap (λ c. both c last) all ∙ sym (both_over last))
@@ -73,13 +73,13 @@ module _ {T : Type 0} (goes : Progress → T → T → Type 0) where
   visited_more came last (o ∷ os) [] old new all visit = absurd all
 
   -- of the tasks that a sweep began with, those before a place were visited, and those from there on are as they were
-  pub record IsSwept (at : ℕ) (came : Progress) (start now : List T) : Type 0 where
+  pub record IsSwept (at : ℕ) (came : WorkOutcome) (start now : List T) : Type 0 where
     pub long : length now ≡ length start
     pub visited : AreVisited goes came (take at start) (take at now)
     pub left : drop at now ≡ drop at start
 
   -- the visit of the next one sweeps on
-  pub swept_on : (at : ℕ) (came last : Progress) (start now next : List T)
+  pub swept_on : (at : ℕ) (came last : WorkOutcome) (start now next : List T)
       → IsSwept at came start now → IsVisitAt goes at last now next → IsSwept (at + 1) (both came last) start next
   swept_on at came last start now next swept visit =
       let below : at < length now = standing now at visit.before visit.behind visit.there in

@@ -1,8 +1,8 @@
 pub mod Gates
 pub mod Hands
 pub mod Parting
-pub mod Progress
 pub mod Room
 pub mod Somes
 pub mod Steps
 pub mod Visits
+pub mod WorkOutcomes

@@ -1,24 +1,24 @@
 -- What visits of tasks come to, and sweeps over them.
 use Rattle.std.specs.Prelude.{◌≡◌, ℕ, List, [], ◌∷◌, drop, slice_set}
-use Rattle.bio_workers.specs.declared.work.Progress.{Progress}
-use Rattle.bio_workers.specs.declared.work.Progress.TheVariants.{Event, Nothing, Over}
-use Rattle.bio_workers.specs.Progress.{both}
+use Rattle.bio_workers.specs.declared.work.WorkOutcome.{WorkOutcome}
+use Rattle.bio_workers.specs.declared.work.WorkOutcome.TheVariants.{Event, Nothing, Over}
+use Rattle.bio_workers.specs.WorkOutcomes.{both}
 
-module _ {T : Type 0} (goes : Progress → T → T → Type 0) where
+module _ {T : Type 0} (goes : WorkOutcome → T → T → Type 0) where
   -- a task is stepped on only behind an event
-  abbrev pub IsSteppedOn : Progress → T → T → Type 0
+  abbrev pub IsSteppedOn : WorkOutcome → T → T → Type 0
   IsSteppedOn Event old new = Unit {0}
   IsSteppedOn Nothing old new = new ≡ old
   IsSteppedOn Over old new = new ≡ old
 
   -- a visit of a task came to what its first step did
-  pub record IsVisit (came : Progress) (old new : T) : Type 0 where
+  pub record IsVisit (came : WorkOutcome) (old new : T) : Type 0 where
     pub stepped : T
     pub first : goes came old stepped
     pub on : IsSteppedOn came stepped new
 
   -- the task at a place was visited, and the others are as they were
-  pub record IsVisitAt (at : ℕ) (came : Progress) (old new : List T) : Type 0 where
+  pub record IsVisitAt (at : ℕ) (came : WorkOutcome) (old new : List T) : Type 0 where
     pub before : T
     pub behind : List T
     pub there : drop at old ≡ before ∷ behind
@@ -27,7 +27,7 @@ module _ {T : Type 0} (goes : Progress → T → T → Type 0) where
     pub leaves : new ≡ slice_set old at after
 
   -- each of the tasks was visited, and what their visits came to is this, together
-  abbrev pub AreVisited : Progress → List T → List T → Type 0
+  abbrev pub AreVisited : WorkOutcome → List T → List T → Type 0
   AreVisited came [] [] = came ≡ Over
-  AreVisited came (old ∷ olds) (new ∷ news) = (first rest : Progress) × IsVisit first old new × AreVisited rest olds news × (came ≡ both first rest)
+  AreVisited came (old ∷ olds) (new ∷ news) = (first rest : WorkOutcome) × IsVisit first old new × AreVisited rest olds news × (came ≡ both first rest)
   AreVisited came olds news = ⊥

@@ -1,11 +1,11 @@
 //! Lists of a fixed room.
 ghost use Rattle.std.specs.Prelude.{◌≡◌, ◌++◌, ◌+◌, ◌<◌, ◌≤◌, ◌↔◌, [], ◌∷◌, All, IsNone, length, map, option_to_list, take};
 ghost use Rattle.bio_workers.specs.Visits.{IsVisitAt};
-ghost use Rattle.bio_workers.specs.declared.work.Progress.TheVariants.{Over};
+ghost use Rattle.bio_workers.specs.declared.work.WorkOutcome.TheVariants.{Over};
 
 use crate::bell::Bell;
 use crate::visit::visit;
-use crate::work::{Progress, Work};
+use crate::work::{Work, WorkOutcome};
 use arrayvec::ArrayVec;
 use std::marker::Model;
 use std::sync::Wait;
@@ -75,7 +75,7 @@ impl<T: Drop> Few<T> {
         work: &W,
         bell: &Bell,
         at: usize,
-    ) -> Progress
+    ) -> WorkOutcome
         requires at { at < length self.old }
         requires can { All (W.can work.now) (map W.key self.old) }
         ensures keys { map W.key self.new ≡ map W.key self.old }

@@ -20,5 +20,5 @@ pub use few::{Few, MOST_TASKS};
 pub use gate::{Gate, NoGate};
 pub use job::{Job, run};
 pub use shift::run_tasks;
-pub use work::{Progress, Work};
+pub use work::{Work, WorkOutcome};
 pub use workers::{Identity, run_workers};

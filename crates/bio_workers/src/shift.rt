@@ -2,13 +2,13 @@
 ghost use Rattle.std.specs.Prelude.{◌≡◌, ◌≤◌, ◌<◌, ◌+◌, All, IsPermutation, map};
 ghost use Rattle.bio_workers.specs.Room.{TasksFitInMemory};
 ghost use Rattle.bio_workers.specs.Visits.{AreVisited};
-ghost use Rattle.bio_workers.specs.declared.work.Progress.TheVariants.{Over};
+ghost use Rattle.bio_workers.specs.declared.work.WorkOutcome.TheVariants.{Over};
 
 use crate::bell::Bell;
 use crate::few::{Few, MOST_TASKS};
 use crate::hand::{Hand, join, part};
 use crate::job::{Job, run};
-use crate::work::{Progress, Work};
+use crate::work::{Work, WorkOutcome};
 use std::sync::Wait;
 use std::sync::atomic::{AtomicU64, Ordering};
 use std::thread::Threads;
@@ -26,7 +26,7 @@ struct Shift<'a, W> {
 
 impl<'a, W> Shift<'a, W> {
     // Visits each task once.
-    fn sweep<T: Drop, R: Wait>(&self, rt: &R, tasks: &mut Few<T>) -> Progress
+    fn sweep<T: Drop, R: Wait>(&self, rt: &R, tasks: &mut Few<T>) -> WorkOutcome
     where
         W: Work<T>,
         requires { All (W.can self.now.work.now) (map W.key tasks.old) }
@@ -34,7 +34,7 @@ impl<'a, W> Shift<'a, W> {
         ensures over { result ≡ Over → All W.is_over tasks.new }
         ensures visits { AreVisited W.goes result tasks.old tasks.new }
     {
-        let mut came = Progress::Over;
+        let mut came = WorkOutcome::Over;
         for at in 0..tasks.len() {
             came = came.and(tasks.visit_at(rt, self.work, &self.bell, at));
         }
@@ -53,9 +53,9 @@ impl<'a, W> Shift<'a, W> {
         for _ in rt.forever() {
             let heard = self.bell.heard();
             match self.sweep(rt, tasks) {
-                Progress::Event => {}
-                Progress::Nothing => self.bell.wait(rt, heard),
-                Progress::Over => return,
+                WorkOutcome::Event => {}
+                WorkOutcome::Nothing => self.bell.wait(rt, heard),
+                WorkOutcome::Over => return,
             }
         }
         unreachable!()

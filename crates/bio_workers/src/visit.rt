@@ -1,10 +1,10 @@
 //! A worker's visit of a task.
 ghost use Rattle.std.specs.Prelude.{◌≡◌};
 ghost use Rattle.bio_workers.specs.Visits.{IsVisit};
-ghost use Rattle.bio_workers.specs.declared.work.Progress.TheVariants.{Over};
+ghost use Rattle.bio_workers.specs.declared.work.WorkOutcome.TheVariants.{Over};
 
 use crate::bell::Bell;
-use crate::work::{Progress, Work};
+use crate::work::{Work, WorkOutcome};
 use std::sync::Wait;
 
 /// How often a visit steps a task at the most. With one step a visit, each event of a task would cost a look at each task that waits for it; and
@@ -13,14 +13,14 @@ const MOST_STEPS: u32 = 64;
 
 // Steps a task, and rings where that was an event.
 #[inline(always)] // a step that meets nothing then writes no answer
-fn step<T, R: Wait, W: Work<T>>(rt: &R, work: &W, bell: &Bell, task: &mut T) -> Progress
+fn step<T, R: Wait, W: Work<T>>(rt: &R, work: &W, bell: &Bell, task: &mut T) -> WorkOutcome
     requires { W.can work.now (W.key task.old) }
     ensures key { W.key task.new ≡ W.key task.old }
     ensures over { result ≡ Over → W.is_over task.new }
     ensures goes { W.goes result task.old task.new }
 {
     let came = work.step(rt, task);
-    if came == Progress::Event {
+    if came == WorkOutcome::Event {
         bell.ring();
     }
     came
@@ -32,7 +32,7 @@ fn step_on<T, R: Wait, W: Work<T>>(rt: &R, work: &W, bell: &Bell, task: &mut T)
     ensures { W.key task.new ≡ W.key task.old }
 {
     for _ in 1..MOST_STEPS {
-        if step(rt, work, bell, task) != Progress::Event {
+        if step(rt, work, bell, task) != WorkOutcome::Event {
             break;
         }
     }
@@ -40,14 +40,19 @@ fn step_on<T, R: Wait, W: Work<T>>(rt: &R, work: &W, bell: &Bell, task: &mut T)
 
 /// Steps a task where it stands, and steps it on while that meets events, so often at most. Rings behind each of them. Answers what the first
 /// step came to.
-pub(crate) fn visit<T, R: Wait, W: Work<T>>(rt: &R, work: &W, bell: &Bell, task: &mut T) -> Progress
+pub(crate) fn visit<T, R: Wait, W: Work<T>>(
+    rt: &R,
+    work: &W,
+    bell: &Bell,
+    task: &mut T,
+) -> WorkOutcome
     requires { W.can work.now (W.key task.old) }
     ensures key { W.key task.new ≡ W.key task.old }
     ensures over { result ≡ Over → W.is_over task.new }
     ensures visit { IsVisit W.goes result task.old task.new }
 {
     let came = step(rt, work, bell, task);
-    if came == Progress::Event {
+    if came == WorkOutcome::Event {
         step_on(rt, work, bell, task);
     }
     came

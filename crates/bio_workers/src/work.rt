@@ -1,12 +1,12 @@
 //! What workers do with tasks.
 ghost use Rattle.std.specs.Prelude.{◌≡◌};
-ghost use Rattle.bio_workers.specs.Progress.{both};
+ghost use Rattle.bio_workers.specs.WorkOutcomes.{both};
 
 use std::sync::Wait;
 
 /// What a step came to, or a sweep of steps.
 #[derive(Clone, Copy, PartialEq, Eq)]
-pub enum Progress {
+pub enum WorkOutcome {
     /// Something happened, so that other tasks may go on now.
     Event,
     /// Nothing happened, and some task may go on once others did.
@@ -15,15 +15,15 @@ pub enum Progress {
     Over,
 }
 
-impl Progress {
+impl WorkOutcome {
     /// What two came to together.
-    pub fn and(self, other: Progress) -> Progress
+    pub fn and(self, other: WorkOutcome) -> WorkOutcome
         ensures { result ≡ both self other }
     {
         match (self, other) {
-            (Progress::Event, _) | (_, Progress::Event) => Progress::Event,
-            (Progress::Nothing, _) | (_, Progress::Nothing) => Progress::Nothing,
-            (Progress::Over, Progress::Over) => Progress::Over,
+            (WorkOutcome::Event, _) | (_, WorkOutcome::Event) => WorkOutcome::Event,
+            (WorkOutcome::Nothing, _) | (_, WorkOutcome::Nothing) => WorkOutcome::Nothing,
+            (WorkOutcome::Over, WorkOutcome::Over) => WorkOutcome::Over,
         }
     }
 }
@@ -31,8 +31,8 @@ impl Progress {
 /// What workers step tasks at. All of them share it.
 pub trait Work<T> {
     ghost use Rattle.std.specs.Prelude.{◌≡◌, ℕ};
-    ghost use Rattle.bio_workers.specs.declared.work.Progress.{Progress};
-    ghost use Rattle.bio_workers.specs.declared.work.Progress.TheVariants.{Over};
+    ghost use Rattle.bio_workers.specs.declared.work.WorkOutcome.{WorkOutcome};
+    ghost use Rattle.bio_workers.specs.declared.work.WorkOutcome.TheVariants.{Over};
 
     /// What stays of a task, whatever steps it makes. No value of it is made.
     type Key;
@@ -49,14 +49,14 @@ pub trait Work<T> {
     ghost is_over: { T → Type 0 };
 
     /// Whether a step that made the second of the first came to this.
-    ghost goes: { Progress → T → T → Type 0 };
+    ghost goes: { WorkOutcome → T → T → Type 0 };
 
     /// The number of a task, by which it falls to a worker.
     fn number(&self, task: &T) -> u32
         ensures { result ≡ number (key task.now) };
 
     /// Steps a task once, where it stands.
-    fn step<R: Wait>(&self, rt: &R, task: &mut T) -> Progress
+    fn step<R: Wait>(&self, rt: &R, task: &mut T) -> WorkOutcome
         requires { can self.now (key task.old) }
         ensures key { key task.new ≡ key task.old }
         ensures over { result ≡ Over → is_over task.new }

@@ -10,7 +10,7 @@ ghost use Rattle.shared_objects.specs.Tickets.{ShowsItsTickets};
 use crate::few::Few;
 use crate::gate::Gate;
 use crate::shift::run_tasks;
-use crate::work::{Progress, Work};
+use crate::work::{Work, WorkOutcome};
 use shared_objects::{Closed, Locks, Ran, Shared};
 use std::marker::Model;
 use std::snapshot::Snapshot;
@@ -63,23 +63,23 @@ impl<'a, G: Gate> Work<Ran> for Crew<'a, G> {
         task.number()
     }
 
-    fn step<R: Wait>(&self, rt: &R, task: &mut Ran) -> Progress {
+    fn step<R: Wait>(&self, rt: &R, task: &mut Ran) -> WorkOutcome {
         let id = task.id();
         self.gate.before(id);
         let step = task.step(rt, self.locks, &mut Oldest);
         self.gate.after(id);
-        progress(&step)
+        work_outcome(&step)
     }
 }
 
 // What a step came to.
-fn progress(step: &Step) -> Progress
+fn work_outcome(step: &Step) -> WorkOutcome
     ensures { result ≡ came_of step.now }
 {
     match step {
-        Step::Stepped(_) => Progress::Event,
-        Step::Blocked(_) | Step::Waiting => Progress::Nothing,
-        Step::Ended | Step::Broken(_) => Progress::Over,
+        Step::Stepped(_) => WorkOutcome::Event,
+        Step::Blocked(_) | Step::Waiting => WorkOutcome::Nothing,
+        Step::Ended | Step::Broken(_) => WorkOutcome::Over,
     }
 }
 

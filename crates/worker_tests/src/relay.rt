@@ -1,8 +1,8 @@
 //! Runners that hand a baton on, as an example of tasks that wait for each other.
 ghost use Rattle.std.specs.Prelude.{◌≡◌, ◌≤◌};
-ghost use Rattle.bio_workers.specs.declared.work.Progress.TheVariants.{Over};
+ghost use Rattle.bio_workers.specs.declared.work.WorkOutcome.TheVariants.{Over};
 
-use bio_workers::{Few, MOST_TASKS, Progress, Work, run_tasks};
+use bio_workers::{Few, MOST_TASKS, Work, WorkOutcome, run_tasks};
 use std::sync::Wait;
 use std::sync::atomic::{AtomicU64, Ordering};
 use std::thread::Threads;
@@ -24,7 +24,7 @@ pub struct Relay {
 
 impl Work<Runner> for Relay {
     ghost use Rattle.std.specs.Prelude.{◌≡◌, ◌≢◌, ◌+◌};
-    ghost use Rattle.bio_workers.specs.declared.work.Progress.TheVariants.{Event};
+    ghost use Rattle.bio_workers.specs.declared.work.WorkOutcome.TheVariants.{Event};
 
     type Key = u32;
 
@@ -42,17 +42,17 @@ impl Work<Runner> for Relay {
         task.number
     }
 
-    fn step<R: Wait>(&self, _rt: &R, task: &mut Runner) -> Progress {
+    fn step<R: Wait>(&self, _rt: &R, task: &mut Runner) -> WorkOutcome {
         if task.left == 0 {
-            return Progress::Over;
+            return WorkOutcome::Over;
         }
         let handed = self.handed.load(Ordering::SeqCst);
         if handed % self.runners.max(1) != u64::from(task.number) {
-            return Progress::Nothing;
+            return WorkOutcome::Nothing;
         }
         self.handed.fetch_add(1, Ordering::SeqCst);
         task.left -= 1;
-        Progress::Event
+        WorkOutcome::Event
     }
 }
 

@@ -1,5 +1,5 @@
 use Rattle.std.proofs.Common.{◌≡◌, All, map, take}
-use Rattle.bio_workers.specs.declared.work.Progress.TheVariants.{Over}
+use Rattle.bio_workers.specs.declared.work.WorkOutcome.TheVariants.{Over}
 use Rattle.bio_workers.proofs.Sweeps.{IsSwept}
 use Rattle.bio_workers.proofs.shift.Shift.sweep.Given as goal
 

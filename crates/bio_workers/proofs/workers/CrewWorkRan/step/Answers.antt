@@ -10,5 +10,5 @@ returns-clause-goes g c =
       step = c.step-step.result;
       turns = subst (λ home. TurnsWith home old.task old.seats new.task new.seats c.step-step.result) (sym c.requires) c.step-step.ensures.turns;
       events = c.step-step.ensures.events;
-      comes = c.progress.ensures;
+      comes = c.work_outcome.ensures;
     }

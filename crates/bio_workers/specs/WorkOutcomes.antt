@@ -1,9 +1,9 @@
 -- What steps came to.
-use Rattle.bio_workers.specs.declared.work.Progress.{Progress}
-use Rattle.bio_workers.specs.declared.work.Progress.TheVariants.{Event, Nothing, Over}
+use Rattle.bio_workers.specs.declared.work.WorkOutcome.{WorkOutcome}
+use Rattle.bio_workers.specs.declared.work.WorkOutcome.TheVariants.{Event, Nothing, Over}
 
 -- Something happened if it did in either. No task goes on if none does in both.
-abbrev pub both : Progress → Progress → Progress
+abbrev pub both : WorkOutcome → WorkOutcome → WorkOutcome
 both Over b = b
 both Nothing Event = Event
 both Nothing Nothing = Nothing
