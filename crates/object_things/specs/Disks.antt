@@ -77,7 +77,7 @@ DiskAskAlone (ask.Complete disk index) = Unit {0}
 abbrev pub DiskFits : MarkState → Asking DiskAsk → Type 0
 DiskFits mark asking = (asking.pass.clock ≡ mark.common.clock) × (object_of (disk_asked asking.ask) ≡ mark.name) × RequestFits (stage_in mark.common) (disk_asked asking.ask) × DiskAskAlone asking.ask
 
--- the index is the one that was asked for, or the last one where fewer waited
+-- the index of what was completed is at most the one that was asked for: fewer may wait by then, and nothing here tells how many
 abbrev pub IsUpTo : ℕ → Result (Option (ℕ × DoneBio)) Unmade → Type 0
 IsUpTo index (Ok None) = Unit {0}
 IsUpTo index (Ok (Some done)) = done.0 ≤ index

@@ -32,7 +32,7 @@ module _ {O : Type 0} (mark : Stamped O → MarkState) (answers : ThingState O �
         → adds_up key.value.object turning.log kept.object
 
 -- A pool that added up adds up, whatever was taken, given back and resized, and whether or not a draw failed. Its elements are of the same ledger,
--- and its reserve may be as large.
+-- and its reserve may be as large as before.
 pub record PoolAddsUp (old : LedgerPool) (history : List Call) (new : LedgerPool) : Type 0 where
   pub adds_up : AddsUp old.state.facts → AddsUp new.state.facts
   pub ledger : new.ledger ≡ old.ledger
@@ -91,7 +91,7 @@ abbrev pub dones : Request → Reply → ℕ
 dones (Done write status) Did = 1
 dones asked reply = 0
 
--- Of the writes that were left, all that were not done since are left. Rounds and writes are as many as before.
+-- No more writes are left than were, and fewer by at most as many as were done since. Rounds and writes are as many as before.
 pub record TallyAddsUp (old : TallyState) (history : List Call) (new : TallyState) : Type 0 where
   pub left : (sum new.left ≤ sum old.left) × (sum old.left ≤ sum new.left + sum_by (λ (c : Call). dones c.asked c.told.reply) history)
   pub rounds : length new.left ≡ length old.left

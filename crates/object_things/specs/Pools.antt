@@ -29,7 +29,7 @@ use Rattle.object_things.specs.declared.pool.PoolSaid.{PoolSaid}
 use Rattle.object_things.specs.declared.pool.PoolSaid.TheVariants as said
 use Rattle.object_things.specs.Stamps.{Stamped, MarkState, mark_of, Told, ThingState, ThingAnswers, ChoosesNone, PassBy, FindsNone, stage_in, is_spent, StampState, or_unmade, thing_state}
 
--- a pool of the stage: its elements are of the ledger that the stage has for its number, and its reserve may be as large
+-- a pool of the stage: its elements are of the ledger that the stage has for its number, and its reserve may be as large as the stage says there
 pub record IsPoolOf (stage : Stage) (pool : LedgerPool) : Type 0 where
   pub ledger : pool.ledger ≡ stage.ledger pool.ledger.no
   pub most : pool.most ≡ stage.most pool.ledger.no
@@ -179,7 +179,7 @@ abbrev pub pool_mark : Stamped LedgerPool → MarkState
 pool_mark held = mark_of (OfPool held.object.ledger.no) held
 
 module _ {P : Type 0} where
-  -- a take that is told as nothing
+  -- a take that is no more than a look: it waits, and missed without using up an entry of the script
   abbrev pub is_look : Bool → Taken P → Bool
   is_look waits (taken.Ordinary el) = false
   is_look waits (taken.Spare el) = false

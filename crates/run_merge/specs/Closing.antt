@@ -41,11 +41,11 @@ pub record WasRefused (s : Scenario) (ledger : ℕ → LedgerId) (histories : Hi
   pub goes_on : now ≡ answered (setup s) task reply
   pub broken : is_broken now ≡ true
 
--- a ticket is 1, or one more than another one
+-- each ticket that was drawn is 1, or one more than another that was drawn
 abbrev pub AreInRow : List ℕ → Type 0
 AreInRow drawn = (ticket : ℕ) → Contains drawn ticket → (ticket ≡ 1) ⊎ ((other : ℕ) × Contains drawn other × (ticket ≡ other + 1))
 
--- no ticket is behind the last one, so a draw may have found none
+-- the last ticket that there is was drawn, so that another draw may have found none
 abbrev pub HasLast : List ℕ → Type 0
 HasLast drawn = Contains drawn (2 ^ 64 - 1)
 

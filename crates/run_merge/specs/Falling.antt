@@ -40,10 +40,11 @@ sets_below pools = below pools.has_set (λ number. (Of (at number), pools.facts 
 abbrev pub records_below : DevicePools → ℕ → List (DevId × Facts)
 records_below pools = below pools.is_mirror (λ number. (at number, pools.facts (Records (at number))))
 
--- and all of them by falling number, records before bios
+-- a pool with its facts
 abbrev pub with_facts : DevicePools → PoolId → PoolId × Facts
 with_facts pools pool = (pool, pools.facts pool)
 
+-- all pools of the devices below a number, by falling number: of each device its records before its bios
 unfoldable pub falling_below : DevicePools → ℕ → List (PoolId × Facts)
 falling_below pools zero = []
 falling_below pools (suc number) =

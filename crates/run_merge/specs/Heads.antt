@@ -39,15 +39,17 @@ pub record AreHeadsAdded {T : Type 0} (rows : List (List (ℕ × T))) (old new :
   pub long : length new ≡ length old + length rows
   pub added : (list : ℕ) → list < length rows → node new (length old + list) ≡ head_at rows list 0
 
--- there are as many inner nodes as leaves, and each has the smaller head of the two below it, but perhaps one
+-- Behind place 0, which is not used, stand the inner nodes, and behind those the leaves, from place `count` on. Each inner node that this is asked of has
+-- the smaller head of the two below it.
 pub record AreInner (count : ℕ) (nodes : List Head) (Are : ℕ → Type 0) : Type 0 where
   pub long : length nodes ≡ count + count
   pub inner : (number : ℕ) → 1 ≤ number → number < count → Are number → node nodes number ≡ smaller (node nodes (2 * number)) (node nodes (2 * number + 1))
 
+-- each inner node has it
 abbrev pub IsTournament : ℕ → List Head → Type 0
 IsTournament count nodes = AreInner count nodes (λ number. Unit {0})
 
--- but for the one above a node
+-- each of them has it, but perhaps the one above this node
 abbrev pub IsTournamentBut : ℕ → List Head → ℕ → Type 0
 IsTournamentBut count nodes below = AreInner count nodes (λ number. (below ≢ 2 * number) × (below ≢ 2 * number + 1))
 

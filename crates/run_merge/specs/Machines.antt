@@ -18,15 +18,17 @@ use Rattle.shared_objects.specs.Calls.{is_same_object}
 use Rattle.run_merge.specs.Entries.{Entry}
 use Rattle.run_merge.specs.ObjectsByName.{StateAt}
 
--- a pool, whose elements are of this ledger
+-- a pool can make this move, and made it
 abbrev pub PoolGoes : PoolState → PoolMove → PoolState → Type 0
 PoolGoes old move new = CanMove old move × (new ≡ after_move old move)
 
+-- an element was had of a pool
 abbrev pub PoolHas : PoolState → Got → PoolState → Type 0
 PoolHas old Ordinary new = PoolGoes old takes_ordinary new
 PoolHas old Spare new = PoolGoes old takes_spare new
 PoolHas old got.Missed new = ⊥
 
+-- a pool, whose elements are of this ledger
 abbrev pub PoolMachine : LedgerId → PoolState → Request → Reply → PoolState → Type 0
 PoolMachine ledger old (TakeBio set waits) (HadBio got bio) new = PoolHas old got new × (bio ≡ clear_bio ledger)
 PoolMachine ledger old (TakeBio set waits) (Missed used) new = PoolGoes old (misses used) new

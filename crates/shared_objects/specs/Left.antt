@@ -25,7 +25,8 @@ pub record AreInOpenedOrder (opened : Plain) (closed : Closed) : Type 0 where
   pub disks : map (λ shut. shut.thing.object.dev.0) closed.disks.items ≡ map disk_number opened.disks.items
   pub books : map (λ entry. writer_key entry.0) closed.books.items ≡ map book_number opened.books.items
 
--- a task that was put back, with what it told: it is so, its seats are those of its desk, and it has had so many events
+-- What is left of a task that was put back: as it was opened, as it is now, and with the seats of its desk. It counts the events among its calls, or
+-- 2^64 - 1 where there are more.
 pub record IsReturned (setup : Setup) (closed : ClosedTask) (returned : Returned) : Type 0 where
   pub first : closed.first.value.state ≡ returned.first
   pub task : closed.task.state ≡ returned.task

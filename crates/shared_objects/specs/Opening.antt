@@ -51,7 +51,7 @@ module _ {T A R : Type 0} where
   IsNewOf task lock seat = IsSeatOf task lock seat × (own seat.known ≡ [])
 
 module _ {K T A R : Type 0} where
-  -- the same with their keys
+  -- the first seat of a lock, from which so many were split off, and a new seat of one, with the keys of their locks
   abbrev pub IsFirstAt : ℕ → K × LockId T → K × SeatState T A R → Type 0
   IsFirstAt split lock first = (first.0 ≡ lock.0) × IsFirstOf split lock.1 first.1
 

@@ -36,7 +36,7 @@ pub record HasRoomFor (locks : Locks) (count : ℕ) (s : Scenario) (room : Room)
   pub tasks : (room.tasks.items ≡ []) × (count ≤ vec_capacity room.tasks)
   pub ended : IsReservedForRun s.stack (length s.writes) room.ended
 
--- a task is out, or it is here and its own
+-- nothing stands at a place, or the task of this key
 abbrev pub IsOwnIfHere : RanKey → Option RanState → Type 0
 IsOwnIfHere key None = Unit {0}
 IsOwnIfHere key (Some ran) = ran_key ran ≡ key
