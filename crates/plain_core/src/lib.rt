@@ -20,6 +20,6 @@ pub use objects::part::{Data, Hand, Part, Slip, Vector};
 pub use objects::pool::Pool;
 pub use state::Core;
 pub use steps::task::{
-    Carried, Completer, Copying, Doing, DriverAsk, Gathered, Keeper, Rescuer, Submission, Task,
-    Want, Writer,
+    Completer, Copying, DriverAsk, Keeper, PlainCarried, PlainDoing, PlainGathered,
+    PlainSubmission, PlainWant, Rescuer, Task, Writer,
 };

@@ -17,8 +17,8 @@ use Rattle.run_machine.specs.Submissions as submission
 use Rattle.task_steps.specs.Routed.{Routing, routing_setup}
 use Rattle.plain_core.specs.declared.steps.task.DriverAsk.{DriverAsk}
 use Rattle.plain_core.specs.declared.steps.task.DriverAsk.TheVariants as ask
-use Rattle.plain_core.specs.declared.steps.task.Want.{Want}
-use Rattle.plain_core.specs.declared.steps.task.Want.TheVariants as want
+use Rattle.plain_core.specs.declared.steps.task.PlainWant.{PlainWant}
+use Rattle.plain_core.specs.declared.steps.task.PlainWant.TheVariants as want
 use Rattle.plain_core.specs.declared.steps.submission.Continuation.{Continuation}
 use Rattle.plain_core.specs.declared.steps.submission.Continuation.TheVariants as next
 use Rattle.plain_core.specs.declared.steps.task.Copying.{Copying}
@@ -45,7 +45,7 @@ punted_to old new lists rest dev other what is p =
     let q = subst (λ d. Punts old lists d what (Ok (tt {0})) new rest) is p in
     (punt_answer old new other lists what q.0 q.1 q.2, q.3)
 
-pub cut_punted : (r : Routing) (old new : CoreObjects) (part : Item Pad) (w : Want) (lists rest : TaskLists) (what : What) (dev : DevId) (n : Continuation) (after : submission.Want)
+pub cut_punted : (r : Routing) (old new : CoreObjects) (part : Item Pad) (w : PlainWant) (lists rest : TaskLists) (what : What) (dev : DevId) (n : Continuation) (after : submission.Want)
     → w ≡ want.Punts → dev ≡ part.bio.dev → Punts old lists dev what (Ok (tt {0})) new rest → n ≡ next.Stays → after ≡ submission.Takes true
     → SubmissionSteps r old (cuts_for part (want_of_plain w)) lists what (Ok n) new (cuts_for part after) rest
 cut_punted r old new part w lists rest what dev n after is_want is_dev p stays takes =
@@ -54,7 +54,7 @@ cut_punted r old new part w lists rest what dev n after is_want is_dev p stays t
     (subst (λ v. SubmissionSteps r old (cuts_for part (want_of_plain v)) lists what (Ok next.Stays) new (cuts_for part after) rest) (sym is_want)
     (Did, q.0, λ k. record { doing = cuts_for part (sym takes k); lists = sym q.1 k }))
 
-pub cut_not_punted : (r : Routing) (old new : CoreObjects) (part : Item Pad) (w : Want) (lists rest : TaskLists) (what : What) (dev : DevId) (e : CoreFault)
+pub cut_not_punted : (r : Routing) (old new : CoreObjects) (part : Item Pad) (w : PlainWant) (lists rest : TaskLists) (what : What) (dev : DevId) (e : CoreFault)
     → w ≡ want.Punts → dev ≡ part.bio.dev → Punts old lists dev what (Err e) new rest
     → SubmissionSteps r old (cuts_for part (want_of_plain w)) lists what (Err e) new (cuts_for part (want_of_plain w)) rest
 cut_not_punted r old new part w lists rest what dev e is_want is_dev p =
@@ -62,7 +62,7 @@ cut_not_punted r old new part w lists rest what dev e is_want is_dev p =
     subst (λ v. SubmissionSteps r old (cuts_for part (want_of_plain v)) lists what (Err e) new (cuts_for part (want_of_plain v)) rest) (sym is_want)
     (failed r old new (cuts_for part submission.Punts) lists rest what e q.1 q.0)
 
-pub copy_not_punted : (r : Routing) (old new : CoreObjects) (copying : Copying) (w : Want) (lists rest : TaskLists) (what : What) (e : CoreFault)
+pub copy_not_punted : (r : Routing) (old new : CoreObjects) (copying : Copying) (w : PlainWant) (lists rest : TaskLists) (what : What) (e : CoreFault)
     → w ≡ want.Punts → Punts old lists copying.bio.dev what (Err e) new rest
     → SubmissionSteps r old (copies_for copying (want_of_plain w)) lists what (Err e) new (copies_for copying (want_of_plain w)) rest
 copy_not_punted r old new copying w lists rest what e is_want p =
@@ -70,7 +70,7 @@ copy_not_punted r old new copying w lists rest what e is_want p =
     subst (λ v. SubmissionSteps r old (copies_for copying (want_of_plain v)) lists what (Err e) new (copies_for copying (want_of_plain v)) rest) (sym is_want)
     (failed r old new (copies_for copying submission.Punts) lists rest what e q.1 q.0)
 
-pub copy_punted : (r : Routing) (old new : CoreObjects) (copying : Copying) (w : Want) (lists rest : TaskLists) (what : What) (n : Continuation) (after : submission.Want)
+pub copy_punted : (r : Routing) (old new : CoreObjects) (copying : Copying) (w : PlainWant) (lists rest : TaskLists) (what : What) (n : Continuation) (after : submission.Want)
     → w ≡ want.Punts → Punts old lists copying.bio.dev what (Ok (tt {0})) new rest → n ≡ next.Stays → after ≡ submission.Takes true
     → SubmissionSteps r old (copies_for copying (want_of_plain w)) lists what (Ok n) new (copies_for copying after) rest
 copy_punted r old new copying w lists rest what n after is_want p stays takes =
@@ -80,7 +80,7 @@ copy_punted r old new copying w lists rest what n after is_want p stays takes =
     (Did, q.0, λ k. record { doing = copies_for copying (sym takes k); lists = sym q.1 k }))
 
 -- A link. The lists are the same behind the room that is made in them.
-pub cut_linked : (r : Routing) (old new : CoreObjects) (part hand : Item Pad) (w : Want) (lists wide rest : TaskLists) (what : What) (after : submission.Doing) (bio : Bio) (node : ℕ)
+pub cut_linked : (r : Routing) (old new : CoreObjects) (part hand : Item Pad) (w : PlainWant) (lists wide rest : TaskLists) (what : What) (after : submission.Doing) (bio : Bio) (node : ℕ)
     → w ≡ want.Links hand → bio ≡ part.bio → wide ≡ lists
     → submission.cut_at (routing_setup r) wide part hand node (tree r.stack part.bio.dev.0) ≡ submission.goes_on (routing_setup r) part.bio.dev rest
     → Joins old bio.writer (Chain bio.node) what (Ok node) new
@@ -93,7 +93,7 @@ cut_linked r old new part hand w lists wide rest what after bio node is_want is_
       ap (λ ls. submission.cut_at (routing_setup r) ls part hand node (tree r.stack part.bio.dev.0)) (sym same) ∙ is_after ∙ ap (λ (b : Bio). submission.goes_on (routing_setup r) b.dev rest) (sym is_bio),
     )
 
-pub cut_not_linked : (r : Routing) (old new : CoreObjects) (part hand : Item Pad) (w : Want) (lists rest : TaskLists) (what : What) (bio : Bio) (e : CoreFault)
+pub cut_not_linked : (r : Routing) (old new : CoreObjects) (part hand : Item Pad) (w : PlainWant) (lists rest : TaskLists) (what : What) (bio : Bio) (e : CoreFault)
     → w ≡ want.Links hand → bio ≡ part.bio → rest ≡ lists → Joins old bio.writer (Chain bio.node) what (Err e) new
     → SubmissionSteps r old (cuts_for part (want_of_plain w)) lists what (Err e) new (cuts_for part (submission.Links hand)) rest
 cut_not_linked r old new part hand w lists rest what bio e is_want is_bio same l =
@@ -101,7 +101,7 @@ cut_not_linked r old new part hand w lists rest what bio e is_want is_bio same l
     subst (λ v. SubmissionSteps r old (cuts_for part (want_of_plain v)) lists what (Err e) new (cuts_for part (submission.Links hand)) rest) (sym is_want)
     (failed r old new (cuts_for part (submission.Links hand)) lists rest what e same (join_failed old new part.bio.writer (Chain part.bio.node) what e m))
 
-pub copy_linked : (r : Routing) (old new : CoreObjects) (copying : Copying) (hand : Item Pad) (w : Want) (lists wide rest : TaskLists) (what : What) (n : Continuation) (after : submission.Doing) (node : ℕ)
+pub copy_linked : (r : Routing) (old new : CoreObjects) (copying : Copying) (hand : Item Pad) (w : PlainWant) (lists wide rest : TaskLists) (what : What) (n : Continuation) (after : submission.Doing) (node : ℕ)
     → w ≡ want.Links hand → wide ≡ lists → rest ≡ submitted (submission.leg_at copying.bio hand copying.leg node (tree r.stack copying.bio.dev.0)) wide
     → submission.copies (routing_setup r) rest copying.bio copying.master (copying.leg + 1) ≡ turned (routing_setup r) after rest n
     → Joins old copying.bio.writer (Leg copying.master) what (Ok node) new → SubmissionSteps r old (copies_for copying (want_of_plain w)) lists what (Ok n) new after rest
@@ -113,7 +113,7 @@ copy_linked r old new copying hand w lists wide rest what n after node is_want s
           (sym (is_rest ∙ ap (submitted (submission.leg_at copying.bio hand copying.leg node (tree r.stack copying.bio.dev.0))) same)) ∙ is_after,
     )
 
-pub copy_not_linked : (r : Routing) (old new : CoreObjects) (copying : Copying) (hand : Item Pad) (w : Want) (lists rest : TaskLists) (what : What) (e : CoreFault)
+pub copy_not_linked : (r : Routing) (old new : CoreObjects) (copying : Copying) (hand : Item Pad) (w : PlainWant) (lists rest : TaskLists) (what : What) (e : CoreFault)
     → w ≡ want.Links hand → rest ≡ lists → Joins old copying.bio.writer (Leg copying.master) what (Err e) new
     → SubmissionSteps r old (copies_for copying (want_of_plain w)) lists what (Err e) new (copies_for copying (submission.Links hand)) rest
 copy_not_linked r old new copying hand w lists rest what e is_want same l =

@@ -23,8 +23,8 @@ use Rattle.plain_core.specs.declared.fault.CoreFault.TheVariants as fault
 use Rattle.task_steps.specs.Routed.{Routing, routing_setup}
 use Rattle.plain_core.specs.declared.objects.book.NodeOutcome.{NodeOutcome}
 use Rattle.plain_core.specs.objects.Books.{ended_of_plain}
-use Rattle.plain_core.specs.declared.steps.task.Carried.{Carried}
-use Rattle.plain_core.specs.declared.steps.task.Carried.TheVariants as carried
+use Rattle.plain_core.specs.declared.steps.task.PlainCarried.{PlainCarried}
+use Rattle.plain_core.specs.declared.steps.task.PlainCarried.TheVariants as carried
 use Rattle.plain_core.specs.objects.Plain.{CoreObjects, objects_of_core}
 use Rattle.plain_core.specs.steps.Views.{carried_of_plain}
 use Rattle.plain_core.specs.steps.Answers.{IsAnswer, Refuses, HasAnswer}
@@ -55,7 +55,7 @@ pub passed_done : (old new : CoreObjects) (writer : ℕ) (closed : Closed) (what
 passed_done old new writer closed what is answer =
     (Did, subst (λ p. IsAnswer old (task.closed_request writer (bare closed) None None None p) what Did new) (sym is) answer, refl)
 
-pub passed_told : (old new : CoreObjects) (writer parent : ℕ) (closed : Closed) (what : What) (e : NodeOutcome) (after : Carried) → closed.parent ≡ Some parent
+pub passed_told : (old new : CoreObjects) (writer parent : ℕ) (closed : Closed) (what : What) (e : NodeOutcome) (after : PlainCarried) → closed.parent ≡ Some parent
     → IsAnswer old (Drop writer parent closed.status None) what (DroppedTo (ended_of_plain e)) new → ((node : ℕ) → carried_of_plain after ≡ task.after_drop writer node (ended_of_plain e))
     → PassesOn old writer closed what (Ok after) new
 passed_told old new writer parent closed what e after is answer carries = (
@@ -82,12 +82,12 @@ pub closed_gave : (old new : CoreObjects) (writer : ℕ) (closed : Closed) (held
 closed_gave old new writer closed held what gives = let gave = gives writer closed closed.parent in (Did, gave.0, gave.1)
 
 -- a completer goes on
-pub carried_completed : (old new : CoreObjects) (disk : DevId) (b : Carried) (what : What) (index : ℕ) (part : Item Pad) (status : Status) → b ≡ carried.Empty
+pub carried_completed : (old new : CoreObjects) (disk : DevId) (b : PlainCarried) (what : What) (index : ℕ) (part : Item Pad) (status : Status) → b ≡ carried.Empty
     → IsAnswer old (Complete disk) what (Completed index part status) new → IsCarried old disk (carried_of_plain b) what (Ok (tt {0})) new (task.Brings part status)
 carried_completed old new disk b what index part status is answer =
     subst (λ v. IsCarried old disk (carried_of_plain v) what (Ok (tt {0})) new (task.Brings part status)) (sym is) (Completed index part status, answer, refl)
 
-pub carried_told : (old new : CoreObjects) (disk : DevId) (b : Carried) (what : What) (part again : Item Pad) (bio : Bio) (status : Status) (e : NodeOutcome) (after : Carried)
+pub carried_told : (old new : CoreObjects) (disk : DevId) (b : PlainCarried) (what : What) (part again : Item Pad) (bio : Bio) (status : Status) (e : NodeOutcome) (after : PlainCarried)
     → b ≡ carried.Brings part status → bio ≡ part.bio → again ≡ part
     → IsAnswer old (Drop bio.writer bio.node status (Some again)) what (DroppedTo (ended_of_plain e)) new
     → ((node : ℕ) → carried_of_plain after ≡ task.after_drop bio.writer node (ended_of_plain e)) → IsCarried old disk (carried_of_plain b) what (Ok (tt {0})) new (carried_of_plain after)

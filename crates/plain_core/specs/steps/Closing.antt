@@ -8,7 +8,7 @@ use Rattle.bio_books.specs.Drops.{Closed}
 use Rattle.run_machine.specs.declared.event.What.{What}
 use Rattle.run_machine.specs.Requests.{Request, Reply, Did}
 use Rattle.run_machine.specs.Tasks as task
-use Rattle.plain_core.specs.declared.steps.task.Carried.{Carried}
+use Rattle.plain_core.specs.declared.steps.task.PlainCarried.{PlainCarried}
 use Rattle.plain_core.specs.objects.Plain.{CoreObjects}
 use Rattle.plain_core.specs.steps.Views.{carried_of_plain}
 use Rattle.plain_core.specs.steps.Answers.{IsAnswer, Refuses}
@@ -50,7 +50,7 @@ abbrev pub bare : Closed → Closed
 bare closed = record closed { held = record { vector = None; bio = None; slip = None } }
 
 -- a closed node is told to its parent, or its write is done, as one that holds nothing: whatever it holds does not count
-abbrev pub PassesOn : CoreObjects → ℕ → Closed → What → Result Carried CoreFault → CoreObjects → Type 0
+abbrev pub PassesOn : CoreObjects → ℕ → Closed → What → Result PlainCarried CoreFault → CoreObjects → Type 0
 PassesOn old writer closed what (Ok after) new =
     (reply : Reply)
     × IsAnswer old (closed_asks writer (bare closed)) what reply new
@@ -59,7 +59,7 @@ PassesOn old writer closed what (Err fault.NotEnabled) new = (new ≡ old) × Re
 PassesOn old writer closed what (Err fault.Memory) new = ⊥
 
 -- it goes on, and is still carried or no more
-abbrev pub ClosesOn : CoreObjects → ℕ → Closed → What → Result (Option Carried) CoreFault → CoreObjects → Closed → Type 0
+abbrev pub ClosesOn : CoreObjects → ℕ → Closed → What → Result (Option PlainCarried) CoreFault → CoreObjects → Closed → Type 0
 ClosesOn old writer closed what (Ok None) new after =
     (reply : Reply)
     × IsAnswer old (closed_asks writer closed) what reply new

@@ -17,8 +17,8 @@ use Rattle.plain_core.specs.declared.steps.submission.Continuation.{Continuation
 use Rattle.plain_core.specs.declared.steps.submission.Continuation.TheVariants as next
 use Rattle.plain_core.specs.declared.steps.task.DriverAsk.{DriverAsk}
 use Rattle.plain_core.specs.declared.steps.task.Copying.{Copying}
-use Rattle.plain_core.specs.declared.steps.task.Doing.{Doing}
-use Rattle.plain_core.specs.declared.steps.task.Want.{Want}
+use Rattle.plain_core.specs.declared.steps.task.PlainDoing.{PlainDoing}
+use Rattle.plain_core.specs.declared.steps.task.PlainWant.{PlainWant}
 use Rattle.plain_core.specs.objects.Plain.{CoreObjects}
 use Rattle.plain_core.specs.objects.Lists.{ListsHaveCapacity, lists_of}
 use Rattle.plain_core.specs.steps.Views.{ask_of_plain, doing_of_plain, want_of_plain}
@@ -95,7 +95,7 @@ CopiesOn r lists before after want next =
     submission.copies (routing_setup r) lists before.bio before.master (before.leg + 1) ≡ turned (routing_setup r) (copies_for after want) lists next
 
 -- steps of a submission, by what it does
-abbrev pub DoingSteps : Routing → CoreObjects → Doing → Lists → What → Result Continuation CoreFault → CoreObjects → Doing → Lists → Type 0
+abbrev pub DoingSteps : Routing → CoreObjects → PlainDoing → Lists → What → Result Continuation CoreFault → CoreObjects → PlainDoing → Lists → Type 0
 DoingSteps r old doing lists what result new after rest =
     SubmissionSteps r old (doing_of_plain doing) (lists_of lists) what result new (doing_of_plain after) (lists_of rest)
 
@@ -103,10 +103,10 @@ abbrev pub DriveSteps : Routing → CoreObjects → Item Pad → DriverAsk → L
 DriveSteps r old part ask lists what result new after rest =
     SubmissionSteps r old (drives_for part (ask_of_plain ask)) (lists_of lists) what result new (drives_for part (ask_of_plain after)) (lists_of rest)
 
-abbrev pub CutSteps : Routing → CoreObjects → Item Pad → Want → Lists → What → Result Continuation CoreFault → CoreObjects → Want → Lists → Type 0
+abbrev pub CutSteps : Routing → CoreObjects → Item Pad → PlainWant → Lists → What → Result Continuation CoreFault → CoreObjects → PlainWant → Lists → Type 0
 CutSteps r old part want lists what result new after rest =
     SubmissionSteps r old (cuts_for part (want_of_plain want)) (lists_of lists) what result new (cuts_for part (want_of_plain after)) (lists_of rest)
 
-abbrev pub CopySteps : Routing → CoreObjects → Copying → Want → Lists → What → Result Continuation CoreFault → CoreObjects → Copying → Want → Lists → Type 0
+abbrev pub CopySteps : Routing → CoreObjects → Copying → PlainWant → Lists → What → Result Continuation CoreFault → CoreObjects → Copying → PlainWant → Lists → Type 0
 CopySteps r old copying want lists what result new after wants rest =
     SubmissionSteps r old (copies_for copying (want_of_plain want)) (lists_of lists) what result new (copies_for after (want_of_plain wants)) (lists_of rest)

@@ -10,7 +10,7 @@ use Rattle.run_machine.specs.declared.event.Got.{Got}
 use Rattle.run_machine.specs.declared.event.What.{What}
 use Rattle.run_machine.specs.Requests.{Reply, TakeBio, TakeVec, TakeSlip, HadBio, HadVec, HadSlip, Missed}
 use Rattle.run_machine.specs.Submissions as submission
-use Rattle.plain_core.specs.declared.steps.task.Want.{Want}
+use Rattle.plain_core.specs.declared.steps.task.PlainWant.{PlainWant}
 use Rattle.plain_core.specs.objects.Plain.{CoreObjects}
 use Rattle.plain_core.specs.steps.Views.{want_of_plain}
 use Rattle.plain_core.specs.steps.Answers.{IsAnswer, Refuses}
@@ -44,7 +44,7 @@ IsWanted waits (HadBio got hand) want = want ≡ submission.Links hand
 IsWanted waits (Missed used) want = want ≡ submission.after_miss waits
 IsWanted waits reply want = ⊥
 
-abbrev pub TakesWant : CoreObjects → DevId → Bool → What → Result Want CoreFault → CoreObjects → Type 0
+abbrev pub TakesWant : CoreObjects → DevId → Bool → What → Result PlainWant CoreFault → CoreObjects → Type 0
 TakesWant old dev waits what (Ok want) new =
     (reply : Reply) × IsAnswer old (TakeBio (Of dev) waits) what reply new × IsWanted waits reply (want_of_plain want)
 TakesWant old dev waits what (Err fault.NotEnabled) new = (new ≡ old) × Refuses old (TakeBio (Of dev) waits) what

@@ -3,24 +3,24 @@ use Rattle.std.specs.Prelude.{List}
 use Rattle.run_machine.specs.Submissions as submission
 use Rattle.run_machine.specs.Tasks as task
 use Rattle.plain_core.specs.objects.Lists.{lists_of}
-use Rattle.plain_core.specs.declared.steps.task.Want.{Want}
-use Rattle.plain_core.specs.declared.steps.task.Want.TheVariants as want
+use Rattle.plain_core.specs.declared.steps.task.PlainWant.{PlainWant}
+use Rattle.plain_core.specs.declared.steps.task.PlainWant.TheVariants as want
 use Rattle.plain_core.specs.declared.steps.task.DriverAsk.{DriverAsk}
 use Rattle.plain_core.specs.declared.steps.task.DriverAsk.TheVariants as ask
-use Rattle.plain_core.specs.declared.steps.task.Doing.{Doing}
-use Rattle.plain_core.specs.declared.steps.task.Doing.TheVariants as doing
-use Rattle.plain_core.specs.declared.steps.task.Submission.{Submission}
-use Rattle.plain_core.specs.declared.steps.task.Gathered.{Gathered}
-use Rattle.plain_core.specs.declared.steps.task.Gathered.TheVariants as taken
-use Rattle.plain_core.specs.declared.steps.task.Carried.{Carried}
-use Rattle.plain_core.specs.declared.steps.task.Carried.TheVariants as carried
+use Rattle.plain_core.specs.declared.steps.task.PlainDoing.{PlainDoing}
+use Rattle.plain_core.specs.declared.steps.task.PlainDoing.TheVariants as doing
+use Rattle.plain_core.specs.declared.steps.task.PlainSubmission.{PlainSubmission}
+use Rattle.plain_core.specs.declared.steps.task.PlainGathered.{PlainGathered}
+use Rattle.plain_core.specs.declared.steps.task.PlainGathered.TheVariants as taken
+use Rattle.plain_core.specs.declared.steps.task.PlainCarried.{PlainCarried}
+use Rattle.plain_core.specs.declared.steps.task.PlainCarried.TheVariants as carried
 use Rattle.plain_core.specs.declared.steps.task.Writer.{Writer}
 use Rattle.plain_core.specs.declared.steps.task.Rescuer.{Rescuer}
 use Rattle.plain_core.specs.declared.steps.task.Completer.{Completer}
 use Rattle.plain_core.specs.declared.steps.task.Task.{Task}
 use Rattle.plain_core.specs.declared.steps.task.Task.TheVariants as tasks
 
-abbrev pub want_of_plain : Want → submission.Want
+abbrev pub want_of_plain : PlainWant → submission.Want
 want_of_plain (want.Takes waits) = submission.Takes waits
 want_of_plain want.Punts = submission.Punts
 want_of_plain (want.Links hand) = submission.Links hand
@@ -31,20 +31,20 @@ ask_of_plain (ask.ToCut want) = submission.ToCut (want_of_plain want)
 ask_of_plain ask.ToRecord = submission.ToRecord
 ask_of_plain (ask.ToMaster slip) = submission.ToMaster slip
 
-abbrev pub doing_of_plain : Doing → submission.Doing
+abbrev pub doing_of_plain : PlainDoing → submission.Doing
 doing_of_plain doing.Rests = submission.Rests
 doing_of_plain (doing.Drives part ask) = submission.Drives part (ask_of_plain ask)
 doing_of_plain (doing.Copies copying want) = submission.Copies copying.bio copying.master copying.leg (want_of_plain want)
 
-abbrev pub submission_of_plain : Submission → submission.Submission
+abbrev pub submission_of_plain : PlainSubmission → submission.Submission
 submission_of_plain l = record { doing = doing_of_plain l.doing; lists = lists_of l.lists }
 
-abbrev pub gathered_of_plain : Gathered → task.Gathered
+abbrev pub gathered_of_plain : PlainGathered → task.Gathered
 gathered_of_plain taken.NoBio = task.NoBio
 gathered_of_plain (taken.HasBio part) = task.HasBio part
 gathered_of_plain (taken.HasBoth part vector) = task.HasBoth part vector
 
-abbrev pub carried_of_plain : Carried → task.Carried
+abbrev pub carried_of_plain : PlainCarried → task.Carried
 carried_of_plain carried.Empty = task.Empty
 carried_of_plain (carried.Brings part status) = task.Brings part status
 carried_of_plain (carried.Carries writer closed) = task.Carries writer closed

@@ -9,7 +9,7 @@ ghost use Rattle.plain_core.specs.steps.Views.{keeper_of, task_of_plain, writer_
 ghost use Rattle.plain_core.specs.opening.Opening.{IsEntering};
 
 use crate::opening::slots::{enter, open_slots, resting};
-use crate::steps::task::{Carried, Completer, Gathered, Keeper, Rescuer, Task, Writer};
+use crate::steps::task::{Completer, Keeper, PlainCarried, PlainGathered, Rescuer, Task, Writer};
 use std::alloc::{AllocError, Global};
 use task_core as opened;
 use task_core::{Kind, Todos};
@@ -22,7 +22,7 @@ fn writer_seen(alloc: Global, writer: &opened::Writer) -> Result<Writer, AllocEr
     Ok(Writer {
         number: writer.number(),
         todo: Todos::new(Vec::from_slice(alloc, writer.todo().rest())?),
-        taken: Gathered::NoBio,
+        taken: PlainGathered::NoBio,
         submission: resting(alloc),
     })
 }
@@ -48,7 +48,7 @@ fn task_seen(alloc: Global, task: &opened::Task) -> Result<Task, AllocError>
         })),
         Kind::Completer { disk, carried: _ } => Ok(Task::Completer(Completer {
             disk: *disk,
-            carried: Carried::Empty,
+            carried: PlainCarried::Empty,
         })),
         Kind::Keeper(keeper) => Ok(Task::Keeper(keeper_seen(alloc, keeper)?)),
     }

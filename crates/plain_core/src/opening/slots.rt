@@ -7,7 +7,7 @@ ghost use Rattle.plain_core.specs.steps.Views.{submission_of_plain, task_of_plai
 
 use crate::objects::lists::Lists;
 use crate::opening::{MOST_DEVICES, MOST_SLOTS, MOST_WRITERS};
-use crate::steps::task::{Doing, Submission, Task};
+use crate::steps::task::{PlainDoing, PlainSubmission, Task};
 use std::alloc::{AllocError, Global};
 use task_core::TaskId;
 
@@ -39,11 +39,11 @@ pub fn enter(tasks: &mut Vec<Task>, places: &mut Vec<u32>, task: Task) -> Result
 }
 
 /// A submission that has not begun.
-pub fn resting(alloc: Global) -> Submission
+pub fn resting(alloc: Global) -> PlainSubmission
     ensures { submission_of_plain result ≡ rests }
 {
-    Submission {
-        doing: Doing::Rests,
+    PlainSubmission {
+        doing: PlainDoing::Rests,
         lists: Lists::new(alloc),
     }
 }

@@ -12,18 +12,18 @@ use crate::objects::book::NodeOutcome;
 use crate::objects::node::{Closed, Holding};
 use crate::objects::part::{Part, Slip};
 use crate::steps::asks;
-use crate::steps::task::{Carried, Completer};
+use crate::steps::task::{Completer, PlainCarried};
 use stack_base::DevId;
 use task_core::What;
 
 // What a completer carries when a node was told of an end.
-fn after_drop(writer: u32, ended: NodeOutcome) -> Carried
+fn after_drop(writer: u32, ended: NodeOutcome) -> PlainCarried
     ensures { (node : ℕ) → carried_of_plain result ≡ after_drop writer node (ended_of_plain ended) }
 {
     match ended {
-        NodeOutcome::Left => Carried::Empty,
-        NodeOutcome::Up(closed) => Carried::Carries(writer, closed),
-        NodeOutcome::Top(closed) => Carried::Carries(writer, closed),
+        NodeOutcome::Left => PlainCarried::Empty,
+        NodeOutcome::Up(closed) => PlainCarried::Carries(writer, closed),
+        NodeOutcome::Top(closed) => PlainCarried::Carries(writer, closed),
     }
 }
 
@@ -33,13 +33,13 @@ fn pass_on(
     writer: u32,
     closed: &Closed,
     what: &What,
-) -> Result<Carried, CoreFault>
+) -> Result<PlainCarried, CoreFault>
     ensures { PassesOn objects.old writer closed.now what.now result objects.new }
 {
     match closed.parent {
         None => match asks::done(objects, closed.write, closed.status, what) {
             Err(fault) => Err(fault),
-            Ok(()) => Ok(Carried::Empty),
+            Ok(()) => Ok(PlainCarried::Empty),
         },
         Some(parent) => match asks::tell(objects, writer, parent, closed.status, None, what) {
             Err(fault) => Err(fault),
@@ -109,7 +109,7 @@ fn close(
     writer: u32,
     closed: &mut Closed,
     what: &What,
-) -> Result<Option<Carried>, CoreFault>
+) -> Result<Option<PlainCarried>, CoreFault>
     ensures { ClosesOn objects.old writer closed.old what.now result objects.new closed.new }
 {
     match give_first(objects, &mut closed.held, what) {
@@ -127,20 +127,20 @@ fn close(
 fn carry(
     objects: &mut Objects,
     disk: DevId,
-    carried: &mut Carried,
+    carried: &mut PlainCarried,
     what: &What,
 ) -> Result<(), CoreFault>
     ensures { IsCarried objects.old disk (carried_of_plain carried.old) what.now result objects.new (carried_of_plain carried.new) }
 {
     match carried {
-        Carried::Empty => match asks::complete(objects, disk, what) {
+        PlainCarried::Empty => match asks::complete(objects, disk, what) {
             Err(fault) => Err(fault),
             Ok((_, part, status)) => {
-                *carried = Carried::Brings(part, status);
+                *carried = PlainCarried::Brings(part, status);
                 Ok(())
             }
         },
-        Carried::Brings(part, status) => {
+        PlainCarried::Brings(part, status) => {
             let bio = part.bio();
             let told = Some(part.again());
             match asks::tell(objects, bio.writer, bio.node, *status, told, what) {
@@ -151,7 +151,7 @@ fn carry(
                 }
             }
         }
-        Carried::Carries(writer, closed) => match close(objects, *writer, closed, what) {
+        PlainCarried::Carries(writer, closed) => match close(objects, *writer, closed, what) {
             Err(fault) => Err(fault),
             Ok(None) => Ok(()),
             Ok(Some(after)) => {

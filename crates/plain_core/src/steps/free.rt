@@ -9,7 +9,7 @@ ghost use Rattle.plain_core.specs.declared.steps.need.Need.TheVariants as need;
 
 use crate::objects::{Objects, pool_place};
 use crate::steps::need::{Need, task_need};
-use crate::steps::task::{Gathered, Keeper, Task, Writer};
+use crate::steps::task::{Keeper, PlainGathered, Task, Writer};
 
 // Whether the writer's book has a vacant place, and the node at the place of a parent can wait for one more end.
 fn can_chain(objects: &Objects, writer: u32, parent: u32) -> bool
@@ -70,9 +70,9 @@ fn write_is_let(objects: &Objects, writer: &Writer) -> bool
         return true;
     };
     match &writer.taken {
-        Gathered::NoBio => objects.round() >= next.round,
-        Gathered::HasBio(_) => true,
-        Gathered::HasBoth(_, _) => true,
+        PlainGathered::NoBio => objects.round() >= next.round,
+        PlainGathered::HasBio(_) => true,
+        PlainGathered::HasBoth(_, _) => true,
     }
 }
 

@@ -12,8 +12,8 @@ ghost use Rattle.plain_core.specs.steps.Closing.{closed_asks};
 use crate::objects::node::Closed;
 use crate::objects::part::Part;
 use crate::steps::task::{
-    Carried, Completer, Copying, Doing, DriverAsk, Gathered, Keeper, Rescuer, Submission, Task,
-    Want, Writer,
+    Completer, Copying, DriverAsk, Keeper, PlainCarried, PlainDoing, PlainGathered,
+    PlainSubmission, PlainWant, Rescuer, Task, Writer,
 };
 use stack_base::{DevId, PoolId};
 use task_core::{Duty, needs_vector};
@@ -48,17 +48,17 @@ pub enum Need {
 }
 
 // What a driver needs that cuts a bio.
-fn cut_need(part: &Part, want: &Want) -> Need
+fn cut_need(part: &Part, want: &PlainWant) -> Need
     ensures { IsNeedOfDoing result (cuts_for part.now (want_of_plain want.now)) }
 {
     let bio = part.bio();
     match want {
-        Want::Takes(waits) => Need::Spare {
+        PlainWant::Takes(waits) => Need::Spare {
             pool: PoolId::Bios(bio.dev),
             waits: *waits,
         },
-        Want::Punts => Need::Nothing,
-        Want::Links(_) => Need::Chain {
+        PlainWant::Punts => Need::Nothing,
+        PlainWant::Links(_) => Need::Chain {
             writer: bio.writer,
             parent: bio.node,
         },
@@ -85,17 +85,17 @@ fn drive_need(part: &Part, ask: &DriverAsk) -> Need
 }
 
 // What a mirror needs that copies a bio.
-fn copy_need(copying: &Copying, want: &Want) -> Need
+fn copy_need(copying: &Copying, want: &PlainWant) -> Need
     ensures { IsNeedOfDoing result (copies_for copying.now (want_of_plain want.now)) }
 {
     let bio = copying.bio;
     match want {
-        Want::Takes(waits) => Need::Spare {
+        PlainWant::Takes(waits) => Need::Spare {
             pool: PoolId::Bios(bio.dev),
             waits: *waits,
         },
-        Want::Punts => Need::Nothing,
-        Want::Links(_) => Need::Child {
+        PlainWant::Punts => Need::Nothing,
+        PlainWant::Links(_) => Need::Child {
             writer: bio.writer,
             parent: copying.master,
         },
@@ -103,13 +103,13 @@ fn copy_need(copying: &Copying, want: &Want) -> Need
 }
 
 // What a submission needs.
-fn submission_need(submission: &Submission) -> Need
+fn submission_need(submission: &PlainSubmission) -> Need
     ensures { (s : Setup) → result ≡ need_of (submission_request s (doing_of_plain submission.now.doing) (lists_of submission.now.lists)) }
 {
     match &submission.doing {
-        Doing::Rests => Need::Never,
-        Doing::Drives(part, ask) => drive_need(part, ask),
-        Doing::Copies(copying, want) => copy_need(copying, want),
+        PlainDoing::Rests => Need::Never,
+        PlainDoing::Drives(part, ask) => drive_need(part, ask),
+        PlainDoing::Copies(copying, want) => copy_need(copying, want),
     }
 }
 
@@ -122,11 +122,11 @@ fn write_need(writer: &Writer) -> Need
         return Need::Never;
     };
     match &writer.taken {
-        Gathered::NoBio => Need::Spare {
+        PlainGathered::NoBio => Need::Spare {
             pool: PoolId::FsBios,
             waits: true,
         },
-        Gathered::HasBio(_) => {
+        PlainGathered::HasBio(_) => {
             if needs_vector(&next.write) {
                 Need::Spare {
                     pool: PoolId::FsVecs,
@@ -136,7 +136,7 @@ fn write_need(writer: &Writer) -> Need
                 Need::Place(writer.number)
             }
         }
-        Gathered::HasBoth(_, _) => Need::Place(writer.number),
+        PlainGathered::HasBoth(_, _) => Need::Place(writer.number),
     }
 }
 
@@ -197,15 +197,15 @@ fn completer_need(completer: &Completer) -> Need
     ensures { IsNeedOfTask result (completer_of completer.now) }
 {
     match &completer.carried {
-        Carried::Empty => Need::Pending(completer.disk),
-        Carried::Brings(part, _) => {
+        PlainCarried::Empty => Need::Pending(completer.disk),
+        PlainCarried::Brings(part, _) => {
             let bio = part.bio();
             Need::End {
                 writer: bio.writer,
                 place: bio.node,
             }
         }
-        Carried::Carries(writer, closed) => closed_need(*writer, closed),
+        PlainCarried::Carries(writer, closed) => closed_need(*writer, closed),
     }
 }
 

@@ -20,7 +20,7 @@ use crate::objects::part::Part;
 use crate::steps::submission::cut::cut_step;
 use crate::steps::submission::mirror::{begin_copy, copy_step};
 use crate::steps::submission::take::take_slip;
-use crate::steps::task::{Doing, DriverAsk, Submission, Want};
+use crate::steps::task::{DriverAsk, PlainDoing, PlainSubmission, PlainWant};
 use bio_records::Bio;
 use stack_base::DevId;
 use task_core::{Manner, Routes, What};
@@ -44,35 +44,35 @@ fn first_ask(routes: &Routes, dev: DevId, lists: &Lists) -> DriverAsk
 {
     match routes.manner(dev) {
         Manner::Keeps => DriverAsk::ToPush,
-        Manner::Cuts => DriverAsk::ToCut(Want::Takes(routes.waits_first(dev, lists))),
+        Manner::Cuts => DriverAsk::ToCut(PlainWant::Takes(routes.waits_first(dev, lists))),
         Manner::Copies => DriverAsk::ToRecord,
     }
 }
 
 // A bio is served next.
-pub fn drive(routes: &Routes, part: Part, submission: &mut Submission)
+pub fn drive(routes: &Routes, part: Part, submission: &mut PlainSubmission)
     requires { IsWithinDevice routes.now.stack part.bio }
     ensures { submission_of_plain submission.new ≡ landed_submission (routing_setup routes.now) (lists_of submission.old.lists) part }
 {
     let at = routes.land(part.bio());
     let ask = first_ask(routes, at.dev, &submission.lists);
-    submission.doing = Doing::Drives(part.with(at, part.pad()), ask);
+    submission.doing = PlainDoing::Drives(part.with(at, part.pad()), ask);
 }
 
 // The driver of this device has returned.
-pub(crate) fn go_on(routes: &Routes, dev: DevId, submission: &mut Submission)
+pub(crate) fn go_on(routes: &Routes, dev: DevId, submission: &mut PlainSubmission)
     requires room { ListsHaveCapacity 0 submission.old.lists }
     requires within { ListsAreWithin routes.now.stack (lists_of submission.old.lists) }
     ensures { submission_of_plain submission.new ≡ goes_on (routing_setup routes.now) dev (lists_of submission.old.lists) }
 {
     match submission.lists.next(dev) {
-        None => submission.doing = Doing::Rests,
+        None => submission.doing = PlainDoing::Rests,
         Some(part) => drive(routes, part, submission),
     }
 }
 
 // A driver goes on with what it does, and wants this.
-pub(crate) fn stay(want: &mut Want, next: Want) -> Continuation
+pub(crate) fn stay(want: &mut PlainWant, next: PlainWant) -> Continuation
     ensures want { want_of_plain want.new ≡ want_of_plain next }
     ensures stays { result ≡ then.Stays }
 {
@@ -121,7 +121,7 @@ fn drive_step(
 }
 
 // What comes behind an answer is done.
-fn turn(routes: &Routes, next: Continuation, submission: &mut Submission)
+fn turn(routes: &Routes, next: Continuation, submission: &mut PlainSubmission)
     requires { CanTurn routes.now.stack submission.old.lists next }
     ensures { submission_of_plain submission.new ≡ turned (routing_setup routes.now) (doing_of_plain submission.old.doing) (lists_of submission.old.lists) next }
 {
@@ -136,7 +136,7 @@ fn turn(routes: &Routes, next: Continuation, submission: &mut Submission)
 fn answer(
     routes: &Routes,
     objects: &mut Objects,
-    doing: &mut Doing,
+    doing: &mut PlainDoing,
     lists: &mut Lists,
     what: &What,
 ) -> Result<Continuation, CoreFault>
@@ -147,9 +147,9 @@ fn answer(
     ensures turns { IfOk result (CanTurn routes.now.stack lists.new) }
 {
     match doing {
-        Doing::Rests => Err(CoreFault::NotEnabled),
-        Doing::Drives(part, ask) => drive_step(routes, objects, part, ask, lists, what),
-        Doing::Copies(copying, want) => copy_step(routes, objects, copying, want, lists, what),
+        PlainDoing::Rests => Err(CoreFault::NotEnabled),
+        PlainDoing::Drives(part, ask) => drive_step(routes, objects, part, ask, lists, what),
+        PlainDoing::Copies(copying, want) => copy_step(routes, objects, copying, want, lists, what),
     }
 }
 
@@ -160,7 +160,7 @@ fn answer(
 pub fn submission_step(
     routes: &Routes,
     objects: &mut Objects,
-    submission: &mut Submission,
+    submission: &mut PlainSubmission,
     what: &What,
 ) -> Result<(), CoreFault>
     requires stack { objects.old.stack ≡ routes.now.stack }

@@ -17,7 +17,7 @@ use task_core::{Duty, TaskId, Todos, duty_at};
 
 /// What a driver does for a bio of its device's set.
 #[derive(Drop)]
-pub enum Want {
+pub enum PlainWant {
     /// It takes one, waiting or not.
     Takes(bool),
     /// An attempt that did not wait missed: the bios of the set that wait go to the rescuer.
@@ -30,19 +30,19 @@ pub enum Want {
 #[derive(Drop)]
 pub enum DriverAsk {
     ToPush,
-    ToCut(Want),
+    ToCut(PlainWant),
     ToRecord,
     ToMaster(Slip),
 }
 
 /// What a submission does.
 #[derive(Drop)]
-pub enum Doing {
+pub enum PlainDoing {
     Rests,
     /// The driver of the bio's device has it.
     Drives(Part, DriverAsk),
     /// A mirror copies a bio, which waits with its parent.
-    Copies(Copying, Want),
+    Copies(Copying, PlainWant),
 }
 
 /// The bio that a mirror copies, the place of its master, and the leg that is made next.
@@ -55,48 +55,51 @@ pub struct Copying {
 
 /// A submission.
 #[derive(Drop)]
-pub struct Submission {
-    pub doing: Doing,
+pub struct PlainSubmission {
+    pub doing: PlainDoing,
     pub lists: Lists,
 }
 
-impl Submission {
+impl PlainSubmission {
     /// Whether no submission is under way.
     pub fn rests(&self) -> bool
         ensures { MatchBool result (doing_of_plain self.now.doing ≡ Rests) (IsSubmitting (doing_of_plain self.now.doing)) }
     {
         match self.doing {
-            Doing::Rests => true,
-            Doing::Drives(_, _) => false,
-            Doing::Copies(_, _) => false,
+            PlainDoing::Rests => true,
+            PlainDoing::Drives(_, _) => false,
+            PlainDoing::Copies(_, _) => false,
         }
     }
 }
 
 /// What a writer has taken for its next write.
 #[derive(Drop)]
-pub enum Gathered {
+pub enum PlainGathered {
     NoBio,
     HasBio(Hand),
     HasBoth(Hand, Vector),
 }
 
-impl Gathered {
+impl PlainGathered {
     /// The same once more.
-    pub fn again(&self) -> Gathered
+    pub fn again(&self) -> PlainGathered
         ensures { gathered_of_plain result ≡ gathered_of_plain self.now }
     {
         match self {
-            Gathered::NoBio => Gathered::NoBio,
-            Gathered::HasBio(hand) => Gathered::HasBio(hand.again()),
-            Gathered::HasBoth(hand, vector) => Gathered::HasBoth(hand.again(), vector.again()),
+            PlainGathered::NoBio => PlainGathered::NoBio,
+            PlainGathered::HasBio(hand) => PlainGathered::HasBio(hand.again()),
+            PlainGathered::HasBoth(hand, vector) => PlainGathered::HasBoth(
+                hand.again(),
+                vector.again(),
+            ),
         }
     }
 }
 
 /// What a completer carries.
 #[derive(Drop)]
-pub enum Carried {
+pub enum PlainCarried {
     Empty,
     Brings(Part, Status),
     Carries(u32, Closed),
@@ -107,22 +110,22 @@ pub enum Carried {
 pub struct Writer {
     pub number: u32,
     pub todo: Todos,
-    pub taken: Gathered,
-    pub submission: Submission,
+    pub taken: PlainGathered,
+    pub submission: PlainSubmission,
 }
 
 /// The rescuer of a device's set.
 #[derive(Drop)]
 pub struct Rescuer {
     pub dev: DevId,
-    pub submission: Submission,
+    pub submission: PlainSubmission,
 }
 
 /// The completer of a disk.
 #[derive(Drop)]
 pub struct Completer {
     pub disk: DevId,
-    pub carried: Carried,
+    pub carried: PlainCarried,
 }
 
 /// The keeper of the rounds, seen as the duties that it has still to do: each change of a reserve is of a pool that a stack can have.

@@ -15,14 +15,14 @@ use crate::objects::part::{Data, Hand, Part, Vector};
 use crate::steps::asks;
 use crate::steps::submission::take::take_part;
 use crate::steps::submission::{drive, submission_step};
-use crate::steps::task::{Gathered, Submission, Writer};
+use crate::steps::task::{PlainGathered, PlainSubmission, Writer};
 use bio_records::Pad;
 use layout_model::Write;
 use stack_base::{PoolId, SetId};
 use task_core::{Got, Routes, Todo, What, first_bio, needs_vector};
 
 // A bio is submitted.
-pub(crate) fn start(routes: &Routes, part: Part, submission: &mut Submission)
+pub(crate) fn start(routes: &Routes, part: Part, submission: &mut PlainSubmission)
     requires { IsWithinDevice routes.now.stack part.bio }
     ensures { submission_of_plain submission.new ≡ settled (routing_setup routes.now) (part ∷ []) }
 {
@@ -59,7 +59,7 @@ fn begin(routes: &Routes, writer: &mut Writer, part: Part)
     ensures { writer_of writer.new ≡ begun_with routes.now writer.old part }
 {
     start(routes, part, &mut writer.submission);
-    writer.taken = Gathered::NoBio;
+    writer.taken = PlainGathered::NoBio;
     writer.todo.advance();
 }
 
@@ -81,7 +81,7 @@ fn take_step(
         Err(fault) => Err(fault),
         Ok(None) => Ok(()),
         Ok(Some(hand)) => {
-            writer.taken = Gathered::HasBio(hand);
+            writer.taken = PlainGathered::HasBio(hand);
             Ok(())
         }
     }
@@ -102,7 +102,7 @@ fn vector_step(
         Err(fault) => Err(fault),
         Ok(None) => Ok(()),
         Ok(Some(vector)) => {
-            writer.taken = Gathered::HasBoth(hand.again(), vector);
+            writer.taken = PlainGathered::HasBoth(hand.again(), vector);
             Ok(())
         }
     }
@@ -176,15 +176,15 @@ fn write_step(
         return Err(CoreFault::NotEnabled);
     };
     match writer.taken.again() {
-        Gathered::NoBio => take_step(objects, writer, next.round, what),
-        Gathered::HasBio(hand) => {
+        PlainGathered::NoBio => take_step(objects, writer, next.round, what),
+        PlainGathered::HasBio(hand) => {
             if needs_vector(&next.write) {
                 vector_step(objects, writer, &hand, what)
             } else {
                 short_step(routes, objects, writer, &next, &hand, what)
             }
         }
-        Gathered::HasBoth(hand, vector) => {
+        PlainGathered::HasBoth(hand, vector) => {
             long_step(routes, objects, writer, &next, &hand, &vector, what)
         }
     }

@@ -13,7 +13,7 @@ use crate::objects::lists::Lists;
 use crate::objects::part::{Hand, Part};
 use crate::steps::submission::take::take_for;
 use crate::steps::submission::{Continuation, stay};
-use crate::steps::task::Want;
+use crate::steps::task::PlainWant;
 use bio_records::{Bio, Pad, advance};
 use stack_base::{Range, SetId};
 use task_core::{Routes, What};
@@ -51,7 +51,7 @@ pub(crate) fn cut_step(
     routes: &Routes,
     objects: &mut Objects,
     part: &Part,
-    want: &mut Want,
+    want: &mut PlainWant,
     lists: &mut Lists,
     what: &What,
 ) -> Result<Continuation, CoreFault>
@@ -64,15 +64,15 @@ pub(crate) fn cut_step(
     routes.known();
     let bio = part.bio();
     match want {
-        Want::Takes(waits) => match take_for(objects, bio.dev, *waits, what) {
+        PlainWant::Takes(waits) => match take_for(objects, bio.dev, *waits, what) {
             Err(fault) => Err(fault),
             Ok(next) => Ok(stay(want, next)),
         },
-        Want::Punts => match objects.punt(bio.dev, lists, what) {
+        PlainWant::Punts => match objects.punt(bio.dev, lists, what) {
             Err(fault) => Err(fault),
-            Ok(()) => Ok(stay(want, Want::Takes(true))),
+            Ok(()) => Ok(stay(want, PlainWant::Takes(true))),
         },
-        Want::Links(hand) => match objects.open_chain(bio.writer, bio.node, lists, what) {
+        PlainWant::Links(hand) => match objects.open_chain(bio.writer, bio.node, lists, what) {
             Err(fault) => Err(fault),
             Ok(node) => {
                 cut(routes, part, hand, node, lists);

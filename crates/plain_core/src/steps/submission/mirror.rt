@@ -15,7 +15,7 @@ use crate::objects::lists::Lists;
 use crate::objects::part::Hand;
 use crate::steps::submission::take::take_for;
 use crate::steps::submission::{Continuation, go_on, stay};
-use crate::steps::task::{Copying, Doing, Submission, Want};
+use crate::steps::task::{Copying, PlainDoing, PlainSubmission, PlainWant};
 use bio_records::Bio;
 use task_core::{Routes, What};
 
@@ -34,7 +34,12 @@ fn copy(routes: &Routes, copying: &Copying, hand: &Hand, node: u32, lists: &mut 
 }
 
 // The next leg of a mirror's bio is to be made, or what waits behind the last one.
-fn copy_on(routes: &Routes, copying: &mut Copying, want: &mut Want, lists: &Lists) -> Continuation
+fn copy_on(
+    routes: &Routes,
+    copying: &mut Copying,
+    want: &mut PlainWant,
+    lists: &Lists,
+) -> Continuation
     requires room { ListsHaveCapacity 0 lists.now }
     requires leg { copying.old.leg < legs_of (tree routes.now.stack copying.old.bio.dev.0) }
     requires device { copying.old.bio.dev.0 < length routes.now.stack.devices.items }
@@ -49,7 +54,7 @@ fn copy_on(routes: &Routes, copying: &mut Copying, want: &mut Want, lists: &List
     if copying.leg == legs {
         return Continuation::Returns(dev);
     }
-    *want = Want::Takes(routes.waits_first(dev, lists));
+    *want = PlainWant::Takes(routes.waits_first(dev, lists));
     Continuation::Stays
 }
 
@@ -58,7 +63,7 @@ pub(crate) fn copy_step(
     routes: &Routes,
     objects: &mut Objects,
     copying: &mut Copying,
-    want: &mut Want,
+    want: &mut PlainWant,
     lists: &mut Lists,
     what: &What,
 ) -> Result<Continuation, CoreFault>
@@ -71,15 +76,15 @@ pub(crate) fn copy_step(
     routes.known();
     let dev = copying.bio.dev;
     match want {
-        Want::Takes(waits) => match take_for(objects, dev, *waits, what) {
+        PlainWant::Takes(waits) => match take_for(objects, dev, *waits, what) {
             Err(fault) => Err(fault),
             Ok(next) => Ok(stay(want, next)),
         },
-        Want::Punts => match objects.punt(dev, lists, what) {
+        PlainWant::Punts => match objects.punt(dev, lists, what) {
             Err(fault) => Err(fault),
-            Ok(()) => Ok(stay(want, Want::Takes(true))),
+            Ok(()) => Ok(stay(want, PlainWant::Takes(true))),
         },
-        Want::Links(hand) => match objects.open_leg(
+        PlainWant::Links(hand) => match objects.open_leg(
             copying.bio.writer,
             copying.master,
             lists,
@@ -95,7 +100,7 @@ pub(crate) fn copy_step(
 }
 
 // A mirror begins to copy a bio, or what waits behind it is next where it has no legs.
-pub(crate) fn begin_copy(routes: &Routes, bio: Bio, master: u32, submission: &mut Submission)
+pub(crate) fn begin_copy(routes: &Routes, bio: Bio, master: u32, submission: &mut PlainSubmission)
     requires room { ListsHaveCapacity 0 submission.old.lists }
     requires device { bio.dev.0 < length routes.now.stack.devices.items }
     requires lists { ListsAreWithin routes.now.stack (lists_of submission.old.lists) }
@@ -110,5 +115,5 @@ pub(crate) fn begin_copy(routes: &Routes, bio: Bio, master: u32, submission: &mu
         master,
         leg: 0,
     };
-    submission.doing = Doing::Copies(copying, Want::Takes(waits));
+    submission.doing = PlainDoing::Copies(copying, PlainWant::Takes(waits));
 }

@@ -9,7 +9,7 @@ ghost use Rattle.plain_core.specs.steps.Takes.{TakesPart, TakesSlip, TakesWant};
 use crate::fault::CoreFault;
 use crate::objects::Objects;
 use crate::objects::part::{Hand, Slip};
-use crate::steps::task::Want;
+use crate::steps::task::PlainWant;
 use bioset_pools::bios_of;
 use stack_base::{DevId, PoolId, SetId};
 use task_core::{Got, What};
@@ -55,13 +55,13 @@ pub(crate) fn take_slip(
 }
 
 // Behind a miss.
-fn after_miss(waits: bool) -> Want
+fn after_miss(waits: bool) -> PlainWant
     ensures { want_of_plain result ≡ after_miss waits }
 {
     if waits {
-        Want::Takes(true)
+        PlainWant::Takes(true)
     } else {
-        Want::Punts
+        PlainWant::Punts
     }
 }
 
@@ -71,13 +71,13 @@ pub(crate) fn take_for(
     dev: DevId,
     waits: bool,
     what: &What,
-) -> Result<Want, CoreFault>
+) -> Result<PlainWant, CoreFault>
     requires { dev.0 < 32 }
     ensures { TakesWant objects.old dev waits what.now result objects.new }
 {
     match take_part(objects, SetId::Of(dev), waits, what) {
         Err(fault) => Err(fault),
         Ok(None) => Ok(after_miss(waits)),
-        Ok(Some(hand)) => Ok(Want::Links(hand)),
+        Ok(Some(hand)) => Ok(PlainWant::Links(hand)),
     }
 }

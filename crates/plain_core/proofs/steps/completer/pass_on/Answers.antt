@@ -1,6 +1,6 @@
 use Rattle.std.proofs.Common.{Ok, subst}
 use Rattle.bio_books.specs.Drops.{Closed}
-use Rattle.plain_core.specs.declared.steps.task.Carried.TheVariants as carried
+use Rattle.plain_core.specs.declared.steps.task.PlainCarried.TheVariants as carried
 use Rattle.plain_core.specs.steps.Closing.{PassesOn}
 use Rattle.plain_core.proofs.step_lemmas.Tasks.{passed_done, passed_told}
 use Rattle.plain_core.proofs.steps.completer.pass_on.Goals as goal
