@@ -62,14 +62,14 @@ pub record SubmissionDoes {S : Type 0} (words : Ghosts S) (routing : Routing) (t
   pub held : words.holds new
   pub same : words.stage new ≡ words.stage old
 
+-- and one that does so whatever is known of the devices
+abbrev pub SubmissionAlwaysDoes : {S : Type 0} → Ghosts S → TaskId → Submission → S → Submission → S → Step → Type 0
+SubmissionAlwaysDoes words task submission old next new step = (routing : Routing) → SubmissionDoes words routing task submission old next new step
+
 -- the same of what was done and of the lists behind it
 abbrev pub Does : {S : Type 0} → Ghosts S → Routing → TaskId → Doing → TaskLists → S → RealDoing × Step → TaskLists → S → Type 0
 Does words routing task doing lists old done after new =
     SubmissionDoes words routing task (record { doing = doing; lists = lists }) old (submission_of done.0 after) new done.1
-
--- and of a step that does so whatever is known of the devices
-abbrev pub AlwaysDoes : {S : Type 0} → Ghosts S → TaskId → Doing → TaskLists → S → RealDoing × Step → TaskLists → S → Type 0
-AlwaysDoes words task doing lists old done after new = (routing : Routing) → Does words routing task doing lists old done after new
 
 -- A call of these objects came to this. They hold together behind it too, and there are the same of them.
 pub record CallDoes {S : Type 0} (words : Ghosts S) (old : S) (outcome : Type 0) (new : S) : Type 0 where

@@ -9,6 +9,7 @@ pub mod CarriedViews
 pub mod KeeperViews
 pub mod SubmissionViews
 pub mod Answers
+pub mod DriverSteps
 pub mod WriterViews
 pub mod RescuerViews
 pub mod TaskSteps

@@ -1,5 +1,5 @@
 -- A step of a task over any objects: what it asks of them, and what it does.
-use Rattle.std.specs.Prelude.{◌≡◌, ℕ, ◌∷◌, List, Option}
+use Rattle.std.specs.Prelude.{◌≡◌, ℕ, ◌∷◌, List, Option, None, Some}
 use Rattle.stack_base.specs.declared.ids.DevId.{DevId}
 use Rattle.stack_base.specs.declared.ids.Status.{Status}
 use Rattle.bio_records.specs.declared.bio.Pad.{Pad}
@@ -12,7 +12,8 @@ use Rattle.task_steps.specs.declared.step.Step.{Step}
 use Rattle.run_machine.specs.Requests.{Drop, DroppedTo}
 use Rattle.run_machine.specs.Scene.{Setup}
 use Rattle.run_machine.specs.Submissions.{Submission}
-use Rattle.run_machine.specs.Tasks.{TaskState, Carried, Completer, Duty, Keeper, Keeps}
+use Rattle.run_machine.specs.Tasks.{TaskState, Carried, Completer, Duty, Keeper, Keeping, Keeps}
+use Rattle.task_steps.specs.CarriedViews.{given_back}
 use Rattle.task_steps.specs.Homes.{IsSubmissionOf, IsTaskOf}
 use Rattle.task_steps.specs.KeeperViews.{keeping_of}
 use Rattle.task_steps.specs.Routed.{Routing, routing_setup}
@@ -46,6 +47,10 @@ WriterDoes words routing writer old next new step = TaskDoes words routing (writ
 abbrev pub RescuerDoes : {S : Type 0} → Ghosts S → Routing → RescuerState → S → RescuerState → S → Step → Type 0
 RescuerDoes words routing rescuer old next new step = TaskDoes words routing (rescuer_task rescuer) old (rescuer_task next) new step
 
+-- a step of a writer, whatever is known of the devices
+abbrev pub WriterTurns : {S : Type 0} → Ghosts S → WriterState → S → WriterState → S → Step → Type 0
+WriterTurns words writer old next new step = (setup : Setup) → TaskTurns words setup (writer_task writer) old (writer_task next) new step
+
 -- a task that has nothing to look at any more has asked for what it asks for next, whatever is known of the devices
 pub record TaskAsks {S : Type 0} (words : Ghosts S) (task : TaskState) (old : S) (next : TaskState) (new : S) (step : Step) : Type 0 where
   pub asks : (setup : Setup) → Asks words.serves (Owes (words.stage old)) setup task old next new step
@@ -56,10 +61,21 @@ pub record TaskAsks {S : Type 0} (words : Ghosts S) (task : TaskState) (old : S)
 abbrev pub CompleterDoes : {S : Type 0} → Ghosts S → DevId → Carried → S → Carried × Step → S → Type 0
 CompleterDoes words disk carried old done new = TaskDoes words (words.stage old).routing (Completer disk carried) old (Completer disk done.0) new done.1
 
+-- a step of one that carries what is left of a closed node: it tells the node's parent, or tells the write done
+abbrev pub TellsParent : {S : Type 0} → Ghosts S → DevId → ℕ → ℕ → ℕ → Status → S → Carried × Step → S → Type 0
+TellsParent words disk writer parent write status old done new = CompleterDoes words disk (given_back writer (Some parent) write status) old done new
+
+abbrev pub TellsDone : {S : Type 0} → Ghosts S → DevId → ℕ → ℕ → Status → S → Carried × Step → S → Type 0
+TellsDone words disk writer write status old done new = CompleterDoes words disk (given_back writer None write status) old done new
+
 -- the step of a completer that told a node of an end: the event of that, or that it broke off, as the book answered
 abbrev pub TellsDrop : DevId → ℕ → ℕ → Status → DropOutcome → Step → Type 0
 TellsDrop disk writer node status ended step =
     (part : Option (Item Pad)) → (s : Setup) → step ≡ step_of s (id.Completer disk) (Drop writer node status part) (DroppedTo ended)
+
+-- a step of the keeper
+abbrev pub KeeperDoes : {S : Type 0} → Ghosts S → Keeping → S → Keeping → S → Step → Type 0
+KeeperDoes words keeping old next new step = TaskDoes words (words.stage old).routing (Keeper keeping) old (Keeper next) new step
 
 -- the keeper has asked for what this duty is, whatever duties there are behind it
 abbrev pub KeeperAsks : {S : Type 0} → Ghosts S → Duty → S → Option Breach × Step → S → Type 0

@@ -6,7 +6,7 @@ ghost use Rattle.task_steps.specs.declared.step.Step.TheVariants as Step';
 ghost use Rattle.run_machine.specs.Requests.{NextRound, Resize};
 ghost use Rattle.run_machine.specs.Tasks.{Duty as DutyState, Keeper as Keeping', Keeps, Resizes, Starts, duty_request, later_of};
 ghost use Rattle.task_steps.specs.KeeperViews.{duty_of, keeping_of, IsDutyAt};
-ghost use Rattle.task_steps.specs.TaskSteps.{KeeperAsks, TaskDoes, HoldsTask};
+ghost use Rattle.task_steps.specs.TaskSteps.{KeeperAsks, KeeperDoes, HoldsTask};
 ghost use Rattle.task_steps.specs.Answers.{Ready};
 
 use crate::objects::{Objects, Unmade};
@@ -143,7 +143,7 @@ impl Keeper {
     /// A step of the keeper: it looks at the number of unfinished writes, and does what is next where none is left of the rounds so far.
     pub fn step<O: Objects>(&mut self, objects: &mut O) -> Step
         requires ready { HoldsTask O.Objects objects.old (Keeping' self.old) }
-        ensures does { TaskDoes O.Objects (O.stage objects.old).routing (Keeping' self.old) objects.old (Keeping' self.new) objects.new result }
+        ensures does { KeeperDoes O.Objects self.old objects.old self.new objects.new result }
     {
         if let Some(breach) = self.broken {
             return Step::Broken(breach);

@@ -4,9 +4,8 @@ ghost use Rattle.stack_base.specs.declared.ids.SetId.TheVariants.{Fs};
 ghost use Rattle.run_machine.specs.Requests.{TakeBio, LookRound};
 ghost use Rattle.run_machine.specs.Submissions.{Rests, rests};
 ghost use Rattle.run_machine.specs.Tasks.{Todo as TodoState, NoBio};
-ghost use Rattle.run_machine.specs.Scene.{Setup};
 ghost use Rattle.task_steps.specs.WriterViews.{writer_task, tried, IsNextAlone, BeginsWith, IsAttemptAtBioAlone, is_taken, writer_next};
-ghost use Rattle.task_steps.specs.TaskSteps.{TaskAsks, HoldsTask, TaskTurns, WriterDoes};
+ghost use Rattle.task_steps.specs.TaskSteps.{TaskAsks, HoldsTask, WriterDoes, WriterTurns};
 ghost use Rattle.task_steps.specs.Answers.{Ready};
 
 pub(crate) mod begin;
@@ -139,7 +138,7 @@ impl Writer {
         requires rests { self.old.submission.doing ≡ Rests }
         requires first { BeginsWith self.old.todo todo.now }
         requires none { is_taken self.old.taken ≡ false }
-        ensures does { (setup : Setup) → TaskTurns O.Objects setup (writer_task self.old) objects.old (writer_task self.new) objects.new result }
+        ensures does { WriterTurns O.Objects self.old objects.old self.new objects.new result }
     {
         let round = objects.round();
         if round < todo.round {

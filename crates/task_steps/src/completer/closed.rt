@@ -1,7 +1,7 @@
 //! What a completer does with a node that has closed.
 ghost use Rattle.std.specs.Prelude.{◌≡◌, true, None, Some};
 ghost use Rattle.run_machine.specs.Tasks.{Completer as Completes, Empty};
-ghost use Rattle.task_steps.specs.TaskSteps.{CompleterDoes, HoldsTask};
+ghost use Rattle.task_steps.specs.TaskSteps.{CompleterDoes, HoldsTask, TellsDone};
 ghost use Rattle.task_steps.specs.CarriedViews.{given_back, is_carrying, GaveBack, IsEmptyNode};
 
 use crate::completer::gives::{gives, pool_of};
@@ -24,7 +24,7 @@ impl Carried {
     ) -> Step
         requires empty { self.old ≡ Empty }
         requires ready { HoldsTask O.Objects objects.old (Completes disk (given_back writer None write status)) }
-        ensures does { CompleterDoes O.Objects disk (given_back writer None write status) objects.old (self.new, result) objects.new }
+        ensures does { TellsDone O.Objects disk writer write status objects.old (self.new, result) objects.new }
     {
         match objects.done(write, status) {
             Ok(()) => {

@@ -9,7 +9,7 @@ ghost use Rattle.run_machine.specs.declared.event.What.TheVariants as What';
 ghost use Rattle.task_steps.specs.declared.step.Step.TheVariants as Step';
 ghost use Rattle.run_machine.specs.Kept.{bio_kept};
 ghost use Rattle.run_machine.specs.Tasks.{Brings, Completer as Completes, Empty, Fails, after_drop};
-ghost use Rattle.task_steps.specs.TaskSteps.{CompleterDoes, HoldsTask, TellsDrop};
+ghost use Rattle.task_steps.specs.TaskSteps.{CompleterDoes, HoldsTask, TellsDrop, TellsParent};
 ghost use Rattle.task_steps.specs.CarriedViews.{given_back};
 
 use crate::completer::{Carried, nothing_held};
@@ -112,7 +112,7 @@ impl Carried {
     ) -> Step
         requires empty { self.old ≡ Empty }
         requires ready { HoldsTask O.Objects objects.old (Completes disk (given_back writer (Some parent) write status)) }
-        ensures does { CompleterDoes O.Objects disk (given_back writer (Some parent) write status) objects.old (self.new, result) objects.new }
+        ensures does { TellsParent O.Objects disk writer parent write status objects.old (self.new, result) objects.new }
     {
         match objects.drop_one(writer, parent, status, None) {
             Ok(dropped) => self.told(disk, writer, parent, status, dropped),

@@ -1,6 +1,5 @@
 //! The drivers of devices.
 ghost use Rattle.std.specs.Prelude.{◌≡◌, ◌+◌, ◌<◌, ◌≤◌, length, slice_get, Some};
-ghost use Rattle.stack_base.specs.declared.stack.Device.{Device as Devices};
 ghost use Rattle.stack_base.specs.Mapping.{smallest};
 ghost use Rattle.stack_base.specs.Stack.{IsStack};
 ghost use Rattle.task_steps.specs.Routed.{IsDriver, map_of, MapHas, IsFirstPiece, manner_by, legs_by, IsLegBy};
@@ -119,7 +118,7 @@ pub(crate) fn members_of(device: &Device) -> ArrayVec<DevId, 8>
 pub(crate) fn driver_of(stack: &Stack, dev: DevId) -> Driver
     requires stack { IsStack stack.now }
     requires device { dev.0 < length stack.now.devices.items }
-    ensures { (device : Devices) → slice_get stack.now.devices.items dev.0 ≡ Some device → IsDriver stack.now device result }
+    ensures { (device : _) → slice_get stack.now.devices.items dev.0 ≡ Some device → IsDriver stack.now device result }
 {
     let device = stack.device(dev);
     match device.kind {

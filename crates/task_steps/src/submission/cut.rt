@@ -4,12 +4,13 @@ ghost use Rattle.bio_records.specs.Items.{item_of, IsAlone};
 ghost use Rattle.bio_split.specs.Split.{split_rest};
 ghost use Rattle.run_machine.specs.Requests.{Link as LinkOf, Chain};
 ghost use Rattle.task_steps.specs.declared.submission.Doing.TheVariants as doing';
-ghost use Rattle.task_steps.specs.declared.submission.Want.TheVariants.{Punts, Links};
+ghost use Rattle.task_steps.specs.declared.submission.Want.TheVariants.{Punts};
 ghost use Rattle.run_machine.specs.Submissions.{is_cut};
 ghost use Rattle.task_steps.specs.Within.{IsWithinDevice, ListsAreWithin};
 ghost use Rattle.task_steps.specs.Routed.{cut_front, routed_tree};
-ghost use Rattle.task_steps.specs.SubmissionViews.{cutting, IsDoingAlone};
-ghost use Rattle.task_steps.specs.Answers.{punt_request, Ready, Does, AlwaysDoes};
+ghost use Rattle.task_steps.specs.SubmissionViews.{IsDoingAlone};
+ghost use Rattle.task_steps.specs.Answers.{punt_request, Ready};
+ghost use Rattle.task_steps.specs.DriverSteps.{CutAlwaysDoes, CutsOff};
 
 use crate::calls::{open_node, punt_all};
 use crate::objects::{Ask, Objects};
@@ -34,7 +35,7 @@ pub(crate) fn punt_to_cut<O: Objects>(
     requires ready { Ready O.Objects objects.old (punt_request (item_of bio).bio.dev lists.old) }
     requires alone { IsAlone bio }
     requires rests { at.old ≡ doing'.Rests }
-    ensures does { AlwaysDoes O.Objects task (cutting bio Punts) lists.old objects.old (at.new, result) lists.new objects.new }
+    ensures does { CutAlwaysDoes O.Objects task bio Punts lists.old objects.old (at.new, result) lists.new objects.new }
     ensures alone { IsDoingAlone at.new }
 {
     match punt_all(objects, task, bio.body.bio.dev, lists) {
@@ -81,7 +82,7 @@ pub(crate) fn chain<O: Objects>(
     requires within { IsWithinDevice routes.now.stack (item_of bio).bio }
     requires cut { is_cut (routed_tree routes.now (item_of bio).bio.dev) (item_of bio).bio.range ≡ true }
     requires lists { ListsAreWithin routes.now.stack lists.old }
-    ensures does { Does O.Objects routes.now task (cutting bio (Links hand)) lists.old objects.old (at.new, result) lists.new objects.new }
+    ensures does { CutsOff O.Objects routes.now task bio hand lists.old objects.old (at.new, result) lists.new objects.new }
     ensures alone { IsDoingAlone at.new }
 {
     let whole = bio.body.bio;

@@ -5,8 +5,9 @@ ghost use Rattle.run_machine.specs.Submissions.{Rests, Drives, goes_on, is_cut};
 ghost use Rattle.task_steps.specs.declared.submission.Doing.TheVariants as doing';
 ghost use Rattle.task_steps.specs.Within.{IsWithinDevice, ListsAreWithin, DoingFits, SubmissionFits};
 ghost use Rattle.task_steps.specs.Routed.{routing_setup, routed_tree};
-ghost use Rattle.task_steps.specs.SubmissionViews.{asking, cutting, copying, attempt_of, ask_of, doing_of, landed_submission, submission_of, IsWantAlone, IsAskOfAlone, IsDoingAlone, is_asking};
-ghost use Rattle.task_steps.specs.Answers.{AsksFirst, Does, SubmissionReady};
+ghost use Rattle.task_steps.specs.SubmissionViews.{asking, cutting, copying, attempt_of, ask_of, doing_of, submission_of, IsWantAlone, IsAskOfAlone, IsDoingAlone, is_asking};
+ghost use Rattle.task_steps.specs.Answers.{AsksFirst, SubmissionReady};
+ghost use Rattle.task_steps.specs.DriverSteps.{AskDoes, CutDoes, LegDoes, TurnDoes, routed_landing};
 
 use crate::objects::Objects;
 use crate::routes::Routes;
@@ -42,7 +43,7 @@ pub(crate) fn serve(routes: &Routes, mut bio: BioElement, at: &mut Doing, lists:
     requires rests { at.old ≡ doing'.Rests }
     requires within { IsWithinDevice routes.now.stack (item_of bio).bio }
     requires alone { IsAlone bio }
-    ensures submission { submission_of at.new lists.now ≡ landed_submission (routing_setup routes.now) lists.now (item_of bio) }
+    ensures submission { submission_of at.new lists.now ≡ routed_landing routes.now lists.now (item_of bio) }
     ensures alone { IsDoingAlone at.new }
 {
     bio.body.bio = routes.land(bio.body.bio);
@@ -80,7 +81,7 @@ fn cut<O: Objects>(
     requires within { IsWithinDevice routes.now.stack (item_of bio).bio }
     requires cut { is_cut (routed_tree routes.now (item_of bio).bio.dev) (item_of bio).bio.range ≡ true }
     requires lists { ListsAreWithin routes.now.stack lists.old }
-    ensures does { Does O.Objects routes.now task (cutting bio want) lists.old objects.old (at.new, result) lists.new objects.new }
+    ensures does { CutDoes O.Objects routes.now task bio want lists.old objects.old (at.new, result) lists.new objects.new }
     ensures alone { IsDoingAlone at.new }
 {
     match want {
@@ -106,7 +107,7 @@ fn drive<O: Objects>(
     requires no_attempt { attempt_of (asking bio ask) ≡ None }
     requires within { DoingFits routes.now.stack (asking bio ask) }
     requires lists { ListsAreWithin routes.now.stack lists.old }
-    ensures does { Does O.Objects routes.now task (asking bio ask) lists.old objects.old (at.new, result) lists.new objects.new }
+    ensures does { AskDoes O.Objects routes.now task bio ask lists.old objects.old (at.new, result) lists.new objects.new }
     ensures alone { IsDoingAlone at.new }
 {
     match ask {
@@ -133,7 +134,7 @@ fn copy<O: Objects>(
     requires no_attempt { attempt_of (copying run want) ≡ None }
     requires within { DoingFits routes.now.stack (copying run want) }
     requires lists { ListsAreWithin routes.now.stack lists.old }
-    ensures does { Does O.Objects routes.now task (copying run want) lists.old objects.old (at.new, result) lists.new objects.new }
+    ensures does { LegDoes O.Objects routes.now task run want lists.old objects.old (at.new, result) lists.new objects.new }
     ensures alone { IsDoingAlone at.new }
 {
     match want {
@@ -158,7 +159,7 @@ pub(crate) fn turn<O: Objects>(
     requires rests { at.old ≡ doing'.Rests }
     requires no_attempt { attempt_of (doing_of doing) ≡ None }
     requires within { SubmissionFits routes.now.stack (submission_of doing lists.old) }
-    ensures does { Does O.Objects routes.now task (doing_of doing) lists.old objects.old (at.new, result) lists.new objects.new }
+    ensures does { TurnDoes O.Objects routes.now task doing lists.old objects.old (at.new, result) lists.new objects.new }
     ensures alone { IsDoingAlone at.new }
 {
     match doing {

@@ -3,14 +3,15 @@
 ghost use Rattle.std.specs.Prelude.{◌≡◌, ◌<◌, ◌+◌, ◌-◌, true};
 ghost use Rattle.bio_records.specs.Items.{item_of, IsAlone};
 ghost use Rattle.run_machine.specs.Requests.{TakeSlip, Link as LinkOf, Master, Leg};
-ghost use Rattle.run_machine.specs.Submissions.{legs_of, leg_at, copies};
+ghost use Rattle.run_machine.specs.Submissions.{legs_of, leg_at};
 ghost use Rattle.task_steps.specs.declared.submission.Doing.TheVariants as doing';
 ghost use Rattle.task_steps.specs.declared.submission.DriverAsk.TheVariants.{ToRecord, ToMaster};
-ghost use Rattle.task_steps.specs.declared.submission.Want.TheVariants.{Punts, Links};
+ghost use Rattle.task_steps.specs.declared.submission.Want.TheVariants.{Punts};
 ghost use Rattle.task_steps.specs.Within.{IsWithinDevice, ListsAreWithin};
-ghost use Rattle.task_steps.specs.Routed.{routed_tree, routing_setup};
-ghost use Rattle.task_steps.specs.SubmissionViews.{asking, copying, submission_of, IsDoingAlone};
-ghost use Rattle.task_steps.specs.Answers.{punt_request, Ready, Does, AlwaysDoes, SubmissionReady};
+ghost use Rattle.task_steps.specs.Routed.{routed_tree};
+ghost use Rattle.task_steps.specs.SubmissionViews.{asking, submission_of, IsDoingAlone};
+ghost use Rattle.task_steps.specs.Answers.{punt_request, Ready, SubmissionReady};
+ghost use Rattle.task_steps.specs.DriverSteps.{AddsLeg, AskAlwaysDoes, FansOut, LegAlwaysDoes, routed_copies};
 
 use crate::calls::{had, missed, open_node, punt_all};
 use crate::objects::{Ask, Objects};
@@ -36,7 +37,7 @@ pub(crate) fn take_record<O: Objects>(
     requires ready { Ready O.Objects objects.old (TakeSlip (item_of bio).bio.dev) }
     requires alone { IsAlone bio }
     requires rests { at.old ≡ doing'.Rests }
-    ensures does { AlwaysDoes O.Objects task (asking bio ToRecord) lists.old objects.old (at.new, result) lists.new objects.new }
+    ensures does { AskAlwaysDoes O.Objects task bio ToRecord lists.old objects.old (at.new, result) lists.new objects.new }
     ensures alone { IsDoingAlone at.new }
 {
     let dev = bio.body.bio.dev;
@@ -77,7 +78,7 @@ pub(crate) fn master<O: Objects>(
     requires rests { at.old ≡ doing'.Rests }
     requires within { IsWithinDevice routes.now.stack (item_of bio).bio }
     requires lists { ListsAreWithin routes.now.stack lists.old }
-    ensures does { Does O.Objects routes.now task (asking bio (ToMaster slip)) lists.old objects.old (at.new, result) lists.new objects.new }
+    ensures does { FansOut O.Objects routes.now task bio slip lists.old objects.old (at.new, result) lists.new objects.new }
     ensures alone { IsDoingAlone at.new }
 {
     let whole = bio.body.bio;
@@ -135,7 +136,7 @@ pub(crate) fn copy_on(
     requires bio { IsWithinDevice routes.now.stack run.bio }
     requires legs { legs ≡ legs_of (routed_tree routes.now run.bio.dev) }
     requires lists { ListsAreWithin routes.now.stack lists.old }
-    ensures submission { submission_of at.new lists.new ≡ copies (routing_setup routes.now) lists.old run.bio run.master run.leg }
+    ensures submission { submission_of at.new lists.new ≡ routed_copies routes.now lists.old run.bio run.master run.leg }
     ensures alone { IsDoingAlone at.new }
 {
     let Copying { bio, master, leg } = run;
@@ -166,7 +167,7 @@ pub(crate) fn punt_to_copy<O: Objects>(
 ) -> Step
     requires ready { Ready O.Objects objects.old (punt_request run.bio.dev lists.old) }
     requires rests { at.old ≡ doing'.Rests }
-    ensures does { AlwaysDoes O.Objects task (copying run Punts) lists.old objects.old (at.new, result) lists.new objects.new }
+    ensures does { LegAlwaysDoes O.Objects task run Punts lists.old objects.old (at.new, result) lists.new objects.new }
     ensures alone { IsDoingAlone at.new }
 {
     match punt_all(objects, task, run.bio.dev, lists) {
@@ -218,7 +219,7 @@ pub(crate) fn leg<O: Objects>(
     requires within { IsWithinDevice routes.now.stack run.bio }
     requires leg { run.leg < legs_of (routed_tree routes.now run.bio.dev) }
     requires lists { ListsAreWithin routes.now.stack lists.old }
-    ensures does { Does O.Objects routes.now task (copying run (Links hand)) lists.old objects.old (at.new, result) lists.new objects.new }
+    ensures does { AddsLeg O.Objects routes.now task run hand lists.old objects.old (at.new, result) lists.new objects.new }
     ensures alone { IsDoingAlone at.new }
 {
     let Copying { bio, master, leg } = run;

@@ -3,10 +3,10 @@ ghost use Rattle.std.specs.Prelude.{◌≡◌, ◌<◌, ◌-◌};
 ghost use Rattle.bio_records.specs.Items.{item_of, IsAlone};
 ghost use Rattle.run_machine.specs.Requests.{Push};
 ghost use Rattle.task_steps.specs.declared.submission.Doing.TheVariants as doing';
-ghost use Rattle.task_steps.specs.declared.submission.DriverAsk.TheVariants.{ToPush};
 ghost use Rattle.task_steps.specs.Within.{ListsAreWithin};
-ghost use Rattle.task_steps.specs.SubmissionViews.{asking, IsDoingAlone};
-ghost use Rattle.task_steps.specs.Answers.{Ready, Does};
+ghost use Rattle.task_steps.specs.SubmissionViews.{IsDoingAlone};
+ghost use Rattle.task_steps.specs.Answers.{Ready};
+ghost use Rattle.task_steps.specs.DriverSteps.{PushDoes};
 
 use crate::objects::Objects;
 use crate::routes::Routes;
@@ -29,7 +29,7 @@ pub(crate) fn push<O: Objects>(
     requires alone { IsAlone bio }
     requires rests { at.old ≡ doing'.Rests }
     requires within { ListsAreWithin routes.now.stack lists.old }
-    ensures does { Does O.Objects routes.now task (asking bio ToPush) lists.old objects.old (at.new, result) lists.new objects.new }
+    ensures does { PushDoes O.Objects routes.now task bio lists.old objects.old (at.new, result) lists.new objects.new }
     ensures alone { IsDoingAlone at.new }
 {
     let disk = bio.body.bio.dev;

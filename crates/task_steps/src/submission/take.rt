@@ -8,8 +8,7 @@ ghost use Rattle.run_machine.specs.Submissions.{Breaks as Breaks', at_hand};
 ghost use Rattle.task_steps.specs.declared.objects.Unmade.TheVariants as unmade;
 ghost use Rattle.bio_books.specs.Views.{bio_of};
 ghost use Rattle.task_steps.specs.SubmissionViews.{want_of, attempt_of, wanting, doing_of, is_asking, IsWantAlone};
-ghost use Rattle.task_steps.specs.Answers.{SubmissionDoes, Ready};
-ghost use Rattle.task_steps.specs.Routed.{Routing};
+ghost use Rattle.task_steps.specs.Answers.{SubmissionAlwaysDoes, Ready};
 
 use crate::calls::attempt;
 use crate::objects::{Objects, Unmade};
@@ -96,7 +95,7 @@ impl Submission {
         requires ready { Ready O.Objects objects.old (TakeBio (Of dev) waits) }
         requires attempts { attempt_of self.old.doing ≡ Some (dev, waits) }
         requires asks { is_asking self.old.doing ≡ true }
-        ensures does { (routing : Routing) → SubmissionDoes O.Objects routing task self.old objects.old self.new objects.new result }
+        ensures does { SubmissionAlwaysDoes O.Objects task self.old objects.old self.new objects.new result }
     {
         match attempt(objects, task, dev, waits) {
             Ok((want, step)) => {
