@@ -1,10 +1,13 @@
 -- A book as a thing.
-use Rattle.std.specs.Prelude.{◌≡◌, IfErr}
+use Rattle.std.specs.Prelude.{◌≡◌, ℕ, Option, Some, IfErr}
+use Rattle.stack_base.specs.declared.ids.Status.{Status}
 use Rattle.bio_books.specs.Books.{BookState}
-use Rattle.bio_books.specs.Drops.{Drops}
+use Rattle.bio_books.specs.Drops.{DropOutcome, Drops}
+use Rattle.bio_books.specs.Links.{Linked}
 use Rattle.bio_books.specs.Views.{bio_of, IsAlonePart}
 use Rattle.task_steps.specs.declared.objects.Unmade.TheVariants as unmade
-use Rattle.run_machine.specs.Requests.{Request, Reply, Link, Drop, LinkedTo, DroppedTo, Spent}
+use Rattle.run_machine.specs.Events.{drop_of, link_of}
+use Rattle.run_machine.specs.Requests.{Request, Reply, Opening, Link, Drop, LinkedTo, DroppedTo, Spent}
 use Rattle.run_machine.specs.Objects.{Opened}
 use Rattle.run_machine.specs.Laws.{OfBook, object_of}
 use Rattle.task_steps.specs.Stage.{RequestFits, Owes}
@@ -15,7 +18,7 @@ use Rattle.object_things.specs.declared.book.BookAsk.{BookAsk}
 use Rattle.object_things.specs.declared.book.BookAsk.TheVariants as ask
 use Rattle.object_things.specs.declared.book.BookSaid.{BookSaid}
 use Rattle.object_things.specs.declared.book.BookSaid.TheVariants as said
-use Rattle.object_things.specs.Stamps.{Stamped, MarkState, mark_of, Told, ThingState, ThingAnswers, ChoosesNone, PassBy, FindsNone, stage_in, is_spent, StampState, thing_state}
+use Rattle.object_things.specs.Stamps.{Stamped, MarkState, mark_of, Told, ThingState, ThingAnswers, ChoosesNone, PassBy, FindsNone, stage_in, is_spent, StampState, thing_state, carried}
 
 abbrev pub book_asked : BookAsk → Request
 book_asked (ask.Link writer asked) = Link writer (opening_of asked)
@@ -45,6 +48,13 @@ BookAnswers = ThingAnswers BookServes BookLooks ChoosesNone
 -- the same of a book with its stamp, which gave this reply
 abbrev pub BookReplies : BookState → StampState → Request → Replied BookSaid → BookState → StampState → Type 0
 BookReplies old stamp asked replied new after = BookAnswers (thing_state old stamp) asked (book_told replied) (thing_state new after)
+
+-- the ticket that the entry of a link carries which came to this, and that of a drop, where this number was drawn
+abbrev pub IsTicketOfLink : Linked → ℕ → Option ℕ → Type 0
+IsTicketOfLink linked number ticket = (writer : ℕ) (opening : Opening) → ticket ≡ carried (link_of writer opening linked) (Some number)
+
+abbrev pub IsTicketOfDrop : DropOutcome → ℕ → Option ℕ → Type 0
+IsTicketOfDrop ended number ticket = (writer node : ℕ) (status : Status) → ticket ≡ carried (drop_of writer node status ended) (Some number)
 
 -- each bio that is handed over is in no list
 abbrev pub BookAskAlone : BookAsk → Type 0

@@ -65,6 +65,14 @@ PassBy pass note spent drew (Some n) after = (max pass.seen note < n) × (pass.k
 PassBy pass note true drew None after = (after ≡ record pass { known = after.known }) × (pass.known ≤ after.known) × (drew ≡ true → IsOver pass note after)
 PassBy pass note false drew None after = after ≡ record pass { seen = max pass.seen note }
 
+-- and so it is in a call that gave this reply, as the requests have it
+abbrev pub PassByReply : {S : Type 0} → (S → Reply) → PassState → Replied S → Type 0
+PassByReply reply_of pass replied = PassBy pass replied.note (is_spent (reply_of replied.said)) replied.drew replied.drawn.value replied.pass
+
+-- no ticket was drawn: of the pass only what it knows has changed, and the stamp has no tickets any more
+abbrev pub DrawsNone : PassState → StampState → PassState → StampState → Type 0
+DrawsNone pass stamp after new = (after ≡ record pass { known = after.known }) × (new ≡ record stamp { spent = true })
+
 -- a ticket above all that the note had seen was drawn, where no draw had failed
 abbrev pub HasDrawn : StampState → ℕ → StampState → Type 0
 HasDrawn old ticket new = (old.spent ≡ false) × (old.note < ticket) × (new ≡ record old { note = ticket })

@@ -3,6 +3,7 @@ use Rattle.std.specs.Prelude.{◌≡◌, ◌<◌, ℕ, length, sum, slice_index_
 use Rattle.task_steps.specs.declared.objects.Unmade.TheVariants as unmade
 use Rattle.run_machine.specs.Requests.{Request, Reply, Done, NextRound, LookRound, LookLeft, Did, Present, LeftOver, Spent}
 use Rattle.run_machine.specs.Objects.{TallyState, done_one}
+use Rattle.task_core.specs.ObjectsOf.{IsTallyOf}
 use Rattle.task_core.specs.Plains.{Advances}
 use Rattle.run_machine.specs.Laws.{OfTally, object_of}
 use Rattle.task_steps.specs.Stage.{RequestFits, Owes}
@@ -13,12 +14,16 @@ use Rattle.object_things.specs.declared.tally.TallyAsk.{TallyAsk}
 use Rattle.object_things.specs.declared.tally.TallyAsk.TheVariants as ask
 use Rattle.object_things.specs.declared.tally.TallySaid.{TallySaid}
 use Rattle.object_things.specs.declared.tally.TallySaid.TheVariants as said
-use Rattle.object_things.specs.Stamps.{Stamped, MarkState, mark_of, Told, ThingState, ThingAnswers, ChoosesNone, PassBy, FindsNone, stage_in, OnlyLooks, is_spent, StampState, or_unmade, thing_state}
+use Rattle.object_things.specs.Stamps.{Stamped, MarkState, mark_of, Told, ThingState, ThingAnswers, ChoosesNone, PassBy, FindsNone, stage_in, OnlyLooks, is_spent, StampState, or_unmade, thing_state, CommonState, opened_tally}
 
 -- the numbers of the rounds behind the present one are as they were opened
 pub record IsLater (opened tally : TallyState) : Type 0 where
   pub rounds : length tally.left ≡ length opened.left
   pub later : (round : ℕ) → tally.round < round → slice_index_or tally.left round 0 ≡ slice_index_or opened.left round 0
+
+-- a tally of these objects, with the rounds behind the present one as they were opened
+abbrev pub IsTallyIn : CommonState → TallyState → Type 0
+IsTallyIn common tally = IsTallyOf (stage_in common) tally × IsLater (opened_tally common) tally
 
 -- a round that is started has no number in the history
 abbrev pub tally_asked : TallyAsk → Request

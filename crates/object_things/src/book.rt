@@ -1,16 +1,14 @@
 //! A book as a thing.
-ghost use Rattle.std.specs.Prelude.{◌≡◌, ℕ, Some};
+ghost use Rattle.std.specs.Prelude.{◌≡◌};
 ghost use Rattle.task_steps.specs.declared.objects.Unmade.TheVariants as unmade;
-ghost use Rattle.stack_base.specs.declared.ids.Status.{Status};
 ghost use Rattle.bio_books.specs.Views.{bio_of, drop_outcome_of, linked_of, IsAlonePart};
 ghost use Rattle.task_core.specs.ObjectsOf.{IsBookOf};
-ghost use Rattle.run_machine.specs.Events.{drop_of, link_of};
-ghost use Rattle.run_machine.specs.Requests.{Opening, Link as LinkOf, Drop as DropOf};
+ghost use Rattle.run_machine.specs.Requests.{Link as LinkOf, Drop as DropOf};
 ghost use Rattle.task_steps.specs.Stage.{RequestFits, Owes};
 ghost use Rattle.task_steps.specs.Views.{opening_of, unmade_part, IsAskAlone};
 ghost use Rattle.object_things.specs.declared.book.BookAsk.TheVariants as ask;
-ghost use Rattle.object_things.specs.Stamps.{PassBy, carried, is_spent, stage_in};
-ghost use Rattle.object_things.specs.Books.{BookReplies, BookSays, book_replied};
+ghost use Rattle.object_things.specs.Stamps.{PassByReply, stage_in};
+ghost use Rattle.object_things.specs.Books.{BookReplies, BookSays, IsTicketOfDrop, IsTicketOfLink, book_replied};
 
 use crate::stamp::{Asked, Asking, Mark, Replied, Stamp, Told};
 use bio_books::{Book, Dropped, Link};
@@ -173,7 +171,7 @@ fn link(book: &mut Book, stamp: &mut Stamp, pass: Pass, writer: u32, what: Ask) 
     requires fits { RequestFits (stage_in stamp.old.common) (LinkOf writer (opening_of what)) }
     requires of { IsBookOf (stage_in stamp.old.common) book.old.writer book.old }
     ensures answers { BookReplies book.old stamp.old (LinkOf writer (opening_of what)) result book.new stamp.new }
-    ensures pass { PassBy pass result.note (is_spent (book_replied result.said)) result.drew result.drawn.value result.pass }
+    ensures pass { PassByReply book_replied pass result }
     ensures owed { Owes (stage_in stamp.old.common) (LinkOf writer (opening_of what)) (book_replied result.said) }
     ensures says { BookSays (ask.Link writer what) result.said }
     ensures same { (stamp.new.common ≡ stamp.old.common) × (book.new.writer ≡ book.old.writer) }
@@ -191,7 +189,7 @@ fn link(book: &mut Book, stamp: &mut Stamp, pass: Pass, writer: u32, what: Ask) 
 // The ticket that the entry of a link carries: none where the link was refused.
 #[inline(always)] // as `serve`
 fn link_ticket(linked: &Link, number: u64) -> Option<u64>
-    ensures { (writer : ℕ) (opening : Opening) → result ≡ carried (link_of writer opening (linked_of linked.now)) (Some number) }
+    ensures { IsTicketOfLink (linked_of linked.now) number result }
 {
     match linked {
         Link::Made(_) => Some(number),
@@ -216,7 +214,7 @@ fn drop_one(
     requires fits { RequestFits (stage_in stamp.old.common) (DropOf writer node status (bio_of part)) }
     requires of { IsBookOf (stage_in stamp.old.common) book.old.writer book.old }
     ensures answers { BookReplies book.old stamp.old (DropOf writer node status (bio_of part)) result book.new stamp.new }
-    ensures pass { PassBy pass result.note (is_spent (book_replied result.said)) result.drew result.drawn.value result.pass }
+    ensures pass { PassByReply book_replied pass result }
     ensures owed { Owes (stage_in stamp.old.common) (DropOf writer node status (bio_of part)) (book_replied result.said) }
     ensures says { BookSays (ask.Drop writer node status part) result.said }
     ensures same { (stamp.new.common ≡ stamp.old.common) × (book.new.writer ≡ book.old.writer) }
@@ -234,7 +232,7 @@ fn drop_one(
 // The ticket that the entry of a drop carries: none where the drop was refused.
 #[inline(always)] // as `serve`
 fn drop_ticket(dropped: &Dropped, number: u64) -> Option<u64>
-    ensures { (writer node : ℕ) (status : Status) → result ≡ carried (drop_of writer node status (drop_outcome_of dropped.now)) (Some number) }
+    ensures { IsTicketOfDrop (drop_outcome_of dropped.now) number result }
 {
     match dropped {
         Dropped::Left | Dropped::Up(_) | Dropped::Top(_) => Some(number),

@@ -5,7 +5,7 @@ ghost use Rattle.task_core.specs.ObjectsOf.{IsDiskOf};
 ghost use Rattle.run_machine.specs.Requests.{Push, Complete as CompleteOf};
 ghost use Rattle.task_steps.specs.Stage.{RequestFits};
 ghost use Rattle.object_things.specs.declared.disk.DiskAsk.TheVariants as ask;
-ghost use Rattle.object_things.specs.Stamps.{PassBy, is_spent, stage_in};
+ghost use Rattle.object_things.specs.Stamps.{stage_in, PassByReply};
 ghost use Rattle.object_things.specs.Disks.{DiskReplies, DiskSays, KeepsChoice, disk_replied};
 
 use crate::stamp::{Asked, Asking, Mark, NoTicket, Replied, Stamp, Told};
@@ -151,7 +151,7 @@ fn push(disk: &mut Disk, stamp: &mut Stamp, pass: Pass, el: BioElement) -> Repli
     requires fits { RequestFits (stage_in stamp.old.common) (Push (item_of el)) }
     requires of { IsDiskOf (stage_in stamp.old.common) disk.old.dev.0 disk.old }
     ensures answers { DiskReplies disk.old stamp.old (Push (item_of el)) result disk.new stamp.new }
-    ensures pass { PassBy pass result.note (is_spent (disk_replied result.said)) result.drew result.drawn.value result.pass }
+    ensures pass { PassByReply disk_replied pass result }
     ensures says { DiskSays (stage_in stamp.old.common) (ask.Push el) result.said }
     ensures choice { KeepsChoice (ask.Push el) (disk_replied result.said) result.chosen.value }
     ensures same { (stamp.new.common ≡ stamp.old.common) × (disk.new.dev ≡ disk.old.dev) }
@@ -180,7 +180,7 @@ fn complete(
     requires own { dev.0 ≡ disk.old.dev.0 }
     requires of { IsDiskOf (stage_in stamp.old.common) disk.old.dev.0 disk.old }
     ensures answers { DiskReplies disk.old stamp.old (CompleteOf dev) result disk.new stamp.new }
-    ensures pass { PassBy pass result.note (is_spent (disk_replied result.said)) result.drew result.drawn.value result.pass }
+    ensures pass { PassByReply disk_replied pass result }
     ensures says { DiskSays (stage_in stamp.old.common) (ask.Complete dev index) result.said }
     ensures choice { KeepsChoice (ask.Complete dev index) (disk_replied result.said) result.chosen.value }
     ensures same { (stamp.new.common ≡ stamp.old.common) × (disk.new.dev ≡ disk.old.dev) }

@@ -3,7 +3,7 @@ ghost use Rattle.std.specs.Prelude.{◌≡◌};
 ghost use Rattle.run_machine.specs.Requests.{Punt, Pop};
 ghost use Rattle.task_steps.specs.Stage.{AreServed, Owes};
 ghost use Rattle.object_things.specs.declared.list.ListAsk.TheVariants as ask;
-ghost use Rattle.object_things.specs.Stamps.{PassBy, is_spent, stage_in};
+ghost use Rattle.object_things.specs.Stamps.{PassByReply, stage_in};
 ghost use Rattle.object_things.specs.Lists.{ListReplies, ListSays, list_replied};
 
 use crate::stamp::{Asked, Asking, Mark, NoTicket, Replied, Stamp, Told};
@@ -141,7 +141,7 @@ fn punt(
     requires fits { AreServed (stage_in stamp.old.common) moved }
     requires of { AreServed (stage_in stamp.old.common) list.old.bios }
     ensures answers { ListReplies list.old stamp.old (Punt dev moved) result list.new stamp.new }
-    ensures pass { PassBy pass result.note (is_spent (list_replied result.said)) result.drew result.drawn.value result.pass }
+    ensures pass { PassByReply list_replied pass result }
     ensures owed { Owes (stage_in stamp.old.common) (Punt dev moved) (list_replied result.said) }
     ensures says { ListSays (ask.Punt dev moved) result.said }
     ensures same { (stamp.new.common ≡ stamp.old.common) × (list.new.dev ≡ list.old.dev) }
@@ -164,7 +164,7 @@ fn pop(list: &mut RescueList, stamp: &mut Stamp, pass: Pass, dev: DevId) -> Repl
     requires own { dev.0 ≡ list.old.dev.0 }
     requires of { AreServed (stage_in stamp.old.common) list.old.bios }
     ensures answers { ListReplies list.old stamp.old (Pop dev) result list.new stamp.new }
-    ensures pass { PassBy pass result.note (is_spent (list_replied result.said)) result.drew result.drawn.value result.pass }
+    ensures pass { PassByReply list_replied pass result }
     ensures owed { Owes (stage_in stamp.old.common) (Pop dev) (list_replied result.said) }
     ensures says { ListSays (ask.Pop dev) result.said }
     ensures same { (stamp.new.common ≡ stamp.old.common) × (list.new.dev ≡ list.old.dev) }

@@ -3,7 +3,7 @@ ghost use Rattle.std.specs.Prelude.{◌≡◌, ◌≤◌};
 ghost use Rattle.run_machine.specs.Requests.{Resize};
 ghost use Rattle.object_things.specs.declared.pool.PoolAsk.TheVariants as ask;
 ghost use Rattle.object_things.specs.declared.pool.PoolSaid.TheVariants as said;
-ghost use Rattle.object_things.specs.Stamps.{PassBy, is_spent, stage_in};
+ghost use Rattle.object_things.specs.Stamps.{PassByReply, stage_in};
 ghost use Rattle.object_things.specs.Pools.{GoesBack, IsPoolOf, PoolReplies, PoolSays, WaitsAt, TakenOf, is_look, take_request, give_of, pool_replied};
 
 use crate::stamp::{Asked, Asking, Mark, NoTicket, Replied, Stamp, Told};
@@ -191,7 +191,7 @@ fn take<P: Fresh + Drop>(
     requires clock { pass.clock ≡ stamp.old.common.clock }
     requires waits { WaitsAt name waits }
     ensures answers { PoolReplies pool.old stamp.old (take_request name waits) result pool.new stamp.new }
-    ensures pass { PassBy pass result.note (is_spent (pool_replied result.said)) result.drew result.drawn.value result.pass }
+    ensures pass { PassByReply pool_replied pass result }
     ensures says { PoolSays P.is_clear pool.old.ledger (ask.Take name waits) result.said }
     ensures pool { (pool.new.ledger ≡ pool.old.ledger) × (pool.new.most ≡ pool.old.most) }
     ensures same { stamp.new.common ≡ stamp.old.common }
@@ -223,7 +223,7 @@ fn give<P: Fresh + Drop>(
     requires clock { pass.clock ≡ stamp.old.common.clock }
     requires own { el.share ≡ pool.old.ledger }
     ensures answers { PoolReplies pool.old stamp.old (give_of name el.share) result pool.new stamp.new }
-    ensures pass { PassBy pass result.note (is_spent (pool_replied result.said)) result.drew result.drawn.value result.pass }
+    ensures pass { PassByReply pool_replied pass result }
     ensures says { PoolSays P.is_clear pool.old.ledger (ask.Give name el) result.said }
     ensures pool { (pool.new.ledger ≡ pool.old.ledger) × (pool.new.most ≡ pool.old.most) }
     ensures same { stamp.new.common ≡ stamp.old.common }
@@ -250,7 +250,7 @@ fn resize<P: Fresh + Drop>(
     requires clock { pass.clock ≡ stamp.old.common.clock }
     requires fits { (1 ≤ min) × (min ≤ pool.old.most) }
     ensures answers { PoolReplies pool.old stamp.old (Resize name min) result pool.new stamp.new }
-    ensures pass { PassBy pass result.note (is_spent (pool_replied result.said)) result.drew result.drawn.value result.pass }
+    ensures pass { PassByReply pool_replied pass result }
     ensures says { PoolSays P.is_clear pool.old.ledger (ask.Resize name min) result.said }
     ensures pool { (pool.new.ledger ≡ pool.old.ledger) × (pool.new.most ≡ pool.old.most) }
     ensures same { stamp.new.common ≡ stamp.old.common }

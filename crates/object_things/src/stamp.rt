@@ -1,7 +1,7 @@
 //! What each thing has beside its object.
 ghost use Rattle.std.specs.Prelude.{◌≡◌, ◌<◌, ◌≤◌, max, not, None, Some, true, false, IfSome};
 ghost use Rattle.tick_clock.specs.Tickets.{drawn_with};
-ghost use Rattle.object_things.specs.Stamps.{HasDrawn, IsOver, PassBy, looked};
+ghost use Rattle.object_things.specs.Stamps.{DrawsNone, HasDrawn, IsOver, PassBy, looked};
 
 use std::alloc::Global;
 use std::marker::Model;
@@ -208,7 +208,7 @@ impl Stamp {
         ensures above { IfSome result (λ n. (max pass.old.seen self.old.note < n) × (pass.old.known < n)) }
         ensures drawn { IfSome result (λ n. pass.new ≡ drawn_with pass.old (max pass.old.seen self.old.note) n) }
         ensures noted { IfSome result (λ n. self.new ≡ record self.old { note = n }) }
-        ensures none { result ≡ None → (pass.new ≡ record pass.old { known = pass.new.known }) × (self.new ≡ record self.old { spent = true }) }
+        ensures none { result ≡ None → DrawsNone pass.old self.old pass.new self.new }
         ensures over { result ≡ None → self.old.spent ≡ false → IsOver pass.old self.old.note pass.new }
         ensures found { pass.old.known ≤ pass.new.known }
     {

@@ -1,12 +1,11 @@
 //! The tally as a thing.
 ghost use Rattle.std.specs.Prelude.{◌≡◌, ◌<◌};
-ghost use Rattle.task_core.specs.ObjectsOf.{IsTallyOf};
 ghost use Rattle.task_core.specs.Plains.{tally_of};
 ghost use Rattle.run_machine.specs.Requests.{Done as DoneOf, NextRound};
 ghost use Rattle.task_steps.specs.Stage.{Owes};
 ghost use Rattle.object_things.specs.declared.tally.TallyAsk.TheVariants as ask;
-ghost use Rattle.object_things.specs.Stamps.{PassBy, is_spent, stage_in, opened_tally};
-ghost use Rattle.object_things.specs.Tallies.{TallyReplies, TallySays, IsLater, tally_replied, tally_asked};
+ghost use Rattle.object_things.specs.Stamps.{PassByReply, stage_in};
+ghost use Rattle.object_things.specs.Tallies.{IsTallyIn, TallyReplies, TallySays, tally_replied, tally_asked};
 
 use crate::stamp::{Asked, Asking, Mark, NoTicket, Replied, Stamp, Told};
 use seat_lock::Thing;
@@ -80,7 +79,7 @@ impl Model for TallyThing {
 impl TallyThing {
     /// The tally with this stamp.
     pub fn new(tally: Tally, stamp: Stamp) -> TallyThing
-        requires { IsTallyOf (stage_in stamp.common) (tally_of tally) × IsLater (opened_tally stamp.common) (tally_of tally) }
+        requires { IsTallyIn stamp.common (tally_of tally) }
         ensures { result ≡ record { object = tally_of tally; stamp = stamp } }
     {
         TallyThing { tally, stamp }
@@ -155,13 +154,13 @@ fn done(
 ) -> Replied<TallySaid>
     requires clock { pass.clock ≡ stamp.old.common.clock }
     requires fits { write < (stage_in stamp.old.common).writes }
-    requires of { IsTallyOf (stage_in stamp.old.common) (tally_of tally.old) × IsLater (opened_tally stamp.old.common) (tally_of tally.old) }
+    requires of { IsTallyIn stamp.old.common (tally_of tally.old) }
     ensures answers { TallyReplies (tally_of tally.old) stamp.old (DoneOf write status) result (tally_of tally.new) stamp.new }
-    ensures pass { PassBy pass result.note (is_spent (tally_replied result.said)) result.drew result.drawn.value result.pass }
+    ensures pass { PassByReply tally_replied pass result }
     ensures owed { Owes (stage_in stamp.old.common) (DoneOf write status) (tally_replied result.said) }
     ensures says { TallySays (ask.Done write status) result.said }
     ensures same { stamp.new.common ≡ stamp.old.common }
-    ensures of { IsTallyOf (stage_in stamp.old.common) (tally_of tally.new) × IsLater (opened_tally stamp.old.common) (tally_of tally.new) }
+    ensures of { IsTallyIn stamp.old.common (tally_of tally.new) }
 {
     let (turn, drawn) = stamp.turn(pass);
     match drawn {
@@ -177,13 +176,13 @@ fn done(
 #[inline(always)] // as `serve`
 fn next(tally: &mut Tally, stamp: &mut Stamp, pass: Pass) -> Replied<TallySaid>
     requires clock { pass.clock ≡ stamp.old.common.clock }
-    requires of { IsTallyOf (stage_in stamp.old.common) (tally_of tally.old) × IsLater (opened_tally stamp.old.common) (tally_of tally.old) }
+    requires of { IsTallyIn stamp.old.common (tally_of tally.old) }
     ensures answers { TallyReplies (tally_of tally.old) stamp.old (NextRound 0) result (tally_of tally.new) stamp.new }
-    ensures pass { PassBy pass result.note (is_spent (tally_replied result.said)) result.drew result.drawn.value result.pass }
+    ensures pass { PassByReply tally_replied pass result }
     ensures owed { Owes (stage_in stamp.old.common) (NextRound 0) (tally_replied result.said) }
     ensures says { TallySays ask.Next result.said }
     ensures same { stamp.new.common ≡ stamp.old.common }
-    ensures of { IsTallyOf (stage_in stamp.old.common) (tally_of tally.new) × IsLater (opened_tally stamp.old.common) (tally_of tally.new) }
+    ensures of { IsTallyIn stamp.old.common (tally_of tally.new) }
 {
     let (turn, drawn) = stamp.turn(pass);
     match drawn {
