@@ -257,7 +257,7 @@ module _ {S : Type 0} (serves : S → Request → Reply → S → Type 0) (stage
   found_was next now new step reply may replied goes_on found tells (Refuses b untold silent is) =
       subst (λ (s : Step). Was next new s)
       (sym (tells ∙ ap (λ (w : Option What). step_by (id_of task) w (silent_step setup (request setup task) reply)) untold ∙ silent))
-      (ap breach_of goes_on ∙ is)
+      (ap breach_of goes_on ∙ is, inr (reply, (now, may, replied), untold, silent, goes_on))
   found_was next now new step reply may replied goes_on found tells (Finds none same) = absurd (found none)
 
   -- one that was nothing
@@ -293,9 +293,9 @@ module _ {S : Type 0} (serves : S → Request → Reply → S → Type 0) (stage
   resting_was : (next : TaskState) (new : S) (step : Step) (b : Option Breach) → breach_of task ≡ b → request setup task ≡ Rest → next ≡ task → new ≡ old
       → step ≡ resting_step (breach_of task) → Was next new step
   resting_was next new step None is rest same still tells =
-      subst (λ (s : Step). Was next new s) (sym (tells ∙ ap resting_step is)) (same, inl (rest, still))
+      subst (λ (s : Step). Was next new s) (sym (tells ∙ ap resting_step is)) (same, inl (rest, is, still))
   resting_was next new step (Some b) is rest same still tells =
-      subst (λ (s : Step). Was next new s) (sym (tells ∙ ap resting_step is)) (ap breach_of same ∙ is)
+      subst (λ (s : Step). Was next new s) (sym (tells ∙ ap resting_step is)) (ap breach_of same ∙ is, inl (rest, same, still))
 
   turn_was : (next : TaskState) (new : S) (step : Step) → Turns serves (Owes stage) setup task old next new step → Was next new step
   turn_was next new step (Rested rest same still tells) = resting_was next new step (breach_of task) refl rest same still tells

@@ -3,6 +3,7 @@ use Rattle.std.specs.Prelude.{◌≡◌, ◌≢◌, ◌⊎◌, ℕ, Bool, true, 
 use Rattle.stack_base.specs.declared.ids.PoolId.{PoolId}
 use Rattle.stack_base.specs.declared.ids.PoolId.TheVariants.{FsVecs, Records}
 use Rattle.bioset_pools.specs.Sets.{bios_of}
+use Rattle.run_machine.specs.declared.event.Breach.{Breach}
 use Rattle.run_machine.specs.Scene.{Setup}
 use Rattle.run_machine.specs.Requests.{Request, Reply, TakeBio, TakeVec, TakeSlip, LookLeft, Rest, Missed, LeftOver, Nothing}
 use Rattle.run_machine.specs.Tasks.{TaskState, request, look_of, lets, answered, breach_of}
@@ -11,6 +12,7 @@ use Rattle.task_steps.specs.declared.objects.Objects.{Ghosts}
 use Rattle.task_steps.specs.declared.step.Step.{Step}
 use Rattle.task_steps.specs.declared.step.Step.TheVariants.{Stepped, Blocked, Waiting, Ended, Broken}
 use Rattle.task_steps.specs.TaskSteps.{TaskTurns}
+use Rattle.task_steps.specs.Turns.{silent_step}
 
 -- the task has nothing to look at, or what it saw lets it ask
 abbrev pub MayAsk : {S : Type 0} → (S → Request → Reply → S → Type 0) → TaskState → S → S → Type 0
@@ -31,6 +33,12 @@ HasReply serves setup task old reply new = (now : _) × MayAsk serves task old n
 abbrev pub HasNothing : {S : Type 0} → (S → Request → Reply → S → Type 0) → Setup → TaskState → S → ℕ → S → Type 0
 HasNothing serves setup task old left new = (middle : _) × HasReply serves setup task old Nothing middle × serves middle LookLeft (LeftOver left) new
 
+-- its object refused what it asked for next, or had no ticket for it, and it has broken off
+abbrev pub WasRefused : {S : Type 0} → (S → Request → Reply → S → Type 0) → Setup → TaskState → S → Breach → TaskState → S → Type 0
+WasRefused serves setup task old breach next new =
+    (reply : Reply) × HasReply serves setup task old reply new × (what_of (request setup task) reply ≡ None)
+    × (silent_step setup (request setup task) reply ≡ Broken breach) × (next ≡ answered setup task reply)
+
 -- the pool that a request is for an element of
 abbrev pub pool_taken : Request → Option PoolId
 pool_taken (TakeBio set waits) = Some (bios_of set)
@@ -39,8 +47,8 @@ pool_taken (TakeSlip dev) = Some (Records dev)
 pool_taken request = None
 
 -- An event: the task asked, the event tells of the reply, and the task goes on with it. Blocked: the pool missed. Waiting: it may not ask, or there
--- was nothing, and a write is unfinished. Ended: it has no more to ask, or there was nothing, and no write is unfinished. In these three it is as
--- it was. Broken: it has broken off, for this reason.
+-- was nothing, and a write is unfinished. Ended: it has no more to ask, and has not broken off, or there was nothing, and no write is unfinished. In
+-- these three it is as it was. Broken: it has broken off for this reason, before, or since it was refused.
 abbrev pub TurnWas : {S : Type 0} → (S → Request → Reply → S → Type 0) → Setup → TaskState → S → TaskState → S → Step → Type 0
 TurnWas serves setup task old next new (Stepped event) =
     (reply : Reply) × HasReply serves setup task old reply new × (what_of (request setup task) reply ≡ Some event.what)
@@ -50,8 +58,10 @@ TurnWas serves setup task old next new (Blocked pool) =
 TurnWas serves setup task old next new Waiting =
     (next ≡ task) × (MayNotAsk serves task old new ⊎ ((left : ℕ) × (left ≢ 0) × HasNothing serves setup task old left new))
 TurnWas serves setup task old next new Ended =
-    (next ≡ task) × (((request setup task ≡ Rest) × (new ≡ old)) ⊎ HasNothing serves setup task old 0 new)
-TurnWas serves setup task old next new (Broken breach) = breach_of next ≡ Some breach
+    (next ≡ task) × (((request setup task ≡ Rest) × (breach_of task ≡ None) × (new ≡ old)) ⊎ HasNothing serves setup task old 0 new)
+TurnWas serves setup task old next new (Broken breach) =
+    (breach_of next ≡ Some breach)
+    × (((request setup task ≡ Rest) × (next ≡ task) × (new ≡ old)) ⊎ WasRefused serves setup task old breach next new)
 
 -- the answer to each turn over these objects tells what it was
 abbrev pub AnswersTellTurns : {S : Type 0} → Ghosts S → Type 0
