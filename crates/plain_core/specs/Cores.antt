@@ -1,5 +1,5 @@
 -- A plain core: what tasks know of a stack, the objects, and the tasks in their order; and the state of the machine that it is.
-use Rattle.std.specs.Prelude.{◌≡◌, ◌+◌, ◌*◌, ◌<◌, ℕ, List, length, slice_get, slice_set, slice_index_or, All, Option, Some, Result, Ok, Err}
+use Rattle.std.specs.Prelude.{◌≡◌, ◌+◌, ◌*◌, ◌<◌, ℕ, List, length, map, slice_get, slice_set, slice_index_or, All, MatchOption, Option, Some, Result, Ok, Err}
 use Rattle.run_machine.specs.declared.event.TaskId.{TaskId}
 use Rattle.run_machine.specs.declared.event.TaskId.TheVariants as id
 use Rattle.run_machine.specs.declared.event.Event.{Event}
@@ -13,6 +13,7 @@ use Rattle.task_steps.specs.Within.{TaskFits}
 use Rattle.run_machine.specs.declared.event.What.{What}
 use Rattle.plain_core.specs.declared.steps.task.Task.{Task}
 use Rattle.plain_core.specs.steps.Moves.{Submits, PlainTaskMoves}
+use Rattle.plain_core.specs.steps.Views.{task_of_plain}
 use Rattle.plain_core.specs.objects.Ledgers.{ledger_of}
 use Rattle.plain_core.specs.objects.Plain.{CoreObjects, most_devices, objects_of_core}
 use Rattle.plain_core.specs.declared.fault.CoreFault.{CoreFault}
@@ -69,6 +70,10 @@ pub record IsPlaceOfTask (tasks : List TaskState) (name : TaskId) (place : ℕ) 
 -- no task has it
 abbrev pub HasNoTask : List TaskState → TaskId → Type 0
 HasNoTask tasks name = (place : ℕ) → place < length tasks → name ≡ id_of (task_at tasks place) → ⊥
+
+-- the place of the task of this name, if there is one
+abbrev pub FindsTask : List Task → TaskId → Option ℕ → Type 0
+FindsTask tasks name found = MatchOption found (HasNoTask (map task_of_plain tasks) name) (IsPlaceOfTask (map task_of_plain tasks) name)
 
 -- the event is one of a task with a submission under way
 abbrev pub IsOfSubmission : List TaskState → TaskId → Type 0

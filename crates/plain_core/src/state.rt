@@ -7,7 +7,7 @@ ghost use Rattle.plain_core.specs.opening.Opening.{CanOpen, IsOpenedCore, scenar
 ghost use Rattle.stack_base.specs.PoolId.{pool_number};
 ghost use Rattle.run_machine.specs.Runs.{HasEnded, HasFree, unfinished};
 ghost use Rattle.plain_core.specs.steps.Free.{IsFirstFree};
-ghost use Rattle.plain_core.specs.Cores.{scene_of_core, state_of_core, task_at, AreFound, IsPlaceOfTask, HasNoTask, StepsAt, Applies};
+ghost use Rattle.plain_core.specs.Cores.{scene_of_core, state_of_core, task_at, AreFound, FindsTask, StepsAt, Applies};
 
 use crate::fault::CoreFault;
 use crate::objects::{Objects, pool_place};
@@ -69,7 +69,7 @@ fn is_same(one: TaskId, other: TaskId) -> bool
 // The place of a task, if there is one of this name.
 fn find(tasks: &[Task], places: &[u32], name: TaskId) -> Option<usize>
     requires { AreFound places.now (map task_of_plain tasks.now) }
-    ensures { MatchOption result (HasNoTask (map task_of_plain tasks.now) name) (IsPlaceOfTask (map task_of_plain tasks.now) name) }
+    ensures { FindsTask tasks.now name result }
 {
     let place = *places.get(slot_of(name) as usize)? as usize;
     if !is_same(name, tasks.get(place)?.id()) {

@@ -2,7 +2,7 @@
 ghost use Rattle.std.specs.Prelude.{◌≡◌, ◌<◌};
 ghost use Rattle.task_steps.specs.Within.{TaskFits};
 ghost use Rattle.plain_core.specs.steps.Views.{task_of_plain, rescuer_of};
-ghost use Rattle.plain_core.specs.steps.Moves.{PlainTaskMoves, TaskMoves};
+ghost use Rattle.plain_core.specs.steps.Moves.{PlainTaskMoves, RescuerMoves};
 
 pub(crate) mod asks;
 pub(crate) mod completer;
@@ -34,7 +34,7 @@ pub fn rescuer_step(
 ) -> Result<(), CoreFault>
     requires stack { objects.old.stack ≡ routes.now.stack }
     requires fits { TaskFits routes.now.stack (rescuer_of rescuer.old) }
-    ensures { TaskMoves routes.now objects.old (rescuer_of rescuer.old) what.now result objects.new (rescuer_of rescuer.new) }
+    ensures { RescuerMoves routes.now objects.old rescuer.old what.now result objects.new rescuer.new }
 {
     if !rescuer.submission.rests() {
         return submission_step(routes, objects, &mut rescuer.submission, what);

@@ -1,11 +1,12 @@
 -- What an event tells of a node that was told of an end.
-use Rattle.std.specs.Prelude.{◌≡◌, ◌<◌, ℕ, Option, None, Some, Result, Ok, Err}
+use Rattle.std.specs.Prelude.{◌≡◌, ◌-◌, ◌^◌, ◌<◌, ℕ, Bool, MatchBool, Option, None, Some, Result, Ok, Err}
 use Rattle.stack_base.specs.declared.ids.Status.{Status}
 use Rattle.bio_records.specs.declared.bio.Pad.{Pad}
 use Rattle.bio_records.specs.Items.{Item}
-use Rattle.bio_books.specs.Books.{BookState, Node, lowered, node_at, told, with_node}
+use Rattle.bio_books.specs.Books.{BookState, Node, VectorItem, keeping, lowered, node_at, raised, told, with_node}
 use Rattle.bio_books.specs.Drops.{Drops, Closed, closed_of}
 use Rattle.bio_books.specs.Drops as drop
+use Rattle.bio_books.specs.Links.{IsVacant, Made, Opens}
 use Rattle.run_machine.specs.declared.event.End.{End}
 use Rattle.run_machine.specs.declared.event.End.TheVariants as end
 use Rattle.plain_core.specs.declared.objects.book.NodeOutcome.{NodeOutcome}
@@ -36,6 +37,14 @@ IsEndTold old place status part end None new =
     (new ≡ old) × ((answer : drop.DropOutcome) (new : BookState) → IsToldBy end answer → Drops old place status part answer new → ⊥)
 IsEndTold old place status part end (Some ended) new = IsToldBy end (ended_of_plain ended) × Drops old place status part (ended_of_plain ended) new
 
+-- the node at this place waits for one end more
+abbrev pub IsRaisedAt : BookState → ℕ → BookState → Type 0
+IsRaisedAt old place new = (node : Node) → node_at old place ≡ Some node → node.count < 2 ^ 64 - 1 → new ≡ with_node old place (Some (raised node))
+
+-- it keeps this part
+abbrev pub IsKeptAt : BookState → ℕ → Item Pad → BookState → Type 0
+IsKeptAt old place part new = (node : Node) → node_at old place ≡ Some node → new ≡ with_node old place (Some (keeping part node))
+
 -- the node at this place was told of an end that was not its last
 abbrev pub IsLoweredAt : BookState → ℕ → Status → Option (Item Pad) → BookState → Type 0
 IsLoweredAt old place status part new =
@@ -45,6 +54,10 @@ IsLoweredAt old place status part new =
 abbrev pub IsClosedAt : BookState → ℕ → Status → Option (Item Pad) → Closed → BookState → Type 0
 IsClosedAt old place status part closed new =
     (node : Node) → node_at old place ≡ Some node → (closed ≡ closed_of (told node status part)) × (new ≡ with_node old place None)
+
+-- whether the node of a write was opened at this place: it was, or the place is not vacant
+abbrev pub OpensIfVacant : Bool → BookState → ℕ → Option VectorItem → ℕ → BookState → Type 0
+OpensIfVacant opened old write vector place new = MatchBool opened (Opens old write vector (Made place) new) ((new ≡ old) × (IsVacant old place → ⊥))
 
 -- A node was opened so, or none can be, or one could be but for memory.
 abbrev pub OpensSo : BookState → (BookState → Type 0) → Result (Unit {0}) CoreFault → BookState → Type 0

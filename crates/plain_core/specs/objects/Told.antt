@@ -11,7 +11,7 @@ use Rattle.mempool_core.specs.Move.{PoolMove, CanMove, after_move}
 use Rattle.bio_lists.specs.Punt.{punted, unpunted}
 use Rattle.model_disks.specs.Disks.{DiskState}
 use Rattle.model_disks.specs.Moves.{pushed, Completes}
-use Rattle.bio_books.specs.Books.{BookState}
+use Rattle.bio_books.specs.Books.{BookState, SlipItem}
 use Rattle.bio_books.specs.Drops.{Drops}
 use Rattle.bio_books.specs.Drops as drop
 use Rattle.bio_books.specs.Links.{Made}
@@ -20,7 +20,7 @@ use Rattle.run_machine.specs.declared.event.Got.{Got}
 use Rattle.run_machine.specs.declared.event.What.{What}
 use Rattle.run_machine.specs.declared.event.What.TheVariants as told
 use Rattle.run_machine.specs.Events.{take_of, how_of}
-use Rattle.run_machine.specs.Requests.{Opening}
+use Rattle.run_machine.specs.Requests.{Opening, Master}
 use Rattle.run_machine.specs.Objects.{Opened, done_one}
 use Rattle.plain_core.specs.objects.Pools.{move_of, CanTake}
 use Rattle.plain_core.specs.declared.objects.book.NodeOutcome.{NodeOutcome}
@@ -129,6 +129,10 @@ Joins old writer opening what (Err fault.Memory) new =
     × (book : BookState)
     × (what ≡ told.Link writer (how_of opening) node)
     × Opened (core_book_at old writer) opening (Made node) book
+
+-- the same of a mirror's master for a bio
+abbrev pub JoinsMaster : CoreObjects → Item Pad → SlipItem → ℕ → What → Result ℕ CoreFault → CoreObjects → Type 0
+JoinsMaster old part slip legs what result new = Joins old part.bio.writer (Master part.bio.node part slip legs) what result new
 
 -- a node of a writer's book was told of an end
 abbrev pub IsDrop : CoreObjects → ℕ → ℕ → Status → Option (Item Pad) → What → Result NodeOutcome CoreFault → CoreObjects → Type 0

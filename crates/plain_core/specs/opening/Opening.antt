@@ -1,5 +1,5 @@
 -- The state that is opened of a stack, the scripts of its pools and work over it: when it can be, part by part, and as a whole.
-use Rattle.std.specs.Prelude.{◌≡◌, ◌<◌, ◌≤◌, ◌++◌, if◌then◌else◌, ℕ, List, [], All, length, map, replicate, Option, None, Some}
+use Rattle.std.specs.Prelude.{◌≡◌, ◌+◌, ◌<◌, ◌≤◌, ◌++◌, if◌then◌else◌, ℕ, List, [], ◌∷◌, All, length, map, replicate, Option, None, Some}
 use Rattle.std.specs.List.{range_with_len}
 use Rattle.fail_script.specs.Script.{Answers}
 use Rattle.stack_base.specs.declared.ids.PoolId.{PoolId}
@@ -15,6 +15,7 @@ use Rattle.bio_books.specs.Books.{BookState}
 use Rattle.model_disks.specs.Disks.{DiskState}
 use Rattle.work_text.specs.declared.Resize.{Resize}
 use Rattle.work_text.specs.declared.Work.{Work}
+use Rattle.task_core.specs.opened.NewTasks.{new_tally}
 use Rattle.run_machine.specs.Events.{id_of, pool_of}
 use Rattle.run_machine.specs.Objects.{TallyState}
 use Rattle.run_machine.specs.Opened.{Scenario, most_writers, objects, reserve_of, scene, script_at, start}
@@ -64,9 +65,12 @@ new_pool stack scripts number = opened (reserve_of stack (pool_of number)) (scri
 abbrev pub new_pools : Stack → List (PoolId × Answers) → ℕ → List PoolState
 new_pools stack scripts count = map (new_pool stack scripts) (range_with_len 0 count)
 
--- all that a stack may have
+-- all that a stack may have, and those of a scenario
 abbrev pub all_pools : Stack → List (PoolId × Answers) → List PoolState
 all_pools stack scripts = new_pools stack scripts most_pools
+
+abbrev pub core_pools_of : Scenario → List PoolState
+core_pools_of s = all_pools s.stack s.scripts
 
 -- of the first devices those that are disks: zeros, in which nothing waits
 abbrev pub new_disk : Stack → ℕ → Option DiskState
@@ -104,6 +108,10 @@ new_core_objects stack scripts places tally = record {
 abbrev pub core_objects_of : Scenario → List ℕ → CoreObjects
 core_objects_of s places = new_core_objects s.stack s.scripts places (objects s).tally
 
+-- those of a stack as its runs begin with them, of which so many writes are left in each round, and there are so many in all
+abbrev pub begun_objects : Stack → List (PoolId × Answers) → List ℕ → List ℕ → ℕ → CoreObjects
+begun_objects stack scripts places left writes = new_core_objects stack scripts places (new_tally left writes)
+
 -- each task is found, and the slots of those still to come are this one and higher ones
 pub record AreTasksEntered (tasks : List TaskState) (places : List ℕ) (slot : ℕ) : Type 0 where
   pub found : AreFound places tasks
@@ -118,6 +126,10 @@ task_slot task = slot_of (id_of (task_of_plain task))
 -- these tasks were entered behind the others
 abbrev pub EntersTasks : List Task → List TaskState → List Task → List ℕ → ℕ → Type 0
 EntersTasks old more new places slot = (map task_of_plain new ≡ map task_of_plain old ++ more) × AreTasksEntered (map task_of_plain new) places slot
+
+-- this task was
+abbrev pub EntersTask : List Task → Task → List Task → List ℕ → Type 0
+EntersTask old task new places = EntersTasks old (task_of_plain task ∷ []) new places (task_slot task + 1)
 
 -- these tasks are those, and each is found
 abbrev pub IsEntering : List Task → List ℕ → List TaskState → Type 0

@@ -3,7 +3,7 @@ use Rattle.std.specs.Prelude.{◌≡◌, ℕ, Bool, true, false, Option, Some, N
 use Rattle.stack_base.specs.declared.ids.DevId.{DevId}
 use Rattle.bio_records.specs.declared.bio.Pad.{Pad}
 use Rattle.bio_records.specs.Items.{Item}
-use Rattle.bio_books.specs.Books.{VectorItem, SlipItem}
+use Rattle.bio_books.specs.Books.{Holding, VectorItem, SlipItem}
 use Rattle.bio_books.specs.Drops.{Closed}
 use Rattle.run_machine.specs.declared.event.What.{What}
 use Rattle.run_machine.specs.Requests.{Request, Reply, Did}
@@ -24,6 +24,10 @@ IsCarried old disk before what (Ok done) new after =
 IsCarried old disk before what (Err fault.NotEnabled) new after = (new ≡ old) × (after ≡ before) × Refuses old (task.carried_request disk before) what
 IsCarried old disk before what (Err fault.Memory) new after = ⊥
 
+-- the same of what a completer carries as plain data
+abbrev pub CarriesOn : CoreObjects → DevId → PlainCarried → What → Result (Unit {0}) CoreFault → CoreObjects → PlainCarried → Type 0
+CarriesOn old disk before what result new after = IsCarried old disk (carried_of_plain before) what result new (carried_of_plain after)
+
 -- the first of the elements that a closed node holds went back, or it holds none
 abbrev pub GivesFirst : CoreObjects → Option VectorItem → Option (Item Pad) → Option SlipItem → What → Result Bool CoreFault → CoreObjects
     → Option VectorItem → Option (Item Pad) → Option SlipItem → Type 0
@@ -37,6 +41,9 @@ GivesFirst old vector bio slip what (Err fault.NotEnabled) new vector1 bio1 slip
     (new ≡ old) × (vector1 ≡ vector) × (bio1 ≡ bio) × (slip1 ≡ slip)
     × ((writer : ℕ) (closed : Closed) (parent : Option ℕ) → Refuses old (task.closed_request writer closed vector bio slip parent) what)
 GivesFirst old vector bio slip what (Err fault.Memory) new vector1 bio1 slip1 = ⊥
+
+abbrev pub GivesFirstHeld : CoreObjects → Holding → What → Result Bool CoreFault → CoreObjects → Holding → Type 0
+GivesFirstHeld old held what result new after = GivesFirst old held.vector held.bio held.slip what result new after.vector after.bio after.slip
 
 -- what a closed node asks for, and what is carried once it is answered
 abbrev pub closed_asks : ℕ → Closed → Request

@@ -20,8 +20,11 @@ use Rattle.run_machine.specs.Scene.{Setup}
 use Rattle.run_machine.specs.Tasks.{TaskState, look_of, request}
 use Rattle.plain_core.specs.declared.steps.need.Need.{Need}
 use Rattle.plain_core.specs.declared.steps.need.Need.TheVariants as need
+use Rattle.plain_core.specs.declared.steps.task.PlainSubmission.{PlainSubmission}
+use Rattle.plain_core.specs.steps.Views.{doing_of_plain}
 use Rattle.plain_core.specs.Cores.{CoreState, task_at, scene_of_core, state_of_core}
 use Rattle.plain_core.specs.objects.Ledgers.{ledger_of}
+use Rattle.plain_core.specs.objects.Lists.{lists_of}
 use Rattle.plain_core.specs.objects.Questions.{IsShort}
 use Rattle.plain_core.specs.objects.Plain.{CoreObjects, core_pool_at, core_rescue_at, core_disk_at, core_book_at, objects_of_core}
 
@@ -83,6 +86,10 @@ NeedIsMet old need.Round = old.tally.round + 1 < length old.tally.left
 -- the need of what a submission asks for, whatever is known of the stack
 abbrev pub IsNeedOfDoing : Need → Doing → Type 0
 IsNeedOfDoing need doing = (s : Setup) (lists : TaskLists) → need ≡ need_of (submission_request s doing lists)
+
+-- the same of a plain submission, with its lists
+abbrev pub IsNeedOfSubmission : Need → PlainSubmission → Type 0
+IsNeedOfSubmission need l = (s : Setup) → need ≡ need_of (submission_request s (doing_of_plain l.doing) (lists_of l.lists))
 
 -- the need of what a task asks for
 abbrev pub IsNeedOfTask : Need → TaskState → Type 0

@@ -18,10 +18,11 @@ use Rattle.plain_core.specs.declared.steps.submission.Continuation.TheVariants a
 use Rattle.plain_core.specs.declared.steps.task.DriverAsk.{DriverAsk}
 use Rattle.plain_core.specs.declared.steps.task.Copying.{Copying}
 use Rattle.plain_core.specs.declared.steps.task.PlainDoing.{PlainDoing}
+use Rattle.plain_core.specs.declared.steps.task.PlainSubmission.{PlainSubmission}
 use Rattle.plain_core.specs.declared.steps.task.PlainWant.{PlainWant}
 use Rattle.plain_core.specs.objects.Plain.{CoreObjects}
 use Rattle.plain_core.specs.objects.Lists.{ListsHaveCapacity, lists_of}
-use Rattle.plain_core.specs.steps.Views.{ask_of_plain, doing_of_plain, want_of_plain}
+use Rattle.plain_core.specs.steps.Views.{ask_of_plain, doing_of_plain, submission_of_plain, want_of_plain}
 use Rattle.plain_core.specs.steps.Answers.{IsAnswer, Refuses, HasAnswer}
 use Rattle.plain_core.specs.declared.fault.CoreFault.{CoreFault}
 use Rattle.plain_core.specs.declared.fault.CoreFault.TheVariants as fault
@@ -31,6 +32,10 @@ abbrev pub turned : Setup → submission.Doing → TaskLists → Continuation �
 turned setup doing lists next.Stays = record { doing = doing; lists = lists }
 turned setup doing lists (next.Returns dev) = submission.goes_on setup dev lists
 turned setup doing lists (next.Copies bio master) = submission.copies setup lists bio master 0
+
+-- the same of a plain submission, by its routes
+abbrev pub turned_by : Routing → PlainSubmission → Continuation → submission.Submission
+turned_by r before next = turned (routing_setup r) (doing_of_plain before.doing) (lists_of before.lists) next
 
 -- the lists of one that is not to stay can be gone through
 abbrev pub CanTurn : Stack → Lists → Continuation → Type 0
@@ -69,6 +74,10 @@ SubmissionMoves r old before what (Err fault.NotEnabled) new after =
     (new ≡ old) × (after ≡ before) × Refuses old (submission.submission_request (routing_setup r) before.doing before.lists) what
 SubmissionMoves r old before what (Err fault.Memory) new after =
     (new ≡ old) × (after ≡ before) × HasAnswer old (submission.submission_request (routing_setup r) before.doing before.lists) what
+
+abbrev pub PlainSubmissionMoves : Routing → CoreObjects → PlainSubmission → What → Result (Unit {0}) CoreFault → CoreObjects → PlainSubmission → Type 0
+PlainSubmissionMoves r old before what result new after =
+    SubmissionMoves r old (submission_of_plain before) what result new (submission_of_plain after)
 
 -- a submission is under way
 abbrev pub IsSubmitting : submission.Doing → Type 0

@@ -1,8 +1,8 @@
 //! Books of nodes that hold plain elements.
 ghost use Rattle.std.specs.Prelude.{◌≡◌, ℕ, ◌^◌, ◌-◌, ◌<◌, IfOk, OnOk, IsSome, MatchBool, MatchOption, None, Some, replicate};
-ghost use Rattle.bio_books.specs.Books.{BookState, Node as Open, parent_of, raised, keeping, node_at, with_node};
-ghost use Rattle.bio_books.specs.Links.{Made, IsVacant, Opens, Chains, Masters, Legs};
-ghost use Rattle.plain_core.specs.objects.Books.{IsClosedAt, IsEndTold, IsLoweredAt, OpensSo};
+ghost use Rattle.bio_books.specs.Books.{BookState, parent_of, node_at, with_node};
+ghost use Rattle.bio_books.specs.Links.{Made, IsVacant, Chains, Masters, Legs};
+ghost use Rattle.plain_core.specs.objects.Books.{IsClosedAt, IsEndTold, IsKeptAt, IsLoweredAt, IsRaisedAt, OpensIfVacant, OpensSo};
 ghost use Rattle.plain_core.specs.objects.Lists.{lists_of, ListsHaveCapacity};
 ghost use Rattle.plain_core.specs.objects.Questions.{IsDecisionOf, TellsCount};
 
@@ -79,7 +79,7 @@ impl Book {
     // The node at a place waits for one end more.
     fn raise(&mut self, place: u32)
         requires { IsSome (node_at self.old place) }
-        ensures { (node : Open) → node_at self.old place ≡ Some node → node.count < 2 ^ 64 - 1 → self.new ≡ with_node self.old place (Some (raised node)) }
+        ensures { IsRaisedAt self.old place self.new }
     {
         let Some(slot) = self.nodes.get_mut(place as usize) else {
             unreachable!()
@@ -119,7 +119,7 @@ impl Book {
     // The node at a place keeps this part.
     fn keep(&mut self, place: u32, part: &Part)
         requires { IsSome (node_at self.old place) }
-        ensures { (node : Open) → node_at self.old place ≡ Some node → self.new ≡ with_node self.old place (Some (keeping part.now node)) }
+        ensures { IsKeptAt self.old place part.now self.new }
     {
         let Some(slot) = self.nodes.get_mut(place as usize) else {
             unreachable!()
@@ -164,8 +164,7 @@ impl Book {
 
     /// Opens the node of a write at this place, where it is vacant.
     pub fn open_write(&mut self, write: u32, vector: Option<Vector>, place: u32) -> bool
-        ensures { MatchBool result (Opens self.old write vector (Made place) self.new)
-            ((self.new ≡ self.old) × (IsVacant self.old place → ⊥)) }
+        ensures { OpensIfVacant result self.old write vector place self.new }
     {
         if !self.is_vacant(place) {
             return false;

@@ -1,8 +1,8 @@
 //! What events make of the books: nodes are opened, and told of ends.
 ghost use Rattle.std.specs.Prelude.{◌≡◌, OnOk};
-ghost use Rattle.run_machine.specs.Requests.{Write, Chain, Master, Leg};
+ghost use Rattle.run_machine.specs.Requests.{Write, Chain, Leg};
 ghost use Rattle.plain_core.specs.objects.Lists.{lists_of, ListsHaveCapacity};
-ghost use Rattle.plain_core.specs.objects.Told.{Links, Joins, IsDrop};
+ghost use Rattle.plain_core.specs.objects.Told.{Links, Joins, JoinsMaster, IsDrop};
 
 use crate::fault::CoreFault;
 use crate::objects::book::NodeOutcome;
@@ -68,7 +68,7 @@ impl Objects {
         lists: &mut Lists,
         what: &What,
     ) -> Result<u32, CoreFault>
-        ensures joins { Joins self.old part.now.bio.writer (Master part.now.bio.node part.now slip.now legs) what.now result self.new }
+        ensures joins { JoinsMaster self.old part.now slip.now legs what.now result self.new }
         ensures same { lists_of lists.new ≡ lists_of lists.old }
         ensures room { OnOk result (ListsHaveCapacity 2 lists.new) }
     {

@@ -1,8 +1,8 @@
 //! What an event tells, as what a request could have had.
-ghost use Rattle.std.specs.Prelude.{◌≡◌, ◌<◌, ℕ, MatchOption};
+ghost use Rattle.std.specs.Prelude.{◌≡◌, ◌<◌};
 ghost use Rattle.run_machine.specs.declared.event.What.TheVariants as told;
 ghost use Rattle.run_machine.specs.Events.{take_of};
-ghost use Rattle.plain_core.specs.objects.Questions.{IsDecisionOf, IsReadAs};
+ghost use Rattle.plain_core.specs.objects.Questions.{IsCompletionRead, IsDecisionOf, IsReadAs};
 
 use stack_base::{DevId, PoolId, Status};
 use task_core::{End, Got, How, What};
@@ -74,8 +74,7 @@ pub fn pushes(what: &What, dev: DevId, start: u64, sectors: u64, leg: u32) -> bo
 
 /// Which bio of this disk ended, and how.
 pub fn completed_of(what: &What, disk: DevId) -> Option<(u64, Status)>
-    ensures { MatchOption result ((index : ℕ) (status : _) → what.now ≡ told.Complete disk index status → ⊥)
-        (λ done. what.now ≡ told.Complete disk done.0 done.1) }
+    ensures { IsCompletionRead disk what.now result }
 {
     match *what {
         What::Complete {

@@ -5,8 +5,7 @@ ghost use Rattle.stack_base.specs.Stack.{IsStack};
 ghost use Rattle.stack_base.specs.declared.ids.PoolId.{PoolId as Pools};
 ghost use Rattle.fail_script.specs.Script.{Answers};
 ghost use Rattle.run_machine.specs.Opened.{reserve_of};
-ghost use Rattle.task_core.specs.opened.NewTasks.{new_tally};
-ghost use Rattle.plain_core.specs.opening.Opening.{all_books, all_disks, all_pools, new_disk, new_core_objects};
+ghost use Rattle.plain_core.specs.opening.Opening.{all_books, all_disks, all_pools, begun_objects, new_disk};
 
 use crate::objects::Objects;
 use crate::objects::book::Book;
@@ -137,7 +136,7 @@ pub fn open_objects(
     requires some { 0 < length left.items }
     requires few { length left.items ≤ 2 ^ 32 }
     requires unfinished { sum left.items < 2 ^ 32 }
-    ensures { IfOk result (λ objects. objects ≡ new_core_objects stack.now scripts.now routes.now.places (new_tally left.items writes)) }
+    ensures { IfOk result (λ objects. objects ≡ begun_objects stack.now scripts.now routes.now.places left.items writes) }
 {
     let pools = open_pools(alloc, stack, scripts)?;
     let rescues = open_rescues(alloc, stack.devices.len())?;

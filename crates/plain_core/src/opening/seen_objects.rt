@@ -4,7 +4,7 @@ ghost use Rattle.task_core.specs.opened.OfOne.{scenario_in, IsOpened};
 ghost use Rattle.run_machine.specs.Opened.{objects as objects_at};
 ghost use Rattle.task_core.specs.Plains.{stage_of, tally_of};
 ghost use Rattle.task_steps.specs.Stage.{is_pool};
-ghost use Rattle.plain_core.specs.opening.Opening.{all_disks, all_pools, new_disk, new_pool, core_objects_of};
+ghost use Rattle.plain_core.specs.opening.Opening.{all_disks, new_disk, new_pool, core_objects_of, core_pools_of};
 
 use crate::objects::Objects;
 use crate::objects::disk::Disk;
@@ -52,7 +52,7 @@ fn pool_seen(
 fn pools_seen(alloc: Global, opened: &Opened, routes: &Routes) -> Result<Vec<Pool>, AllocError>
     requires opened { IsOpened opened.now }
     requires routes { routes.now ≡ (stage_of opened.now.objects).routing }
-    ensures { IfOk result (λ pools. pools.items ≡ all_pools (scenario_in opened.now).stack (scenario_in opened.now).scripts) }
+    ensures { IfOk result (λ pools. pools.items ≡ core_pools_of (scenario_in opened.now)) }
 {
     let mut pools = Vec::with_capacity(alloc, MOST_POOLS as usize)?;
     'seeing: for number in 0..MOST_POOLS {

@@ -1,8 +1,8 @@
 //! Tasks in their order, each found by its name.
-ghost use Rattle.std.specs.Prelude.{◌≡◌, ◌<◌, ◌+◌, [], ◌∷◌, map, length, IfOk, OnOk};
+ghost use Rattle.std.specs.Prelude.{◌≡◌, ◌<◌, ◌+◌, map, length, IfOk, OnOk};
 ghost use Rattle.plain_core.specs.Cores.{most_slots, slot_of};
 ghost use Rattle.run_machine.specs.Submissions.{rests};
-ghost use Rattle.plain_core.specs.opening.Opening.{AreTasksEntered, EntersTasks, task_slot};
+ghost use Rattle.plain_core.specs.opening.Opening.{AreTasksEntered, EntersTask, task_slot};
 ghost use Rattle.plain_core.specs.steps.Views.{submission_of_plain, task_of_plain};
 
 use crate::objects::lists::Lists;
@@ -30,7 +30,7 @@ pub fn slot_of(task: TaskId) -> u64
 pub fn enter(tasks: &mut Vec<Task>, places: &mut Vec<u32>, task: Task) -> Result<(), AllocError>
     requires small { task_slot task < most_slots }
     requires entered { AreTasksEntered (map task_of_plain tasks.old.items) places.old.items (task_slot task) }
-    ensures { OnOk result (EntersTasks tasks.old.items (task_of_plain task ∷ []) tasks.new.items places.new.items (task_slot task + 1)) }
+    ensures { OnOk result (EntersTask tasks.old.items task tasks.new.items places.new.items) }
 {
     let slot = slot_of(task.id());
     places[slot as usize] = tasks.len() as u32;

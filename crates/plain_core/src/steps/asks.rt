@@ -1,11 +1,9 @@
 //! Requests of tasks to objects, a call each. The object does what the event tells, and the call answers with what came of it. Where the
 //! object can't do so, or the event is none of this request, the answer is `NotEnabled`, and nothing is changed. No call here takes memory.
 ghost use Rattle.std.specs.Prelude.{◌<◌};
-ghost use Rattle.run_machine.specs.Requests.{GiveBio, GiveVec, GiveSlip, Pop, Complete, Drop, Done, Resize, NextRound, Link, Write, LinkedTo, Did, Popped, Completed, DroppedTo, OutIs};
-ghost use Rattle.bio_books.specs.Links.{Made};
+ghost use Rattle.run_machine.specs.Requests.{GiveBio, GiveVec, GiveSlip, Pop, Done, Resize, NextRound, Did, Popped, OutIs};
 ghost use Rattle.stack_base.specs.PoolId.{pool_number};
-ghost use Rattle.plain_core.specs.objects.Books.{ended_of_plain};
-ghost use Rattle.plain_core.specs.steps.Answers.{AnswersRequest};
+ghost use Rattle.plain_core.specs.steps.Answers.{AnswersComplete, AnswersDrop, AnswersRequest, AnswersWrite};
 
 use crate::fault::CoreFault;
 use crate::objects::Objects;
@@ -63,7 +61,7 @@ pub fn complete(
     disk: DevId,
     what: &What,
 ) -> Result<(u64, Part, Status), CoreFault>
-    ensures { AnswersRequest objects.old (Complete disk) what.now (λ done. Completed done.0 done.1 done.2) result objects.new }
+    ensures { AnswersComplete objects.old disk what.now result objects.new }
 {
     objects.complete(disk, what)
 }
@@ -77,7 +75,7 @@ pub fn tell(
     part: Option<Part>,
     what: &What,
 ) -> Result<NodeOutcome, CoreFault>
-    ensures { AnswersRequest objects.old (Drop writer place status part) what.now (λ ended. DroppedTo (ended_of_plain ended)) result objects.new }
+    ensures { AnswersDrop objects.old writer place status part what.now result objects.new }
 {
     objects.tell(writer, place, status, part, what)
 }
@@ -97,7 +95,7 @@ pub fn open_write(
     vector: Option<Vector>,
     what: &What,
 ) -> Result<u32, CoreFault>
-    ensures { AnswersRequest objects.old (Link writer (Write write vector)) what.now (λ node. LinkedTo (Made node)) result objects.new }
+    ensures { AnswersWrite objects.old writer write vector what.now result objects.new }
 {
     objects.open_write(writer, write, vector, what)
 }

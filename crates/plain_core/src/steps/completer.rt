@@ -1,10 +1,10 @@
 //! Steps of completers.
 ghost use Rattle.std.specs.Prelude.{◌≡◌, ℕ, ◌<◌, true, false, None};
-ghost use Rattle.plain_core.specs.steps.Views.{carried_of_plain, completer_of};
+ghost use Rattle.plain_core.specs.steps.Views.{carried_of_plain};
 ghost use Rattle.run_machine.specs.Tasks.{after_drop};
 ghost use Rattle.plain_core.specs.objects.Books.{ended_of_plain};
-ghost use Rattle.plain_core.specs.steps.Moves.{AlwaysMoves};
-ghost use Rattle.plain_core.specs.steps.Closing.{GivesFirst, PassesOn, ClosesOn, IsCarried};
+ghost use Rattle.plain_core.specs.steps.Moves.{CompleterMoves};
+ghost use Rattle.plain_core.specs.steps.Closing.{CarriesOn, GivesFirst, GivesFirstHeld, PassesOn, ClosesOn};
 
 use crate::fault::CoreFault;
 use crate::objects::Objects;
@@ -88,7 +88,7 @@ fn give_part(
 // The first of what a closed node holds goes back, vector, bio or record (`bio_free`, `block/bio.c`, and `free_r1bio`,
 // `drivers/md/raid1.c`). It answers whether there was anything.
 fn give_first(objects: &mut Objects, held: &mut Holding, what: &What) -> Result<bool, CoreFault>
-    ensures { GivesFirst objects.old held.old.vector held.old.bio held.old.slip what.now result objects.new held.new.vector held.new.bio held.new.slip }
+    ensures { GivesFirstHeld objects.old held.old what.now result objects.new held.new }
 {
     match &held.vector {
         None => give_part(objects, &mut held.bio, &mut held.slip, what),
@@ -130,7 +130,7 @@ fn carry(
     carried: &mut PlainCarried,
     what: &What,
 ) -> Result<(), CoreFault>
-    ensures { IsCarried objects.old disk (carried_of_plain carried.old) what.now result objects.new (carried_of_plain carried.new) }
+    ensures { CarriesOn objects.old disk carried.old what.now result objects.new carried.new }
 {
     match carried {
         PlainCarried::Empty => match asks::complete(objects, disk, what) {
@@ -171,7 +171,7 @@ pub fn completer_step(
     completer: &mut Completer,
     what: &What,
 ) -> Result<(), CoreFault>
-    ensures { AlwaysMoves objects.old (completer_of completer.old) what.now result objects.new (completer_of completer.new) }
+    ensures { CompleterMoves objects.old completer.old what.now result objects.new completer.new }
 {
     carry(objects, completer.disk, &mut completer.carried, what)
 }

@@ -1,10 +1,8 @@
 //! Steps of the keeper of the rounds.
 ghost use Rattle.plain_core.specs.steps.Views.{keeper_of};
-ghost use Rattle.run_machine.specs.Tasks.{duty_request};
 ghost use Rattle.task_steps.specs.KeeperViews.{duty_of};
-ghost use Rattle.plain_core.specs.steps.Moves.{AlwaysMoves, duty_reply};
+ghost use Rattle.plain_core.specs.steps.Moves.{AlwaysMoves, AnswersDuty};
 ghost use Rattle.plain_core.specs.steps.Duties.{IsOfPool};
-ghost use Rattle.plain_core.specs.steps.Answers.{AnswersRequest};
 
 use crate::fault::CoreFault;
 use crate::objects::Objects;
@@ -15,7 +13,7 @@ use task_core::{Duty, What};
 // What the keeper does next.
 fn keep(objects: &mut Objects, duty: Duty, what: &What) -> Result<(), CoreFault>
     requires { IsOfPool (duty_of duty) }
-    ensures { AnswersRequest objects.old (duty_request (duty_of duty)) what.now (λ done. duty_reply (duty_of duty)) result objects.new }
+    ensures { AnswersDuty objects.old (duty_of duty) what.now result objects.new }
 {
     match duty {
         Duty::Resizes { pool, min, .. } => asks::resize(objects, pool, min, what),

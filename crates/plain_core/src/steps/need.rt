@@ -1,10 +1,8 @@
 //! What tasks need so that they can go on without ordinary memory.
 ghost use Rattle.std.specs.Prelude.{◌≡◌, None, Some};
-ghost use Rattle.run_machine.specs.Submissions.{submission_request, Rests as AtRest};
-ghost use Rattle.run_machine.specs.Scene.{Setup};
+ghost use Rattle.run_machine.specs.Submissions.{Rests as AtRest};
 ghost use Rattle.run_machine.specs.Tasks.{closed_request};
-ghost use Rattle.plain_core.specs.steps.Free.{need_of, IsNeedOfDoing, IsNeedOfTask};
-ghost use Rattle.plain_core.specs.objects.Lists.{lists_of};
+ghost use Rattle.plain_core.specs.steps.Free.{need_of, IsNeedOfDoing, IsNeedOfSubmission, IsNeedOfTask};
 ghost use Rattle.plain_core.specs.steps.Submissions.{copies_for, cuts_for, drives_for};
 ghost use Rattle.plain_core.specs.steps.Views.{ask_of_plain, completer_of, doing_of_plain, keeper_of, rescuer_of, task_of_plain, want_of_plain, writer_of};
 ghost use Rattle.plain_core.specs.steps.Closing.{closed_asks};
@@ -104,7 +102,7 @@ fn copy_need(copying: &Copying, want: &PlainWant) -> Need
 
 // What a submission needs.
 fn submission_need(submission: &PlainSubmission) -> Need
-    ensures { (s : Setup) → result ≡ need_of (submission_request s (doing_of_plain submission.now.doing) (lists_of submission.now.lists)) }
+    ensures { IsNeedOfSubmission result submission.now }
 {
     match &submission.doing {
         PlainDoing::Rests => Need::Never,

@@ -2,12 +2,12 @@
 ghost use Rattle.std.specs.Prelude.{◌≡◌, ◌<◌, length, IfOk};
 ghost use Rattle.run_machine.specs.Submissions.{goes_on};
 ghost use Rattle.task_steps.specs.Routed.{routing_setup};
-ghost use Rattle.task_steps.specs.SubmissionViews.{landed_submission};
+ghost use Rattle.task_steps.specs.DriverSteps.{routed_landing};
 ghost use Rattle.task_steps.specs.Within.{IsWithinDevice, ListsAreWithin, DoingFits, SubmissionFits};
 ghost use Rattle.plain_core.specs.objects.Lists.{lists_of, ListsHaveCapacity};
 ghost use Rattle.plain_core.specs.steps.Views.{ask_of_plain, doing_of_plain, submission_of_plain, want_of_plain};
 ghost use Rattle.plain_core.specs.declared.steps.submission.Continuation.TheVariants as then;
-ghost use Rattle.plain_core.specs.steps.Submissions.{SubmissionMoves, CanTurn, turned, drives_for, IsFirstAsk, DriveSteps, DoingSteps};
+ghost use Rattle.plain_core.specs.steps.Submissions.{PlainSubmissionMoves, CanTurn, turned_by, drives_for, IsFirstAsk, DriveSteps, DoingSteps};
 
 pub(crate) mod cut;
 pub(crate) mod mirror;
@@ -52,7 +52,7 @@ fn first_ask(routes: &Routes, dev: DevId, lists: &Lists) -> DriverAsk
 // A bio is served next.
 pub fn drive(routes: &Routes, part: Part, submission: &mut PlainSubmission)
     requires { IsWithinDevice routes.now.stack part.bio }
-    ensures { submission_of_plain submission.new ≡ landed_submission (routing_setup routes.now) (lists_of submission.old.lists) part }
+    ensures { submission_of_plain submission.new ≡ routed_landing routes.now (lists_of submission.old.lists) part }
 {
     let at = routes.land(part.bio());
     let ask = first_ask(routes, at.dev, &submission.lists);
@@ -123,7 +123,7 @@ fn drive_step(
 // What comes behind an answer is done.
 fn turn(routes: &Routes, next: Continuation, submission: &mut PlainSubmission)
     requires { CanTurn routes.now.stack submission.old.lists next }
-    ensures { submission_of_plain submission.new ≡ turned (routing_setup routes.now) (doing_of_plain submission.old.doing) (lists_of submission.old.lists) next }
+    ensures { submission_of_plain submission.new ≡ turned_by routes.now submission.old next }
 {
     match next {
         Continuation::Stays => {}
@@ -165,7 +165,7 @@ pub fn submission_step(
 ) -> Result<(), CoreFault>
     requires stack { objects.old.stack ≡ routes.now.stack }
     requires fits { SubmissionFits routes.now.stack (submission_of_plain submission.old) }
-    ensures { SubmissionMoves routes.now objects.old (submission_of_plain submission.old) what.now result objects.new (submission_of_plain submission.new) }
+    ensures { PlainSubmissionMoves routes.now objects.old submission.old what.now result objects.new submission.new }
 {
     match answer(
         routes,

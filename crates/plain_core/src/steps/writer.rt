@@ -6,7 +6,7 @@ ghost use Rattle.task_steps.specs.Routed.{routing_setup};
 ghost use Rattle.run_machine.specs.Tasks.{needs_vector, NoBio, HasBio, HasBoth};
 ghost use Rattle.task_steps.specs.Within.{IsWithinDevice, TaskFits};
 ghost use Rattle.plain_core.specs.steps.Views.{submission_of_plain, doing_of_plain, gathered_of_plain, writer_of};
-ghost use Rattle.plain_core.specs.steps.Moves.{begun_with, WriterMoves, WriterMovesFor};
+ghost use Rattle.plain_core.specs.steps.Moves.{NeedsVector, begun_with, WriterMoves, WriterMovesFor};
 ghost use Rattle.plain_core.specs.steps.Takes.{TakesVector};
 
 use crate::fault::CoreFault;
@@ -96,7 +96,7 @@ fn vector_step(
 ) -> Result<(), CoreFault>
     requires rests { doing_of_plain writer.old.submission.doing ≡ AtRest }
     requires taken { gathered_of_plain writer.old.taken ≡ HasBio hand.now }
-    ensures { WriterMovesFor (λ next. needs_vector next.write ≡ true) objects.old writer.old what.now result objects.new writer.new }
+    ensures { WriterMovesFor NeedsVector objects.old writer.old what.now result objects.new writer.new }
 {
     match take_vector(objects, what) {
         Err(fault) => Err(fault),

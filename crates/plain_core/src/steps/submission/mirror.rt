@@ -2,8 +2,8 @@
 ghost use Rattle.std.specs.Prelude.{◌≡◌, ◌+◌, ◌<◌, length, true, IfOk};
 ghost use Rattle.stack_base.specs.Tree.{tree};
 ghost use Rattle.bio_lists.specs.Submission.{submitted};
-ghost use Rattle.run_machine.specs.Submissions.{copies, legs_of};
-ghost use Rattle.task_steps.specs.Routed.{routing_setup};
+ghost use Rattle.run_machine.specs.Submissions.{legs_of};
+ghost use Rattle.task_steps.specs.DriverSteps.{routed_copies};
 ghost use Rattle.task_steps.specs.Within.{IsWithinDevice, ListsAreWithin, DoingFits};
 ghost use Rattle.plain_core.specs.objects.Lists.{lists_of, ListsHaveCapacity};
 ghost use Rattle.plain_core.specs.steps.Views.{submission_of_plain, want_of_plain};
@@ -104,7 +104,7 @@ pub(crate) fn begin_copy(routes: &Routes, bio: Bio, master: u32, submission: &mu
     requires room { ListsHaveCapacity 0 submission.old.lists }
     requires device { bio.dev.0 < length routes.now.stack.devices.items }
     requires lists { ListsAreWithin routes.now.stack (lists_of submission.old.lists) }
-    ensures { submission_of_plain submission.new ≡ copies (routing_setup routes.now) (lists_of submission.old.lists) bio master 0 }
+    ensures { submission_of_plain submission.new ≡ routed_copies routes.now (lists_of submission.old.lists) bio master 0 }
 {
     if routes.legs(bio.dev) == 0 {
         return go_on(routes, bio.dev, submission);
