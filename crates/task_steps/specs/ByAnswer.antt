@@ -34,8 +34,8 @@ abbrev pub HasNothing : {S : Type 0} → (S → Request → Reply → S → Type
 HasNothing serves setup task old left new = (middle : _) × HasReply serves setup task old Nothing middle × serves middle LookLeft (LeftOver left) new
 
 -- its object refused what it asked for next, or had no ticket for it, and it has broken off
-abbrev pub WasRefused : {S : Type 0} → (S → Request → Reply → S → Type 0) → Setup → TaskState → S → Breach → TaskState → S → Type 0
-WasRefused serves setup task old breach next new =
+abbrev pub WasTurnedAway : {S : Type 0} → (S → Request → Reply → S → Type 0) → Setup → TaskState → S → Breach → TaskState → S → Type 0
+WasTurnedAway serves setup task old breach next new =
     (reply : Reply) × HasReply serves setup task old reply new × (what_of (request setup task) reply ≡ None)
     × (silent_step setup (request setup task) reply ≡ Broken breach) × (next ≡ answered setup task reply)
 
@@ -61,7 +61,7 @@ TurnWas serves setup task old next new Ended =
     (next ≡ task) × (((request setup task ≡ Rest) × (breach_of task ≡ None) × (new ≡ old)) ⊎ HasNothing serves setup task old 0 new)
 TurnWas serves setup task old next new (Broken breach) =
     (breach_of next ≡ Some breach)
-    × (((request setup task ≡ Rest) × (next ≡ task) × (new ≡ old)) ⊎ WasRefused serves setup task old breach next new)
+    × (((request setup task ≡ Rest) × (next ≡ task) × (new ≡ old)) ⊎ WasTurnedAway serves setup task old breach next new)
 
 -- the answer to each turn over these objects tells what it was
 abbrev pub AnswersTellTurns : {S : Type 0} → Ghosts S → Type 0
