@@ -37,6 +37,7 @@ where
         note: _,
         drew: _,
         drawn: _,
+        chosen: _,
         ticket: _,
     } = lock.call(rt, seat, Asking { pass: held, ask });
     *pass = Some(back);
