@@ -1,5 +1,5 @@
 -- Histories, and the lock that keeps one, add up where each call does.
-use Rattle.std.proofs.Common.{◌≡◌, ◌+◌, ◌++◌, ◌-◌, ◌≤◌, ℕ, zero, suc, ⊎_elim, inl, inr, List, [], ◌∷◌, Option, Some, None, length, get_or, set, refl, sym, ◌∙◌, ap, subst, arith}
+use Rattle.std.proofs.Common.{◌≡◌, ◌+◌, ◌++◌, ◌-◌, ◌≤◌, ℕ, zero, suc, ⊎_elim, inl, inr, Bool, true, List, [], ◌∷◌, Option, Some, None, length, get_or, set, refl, sym, ◌∙◌, ap, subst, arith}
 use Rattle.std.specs.Prelude.{sum}
 use Rattle.std.specs.List.{flat_map}
 use Rattle.std.specs.declared.snapshot.Snapshot.{Snapshot}
@@ -75,9 +75,9 @@ had old got.Missed new h = absurd h
 resized : (old : LedgerPool) (min out : ℕ) (new : LedgerPool) → Resizes old min out new → PoolAddsUp old [] new
 resized old min out new r = ⊎_elim (λ a. moved [] a.1) (λ b. same_pool b.1) r.1
 
-undone : (old new : LedgerPool) → Undone old new → PoolAddsUp old [] new
-undone old new (inl (used, missed)) = moved [] missed
-undone old new (inr (from, between, taken, back)) = then [] [] [] (had old from between taken) (moved [] back)
+undone : (waits : Bool) (old new : LedgerPool) → Undone waits old new → PoolAddsUp old [] new
+undone waits old new (inl (used, missed)) = moved [] missed.0
+undone waits old new (inr (from, between, taken, back)) = then [] [] [] (had old from between taken) (moved [] back)
 
 pool_served : (old : LedgerPool) (asked : Request) (reply : Reply) (new : LedgerPool) → PoolServes old asked reply new → PoolAddsUp old [] new
 pool_served old (TakeBio set waits) (HadBio from bio) new s = had old from new s.0
@@ -96,9 +96,9 @@ pool_looked : (old : ThingState LedgerPool) (asked : Request) (reply : Reply) (n
 pool_looked old (TakeBio set waits) (Missed used) new l = moved [] l.2
 pool_looked old TakeVec (Missed used) new l = moved [] l.2
 pool_looked old (TakeSlip dev) (Missed used) new l = moved [] l.2
-pool_looked old (TakeBio set waits) Spent new l = undone old.object new.object l.0
-pool_looked old TakeVec Spent new l = undone old.object new.object l.0
-pool_looked old (TakeSlip dev) Spent new l = undone old.object new.object l.0
+pool_looked old (TakeBio set waits) Spent new l = undone waits old.object new.object l.0
+pool_looked old TakeVec Spent new l = undone true old.object new.object l.0
+pool_looked old (TakeSlip dev) Spent new l = undone true old.object new.object l.0
 pool_looked old (GiveBio bio) Spent new l = same_pool l.0
 pool_looked old (GiveVec vector) Spent new l = same_pool l.0
 pool_looked old (GiveSlip slip) Spent new l = same_pool l.0
@@ -126,7 +126,7 @@ list_looked : (old : ThingState Rescue) (asked : Request) (reply : Reply) (new :
     → old.object.bios ++ punted_by_call asked reply ≡ popped_by_call asked reply ++ new.object.bios
 list_looked old (Pop dev) Nothing new l = list_same old.object new.object l.1.0
 list_looked old (Punt dev handed) Spent new l = list_same old.object new.object l.0
-list_looked old (Pop dev) Spent new l = list_same old.object new.object l.0
+list_looked old (Pop dev) Spent new l = list_same old.object new.object l.1.0
 list_looked old asked reply new l = absurd l
 
 pub list_none : (list : Rescue) → ListAddsUp list [] list
@@ -162,7 +162,7 @@ disk_looked : (old : ThingState DiskState) (asked : Request) (reply : Reply) (ne
 disk_looked old (Complete disk) (LeftOver count) new l = disk_same old.object new.object l.1.0
 disk_looked old (Complete disk) Nothing new l = disk_same old.object new.object l.1.0
 disk_looked old (Push bio) Spent new l = disk_same old.object new.object l.0
-disk_looked old (Complete disk) Spent new l = disk_same old.object new.object l.0
+disk_looked old (Complete disk) Spent new l = disk_same old.object new.object l.1.0
 disk_looked old asked reply new l = absurd l
 
 pub disk_none : (disk : DiskState) → DiskAddsUp disk [] disk

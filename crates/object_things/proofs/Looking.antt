@@ -42,13 +42,13 @@ pub disk_quiet : (old new : ThingState DiskState) (asked : Request) (reply : Rep
 disk_quiet old new (Complete disk) (LeftOver count) looks = quiet_look old new _ refl looks.1
 disk_quiet old new (Complete disk) Nothing looks = quiet_look old new _ refl looks.1
 disk_quiet old new (Push bio) Spent looks = quiet_none old new _ refl looks
-disk_quiet old new (Complete disk) Spent looks = quiet_none old new _ refl looks
+disk_quiet old new (Complete disk) Spent looks = quiet_none old new _ refl looks.1
 disk_quiet old new asked reply looks = absurd looks
 
 pub list_quiet : (old new : ThingState Rescue) (asked : Request) (reply : Reply) → ListLooks old asked reply new → IsQuiet old reply (what_of asked reply) new
 list_quiet old new (Pop dev) Nothing looks = quiet_look old new _ refl looks.1
 list_quiet old new (Punt dev moved) Spent looks = quiet_none old new _ refl looks
-list_quiet old new (Pop dev) Spent looks = quiet_none old new _ refl looks
+list_quiet old new (Pop dev) Spent looks = quiet_none old new _ refl looks.1
 list_quiet old new asked reply looks = absurd looks
 
 -- a miss that used up no entry leaves a pool as it is
@@ -66,16 +66,16 @@ miss_quiet old new true false pool looks = quiet_look old new _ refl (same_pool 
 miss_quiet old new true true pool looks = absurd (cc looks.1)
 miss_quiet old new false used pool looks = absurd (cc looks.0)
 
-take_quiet : (old new : ThingState LedgerPool) (told : Option What) → told ≡ None → TakeFindsNone old new → IsQuiet old Spent told new
-take_quiet old new told is none = record { keeps = inr (refl, none.1); spent = λ h. none.1; told = is }
+take_quiet : (waits : Bool) (old new : ThingState LedgerPool) (told : Option What) → told ≡ None → TakeFindsNone waits old new → IsQuiet old Spent told new
+take_quiet waits old new told is none = record { keeps = inr (refl, none.1); spent = λ h. none.1; told = is }
 
 pub pool_quiet : (old new : ThingState LedgerPool) (asked : Request) (reply : Reply) → PoolLooks old asked reply new → IsQuiet old reply (what_of asked reply) new
 pool_quiet old new (TakeBio set waits) (Missed used) looks = miss_quiet old new waits used _ looks
 pool_quiet old new TakeVec (Missed used) looks = miss_quiet old new true used _ looks
 pool_quiet old new (TakeSlip dev) (Missed used) looks = miss_quiet old new true used _ looks
-pool_quiet old new (TakeBio set waits) Spent looks = take_quiet old new _ refl looks
-pool_quiet old new TakeVec Spent looks = take_quiet old new _ refl looks
-pool_quiet old new (TakeSlip dev) Spent looks = take_quiet old new _ refl looks
+pool_quiet old new (TakeBio set waits) Spent looks = take_quiet waits old new _ refl looks
+pool_quiet old new TakeVec Spent looks = take_quiet true old new _ refl looks
+pool_quiet old new (TakeSlip dev) Spent looks = take_quiet true old new _ refl looks
 pool_quiet old new (GiveBio bio) Spent looks = quiet_none old new _ refl looks
 pool_quiet old new (GiveVec vector) Spent looks = quiet_none old new _ refl looks
 pool_quiet old new (GiveSlip slip) Spent looks = quiet_none old new _ refl looks

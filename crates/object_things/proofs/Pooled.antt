@@ -53,10 +53,11 @@ module _ {P : Type 0} (is_clear : P → Type 0) where
   miss_looks name waits old new stamp (Spare el) w look takes = absurd (cc look)
   miss_looks name waits old new stamp (Miss used) w look takes = looks_by name waits used old new stamp w (looks_at waits used look) takes
 
-  pub undone : (old between new : LedgerPool) (taken : Taken P) → TakeOf is_clear old taken between → GoesBack taken between new → Undone old new
-  undone old between new (Ordinary el) takes back = inr (got.Ordinary, between, takes.0, back)
-  undone old between new (Spare el) takes back = inr (got.Spare, between, takes.0, back)
-  undone old between new (Miss used) takes back = inl (used, subst (PoolMoves old (misses used)) (sym back) takes)
+  pub undone : (waits : Bool) (old between new : LedgerPool) (taken : Taken P) → is_look waits taken ≡ false → TakeOf is_clear old taken between
+      → GoesBack taken between new → Undone waits old new
+  undone waits old between new (Ordinary el) told takes back = inr (got.Ordinary, between, takes.0, back)
+  undone waits old between new (Spare el) told takes back = inr (got.Spare, between, takes.0, back)
+  undone waits old between new (Miss used) told takes back = inl (used, (subst (PoolMoves old (misses used)) (sym back) takes, told_so waits used told))
 
   pub took_from : (old new : LedgerPool) (taken : Taken P) → TakeOf is_clear old taken new → TookFrom is_clear old.ledger (Ok taken)
   took_from old new (Ordinary el) takes = takes.1
@@ -68,11 +69,12 @@ module _ {P : Type 0} (is_clear : P → Type 0) where
   take_stays old new (Spare el) takes = (takes.0.ledger, takes.0.most)
   take_stays old new (Miss used) takes = (takes.ledger, takes.most)
 
-pub take_spent : (name : PoolId) (waits : Bool) (old new : ThingState LedgerPool) → TakeFindsNone old new → PoolLooks old (take_request name waits) Spent new
-take_spent FsBios waits old new none = none
-take_spent (Bios dev) waits old new none = none
-take_spent FsVecs waits old new none = none
-take_spent (Records dev) waits old new none = none
+pub take_spent : (name : PoolId) (waits : Bool) (old new : ThingState LedgerPool) → WaitsAt name waits → TakeFindsNone waits old new
+    → PoolLooks old (take_request name waits) Spent new
+take_spent FsBios waits old new w none = none
+take_spent (Bios dev) waits old new w none = none
+take_spent FsVecs waits old new w none = subst (λ b. TakeFindsNone b old new) w none
+take_spent (Records dev) waits old new w none = subst (λ b. TakeFindsNone b old new) w none
 
 pub give_served : (name : PoolId) (share : LedgerId) (old new : LedgerPool) → PoolMoves old gives new → share ≡ old.ledger → PoolServes old (give_of name share) Did new
 give_served FsBios share old new moves own = (moves, own)

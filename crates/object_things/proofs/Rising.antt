@@ -121,7 +121,8 @@ module _ {O : Type 0} (serves : O → Request → Reply → O → Type 0) (looks
   keeps_history = record { rises = rises; runs = runs; quiet = quiet; refused = refused; carry = carry; entries = entries }
 
   module _ (unserved : (old : O) (asked : Request) (new : O) → serves old asked Spent new → ⊥)
-      (found : (old new : ThingState O) (asked : Request) → looks old asked Spent new → new.spent ≡ true) where
+      (found : (old new : ThingState O) (asked : Request) → looks old asked Spent new → new.spent ≡ true)
+      (keeps : (old new : ThingState O) (asked : Request) (reply : Reply) → looks old asked reply new → is_spent reply ≡ false → new.spent ≡ old.spent) where
     -- a call that is told that there was none has no ticket, and leaves the thing marked
     told_none : (old new : ThingState O) (asked : Request) (reply : Reply) (ticket : Option ℕ) → reply ≡ Spent → StepOf serves looks old asked reply ticket new
         → (is_some ticket ≡ false) × (new.spent ≡ true)
@@ -136,5 +137,32 @@ module _ {O : Type 0} (serves : O → Request → Reply → O → Type 0) (looks
         let bare = uncarried (what_of call.asked call.told.reply) call.told.drawn call.told.ticket l.1.ticket here.0 in
         (ap (λ b. cond b (call ∷ drawn_in rest) (drawn_in rest)) here.0 ∙ after.0, ap (λ b. cond b (call ∷ ticketed_in rest) (ticketed_in rest)) bare ∙ after.1, after.2)
 
+    -- the look that marked the thing was told so
+    marked : (old new : ThingState O) (asked : Request) (reply : Reply) → looks old asked reply new → old.spent ≡ false → new.spent ≡ true → is_spent reply ≡ true
+    marked old new asked reply looks had none = by_test (is_spent reply) refl
+      where
+        by_test : (b : Bool) → is_spent reply ≡ b → b ≡ true
+        by_test true is = refl
+        by_test false is = absurd (true≢false (sym none ∙ keeps old new asked reply looks is ∙ had))
+
+    marks : (old new : ThingState O) (history : List Call) → Leads (ThingAnswers serves looks chooses) old history new → old.spent ≡ false → new.spent ≡ true
+        → (call : Call) × Contains history call × FoundNone call
+    marks old new [] leads had none = absurd (true≢false (sym none ∙ ap (λ (thing : ThingState O). thing.spent) (sym leads) ∙ had))
+    marks old new (call ∷ calls) leads had none =
+        by_ticket call.told.drawn refl leads.1.step leads.0.spent refl (λ still. marks leads.0 new calls leads.2 still none)
+      where
+        Found : List Call → Type 0
+        Found list = (x : Call) × Contains list x × FoundNone x
+
+        further : Found calls → Found (call ∷ calls)
+        further (x, there, found) = (x, Contains-append_right (call ∷ []) calls x there, found)
+
+        by_ticket : (ticket : Option ℕ) → call.told.drawn ≡ ticket → StepOf serves looks old call.asked call.told.reply ticket leads.0 → (b : Bool)
+            → leads.0.spent ≡ b → (leads.0.spent ≡ false → Found calls) → Found (call ∷ calls)
+        by_ticket ticket t step false is rest = further (rest is)
+        by_ticket (Some n) t step true is rest = absurd (true≢false (sym is ∙ step.4))
+        by_ticket None t step true is rest =
+            (call, first_there call calls, (marked old leads.0 call.asked call.told.reply step.0 had is, leads.1.drew ∙ ap not had, t))
+
     pub stays_spent : StaysSpent serves looks chooses
-    stays_spent = record { found = found; stays = λ old new history l h. none_drawn old new history h l; follows = follows }
+    stays_spent = record { found = found; stays = λ old new history l h. none_drawn old new history h l; follows = follows; marks = marks }

@@ -1,12 +1,13 @@
--- A call that is told that there was no ticket was not served, and leaves the thing marked.
-use Rattle.std.proofs.Common.{◌≡◌, true}
+-- A call that is told that there was no ticket was not served, and leaves the thing marked. No other look marks it.
+use Rattle.std.proofs.Common.{◌≡◌, true, false}
+use Rattle.std.proofs.lemmas.Bool.{true≢false}
 use Rattle.bio_records.specs.Rescue.{Rescue}
 use Rattle.bio_books.specs.Books.{BookState}
 use Rattle.mempool_core.specs.Pool.{LedgerPool}
 use Rattle.model_disks.specs.Disks.{DiskState}
-use Rattle.run_machine.specs.Requests.{Request, TakeBio, TakeVec, TakeSlip, GiveBio, GiveVec, GiveSlip, Resize, Punt, Pop, Push, Complete, Link, Drop, Done, NextRound, LookRound, LookLeft, Spent}
+use Rattle.run_machine.specs.Requests.{Request, Reply, TakeBio, TakeVec, TakeSlip, GiveBio, GiveVec, GiveSlip, Resize, Punt, Pop, Push, Complete, Link, Drop, Done, NextRound, LookRound, LookLeft, Missed, Present, LeftOver, Nothing, Spent}
 use Rattle.run_machine.specs.Objects.{TallyState}
-use Rattle.object_things.specs.Stamps.{ThingState}
+use Rattle.object_things.specs.Stamps.{ThingState, is_spent}
 use Rattle.object_things.specs.Books.{BookServes, BookLooks}
 use Rattle.object_things.specs.Tallies.{TallyServes, TallyLooks}
 use Rattle.object_things.specs.Disks.{DiskServes, DiskLooks}
@@ -42,7 +43,7 @@ disk_unserved old asked new serves = serves
 
 pub disk_found : (old new : ThingState DiskState) (asked : Request) → DiskLooks old asked Spent new → new.spent ≡ true
 disk_found old new (Push bio) looks = looks.1
-disk_found old new (Complete disk) looks = looks.1
+disk_found old new (Complete disk) looks = looks.1.1
 disk_found old new asked looks = absurd looks
 
 pub list_unserved : (old : Rescue) (asked : Request) (new : Rescue) → ListServes old asked Spent new → ⊥
@@ -52,7 +53,7 @@ list_unserved old asked new serves = serves
 
 pub list_found : (old new : ThingState Rescue) (asked : Request) → ListLooks old asked Spent new → new.spent ≡ true
 list_found old new (Punt dev moved) looks = looks.1
-list_found old new (Pop dev) looks = looks.1
+list_found old new (Pop dev) looks = looks.1.1
 list_found old new asked looks = absurd looks
 
 pub pool_unserved : (old : LedgerPool) (asked : Request) (new : LedgerPool) → PoolServes old asked Spent new → ⊥
@@ -74,3 +75,45 @@ pool_found old new (GiveVec vector) looks = looks.1
 pool_found old new (GiveSlip slip) looks = looks.1
 pool_found old new (Resize pool min) looks = looks.1
 pool_found old new asked looks = absurd looks
+
+-- a look that is not told that there was no ticket leaves the thing marked or unmarked
+pub pool_keeps : (old new : ThingState LedgerPool) (asked : Request) (reply : Reply) → PoolLooks old asked reply new → is_spent reply ≡ false → new.spent ≡ old.spent
+-- a miss that drew no ticket
+pool_keeps old new (TakeBio set waits) (Missed used) looks not_none = looks.3
+pool_keeps old new TakeVec (Missed used) looks not_none = looks.3
+pool_keeps old new (TakeSlip dev) (Missed used) looks not_none = looks.3
+-- who is told that there was no ticket is left out
+pool_keeps old new (TakeBio set waits) Spent looks not_none = absurd (true≢false not_none)
+pool_keeps old new TakeVec Spent looks not_none = absurd (true≢false not_none)
+pool_keeps old new (TakeSlip dev) Spent looks not_none = absurd (true≢false not_none)
+pool_keeps old new (GiveBio bio) Spent looks not_none = absurd (true≢false not_none)
+pool_keeps old new (GiveVec vector) Spent looks not_none = absurd (true≢false not_none)
+pool_keeps old new (GiveSlip slip) Spent looks not_none = absurd (true≢false not_none)
+pool_keeps old new (Resize pool min) Spent looks not_none = absurd (true≢false not_none)
+-- a look at a pool is nothing else
+pool_keeps old new asked reply looks not_none = absurd looks
+
+pub list_keeps : (old new : ThingState Rescue) (asked : Request) (reply : Reply) → ListLooks old asked reply new → is_spent reply ≡ false → new.spent ≡ old.spent
+list_keeps old new (Pop dev) Nothing looks not_none = looks.1.1
+list_keeps old new (Punt dev moved) Spent looks not_none = absurd (true≢false not_none)
+list_keeps old new (Pop dev) Spent looks not_none = absurd (true≢false not_none)
+list_keeps old new asked reply looks not_none = absurd looks
+
+pub disk_keeps : (old new : ThingState DiskState) (asked : Request) (reply : Reply) → DiskLooks old asked reply new → is_spent reply ≡ false → new.spent ≡ old.spent
+disk_keeps old new (Complete disk) (LeftOver count) looks not_none = looks.1.1
+disk_keeps old new (Complete disk) Nothing looks not_none = looks.1.1
+disk_keeps old new (Push bio) Spent looks not_none = absurd (true≢false not_none)
+disk_keeps old new (Complete disk) Spent looks not_none = absurd (true≢false not_none)
+disk_keeps old new asked reply looks not_none = absurd looks
+
+pub book_keeps : (old new : ThingState BookState) (asked : Request) (reply : Reply) → BookLooks old asked reply new → is_spent reply ≡ false → new.spent ≡ old.spent
+book_keeps old new (Link writer opening) Spent looks not_none = absurd (true≢false not_none)
+book_keeps old new (Drop writer node status part) Spent looks not_none = absurd (true≢false not_none)
+book_keeps old new asked reply looks not_none = absurd looks
+
+pub tally_keeps : (old new : ThingState TallyState) (asked : Request) (reply : Reply) → TallyLooks old asked reply new → is_spent reply ≡ false → new.spent ≡ old.spent
+tally_keeps old new LookRound (Present round) looks not_none = looks.1.1
+tally_keeps old new LookLeft (LeftOver count) looks not_none = looks.1.1
+tally_keeps old new (Done write status) Spent looks not_none = absurd (true≢false not_none)
+tally_keeps old new (NextRound round) Spent looks not_none = absurd (true≢false not_none)
+tally_keeps old new asked reply looks not_none = absurd looks

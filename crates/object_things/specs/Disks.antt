@@ -1,5 +1,5 @@
 -- A disk as a thing.
-use Rattle.std.specs.Prelude.{◌≡◌, ◌≤◌, ◌-◌, ◌^◌, ℕ, length, min, Option, None, Some, IfErr, Result, Ok, Err}
+use Rattle.std.specs.Prelude.{◌≡◌, ◌≢◌, ◌≤◌, ◌-◌, ◌^◌, ℕ, length, min, Option, None, Some, IfErr, Result, Ok, Err}
 use Rattle.elem_ledger.specs.declared.element.Element.{Element}
 use Rattle.bio_records.specs.declared.bio.Pad.{Pad}
 use Rattle.bio_records.specs.declared.body.BioBody.{BioBody}
@@ -49,11 +49,12 @@ DiskServes old request reply new = ⊥
 abbrev pub waiting_count : DiskState → ℕ
 waiting_count disk = min (length disk.pending) (2 ^ 64 - 1)
 
+-- where none waits, nothing needs a ticket
 abbrev pub DiskLooks : ThingState DiskState → Request → Reply → ThingState DiskState → Type 0
 DiskLooks old (Complete disk) (LeftOver count) new = (count ≡ waiting_count old.object) × OnlyLooks old new
 DiskLooks old (Complete disk) Nothing new = (waiting_count old.object ≡ 0) × OnlyLooks old new
 DiskLooks old (Push bio) Spent new = FindsNone old new
-DiskLooks old (Complete disk) Spent new = FindsNone old new
+DiskLooks old (Complete disk) Spent new = (waiting_count old.object ≢ 0) × FindsNone old new
 DiskLooks old request reply new = ⊥
 
 -- the bio at the index that was chosen is completed, or the last one where fewer wait

@@ -1,12 +1,12 @@
 -- What histories of things show.
-use Rattle.std.specs.Prelude.{◌≡◌, ◌⊎◌, ◌<◌, ◌≤◌, ℕ, true, false, List, [], ◌∷◌, Option, Some, None, All, filter}
+use Rattle.std.specs.Prelude.{◌≡◌, ◌⊎◌, ◌<◌, ◌≤◌, ℕ, true, false, List, [], ◌∷◌, Option, Some, None, All, Contains, filter}
 use Rattle.std.specs.Option.{is_some}
 use Rattle.seat_lock.specs.declared.view.Entry.{Entry}
 use Rattle.seat_lock.specs.History.{Leads}
 use Rattle.run_machine.specs.declared.event.What.{What}
 use Rattle.run_machine.specs.Events.{what_of}
 use Rattle.run_machine.specs.Requests.{Request, Reply, Spent}
-use Rattle.object_things.specs.Stamps.{ThingState, Told, ThingAnswers, carried}
+use Rattle.object_things.specs.Stamps.{ThingState, Told, ThingAnswers, carried, is_spent}
 
 -- a call as a history keeps it
 abbrev pub Call : Type 0
@@ -38,6 +38,10 @@ drawn_in history = filter (λ (c : Call). is_some c.told.drawn) history
 -- those whose entries carry a ticket: the events
 abbrev pub ticketed_in : List Call → List Call
 ticketed_in history = filter (λ (c : Call). is_some c.told.ticket) history
+
+-- a call found no ticket, at an object where no draw had failed
+abbrev pub FoundNone : Call → Type 0
+FoundNone call = (is_spent call.told.reply ≡ true) × (call.told.drew ≡ true) × (call.told.drawn ≡ None)
 
 -- the entry carries the ticket that the call drew, where the call is an event, and else none
 abbrev pub CarriesItsOwn : Call → Type 0
@@ -79,10 +83,12 @@ module _ {O : Type 0} (serves : O → Request → Reply → O → Type 0) (looks
     pub entries : (old new : ThingState O) (history : List Call) → Leads (ThingAnswers serves looks chooses) old history new → CarriedRise old.note history new.note
 
   -- Once a draw at a thing found no ticket, none is drawn at it: a call that is told so leaves it marked, along each history it stays marked, and
-  -- no call that drew a ticket follows, nor an entry that carries one.
+  -- no call that drew a ticket follows, nor an entry that carries one. It is marked by such a call alone.
   pub record StaysSpent : Type 0 where
     pub found : (old new : ThingState O) (asked : Request) → looks old asked Spent new → new.spent ≡ true
     pub stays : (old new : ThingState O) (history : List Call) → Leads (ThingAnswers serves looks chooses) old history new → old.spent ≡ true
         → (drawn_in history ≡ []) × (ticketed_in history ≡ []) × (new.spent ≡ true)
     pub follows : (old new : ThingState O) (call : Call) (rest : List Call) → Leads (ThingAnswers serves looks chooses) old (call ∷ rest) new → call.told.reply ≡ Spent
         → (drawn_in (call ∷ rest) ≡ []) × (ticketed_in (call ∷ rest) ≡ []) × (new.spent ≡ true)
+    pub marks : (old new : ThingState O) (history : List Call) → Leads (ThingAnswers serves looks chooses) old history new → old.spent ≡ false → new.spent ≡ true
+        → (call : Call) × Contains history call × FoundNone call

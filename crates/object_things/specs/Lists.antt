@@ -1,5 +1,5 @@
 -- The list of a rescuer as a thing.
-use Rattle.std.specs.Prelude.{◌≡◌, ◌++◌, [], ◌∷◌, List, IfErr, Result, Ok, Err}
+use Rattle.std.specs.Prelude.{◌≡◌, ◌≢◌, ◌++◌, [], ◌∷◌, List, IfErr, Result, Ok, Err}
 use Rattle.bio_records.specs.Rescue.{Rescue}
 use Rattle.bio_records.specs.declared.bio.Pad.{Pad}
 use Rattle.bio_records.specs.Items.{Item}
@@ -38,10 +38,11 @@ ListServes old (Punt dev moved) Did new = (dev.0 ≡ old.dev.0) × (new ≡ reco
 ListServes old (Pop dev) (Popped bio) new = (dev.0 ≡ old.dev.0) × (old.bios ≡ bio ∷ new.bios) × (new.dev ≡ old.dev)
 ListServes old request reply new = ⊥
 
+-- where the list is empty, nothing needs a ticket
 abbrev pub ListLooks : ThingState Rescue → Request → Reply → ThingState Rescue → Type 0
 ListLooks old (Pop dev) Nothing new = (old.object.bios ≡ []) × OnlyLooks old new
 ListLooks old (Punt dev moved) Spent new = FindsNone old new
-ListLooks old (Pop dev) Spent new = FindsNone old new
+ListLooks old (Pop dev) Spent new = (old.object.bios ≢ []) × FindsNone old new
 ListLooks old request reply new = ⊥
 
 abbrev pub ListAnswers : ThingState Rescue → Request → Told → ThingState Rescue → Type 0

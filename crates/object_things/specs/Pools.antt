@@ -100,9 +100,9 @@ PoolServes old (GiveSlip slip) Did new = PoolMoves old gives new × (slip.share 
 PoolServes old (Resize pool min) (OutIs out) new = Resizes old min out new
 PoolServes old request reply new = ⊥
 
--- what a take that found no ticket leaves: it missed, or gave back what it had
-abbrev pub Undone : LedgerPool → LedgerPool → Type 0
-Undone old new = ((used : Bool) × PoolMoves old (misses used) new) ⊎ ((from : Got) × (between : LedgerPool) × HasOne old from between × PoolMoves between gives new)
+-- what a take that found no ticket leaves: it missed, which was to be told, or gave back what it had
+abbrev pub Undone : Bool → LedgerPool → LedgerPool → Type 0
+Undone waits old new = ((used : Bool) × MissesTold waits old used new) ⊎ ((from : Got) × (between : LedgerPool) × HasOne old from between × PoolMoves between gives new)
 
 module _ {P : Type 0} where
   -- what was taken goes back
@@ -111,8 +111,8 @@ module _ {P : Type 0} where
   GoesBack (taken.Spare el) old new = PoolMoves old gives new
   GoesBack (taken.Miss used) old new = new ≡ old
 
-abbrev pub TakeFindsNone : ThingState LedgerPool → ThingState LedgerPool → Type 0
-TakeFindsNone old new = Undone old.object new.object × (new.spent ≡ true)
+abbrev pub TakeFindsNone : Bool → ThingState LedgerPool → ThingState LedgerPool → Type 0
+TakeFindsNone waits old new = Undone waits old.object new.object × (new.spent ≡ true)
 
 abbrev pub MissLooks : Bool → ThingState LedgerPool → Bool → ThingState LedgerPool → Type 0
 MissLooks waits old used new = (waits ≡ true) × (used ≡ false) × PoolMoves old.object (misses used) new.object × (new.spent ≡ old.spent)
@@ -121,9 +121,9 @@ abbrev pub PoolLooks : ThingState LedgerPool → Request → Reply → ThingStat
 PoolLooks old (TakeBio set waits) (Missed used) new = MissLooks waits old used new
 PoolLooks old TakeVec (Missed used) new = MissLooks true old used new
 PoolLooks old (TakeSlip dev) (Missed used) new = MissLooks true old used new
-PoolLooks old (TakeBio set waits) Spent new = TakeFindsNone old new
-PoolLooks old TakeVec Spent new = TakeFindsNone old new
-PoolLooks old (TakeSlip dev) Spent new = TakeFindsNone old new
+PoolLooks old (TakeBio set waits) Spent new = TakeFindsNone waits old new
+PoolLooks old TakeVec Spent new = TakeFindsNone true old new
+PoolLooks old (TakeSlip dev) Spent new = TakeFindsNone true old new
 PoolLooks old (GiveBio bio) Spent new = FindsNone old new
 PoolLooks old (GiveVec vector) Spent new = FindsNone old new
 PoolLooks old (GiveSlip slip) Spent new = FindsNone old new

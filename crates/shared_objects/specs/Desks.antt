@@ -52,11 +52,11 @@ pub record CompletesChosen (disk : DevId) (chosen index : ℕ) (new : DeskState)
   pub kept : calls.told.chosen ≡ Some chosen
   pub most : index ≤ chosen
 
--- what became of a choice at a desk, where a bio was completed
-abbrev pub DeskPicks : DeskState → DeskState → DevId → ℕ → ℕ → Option ℕ → Type 0
-DeskPicks old new disk pending chosen (Some index) = CompletesChosen disk chosen index new
-DeskPicks old new disk pending chosen None = Unit {0}
-
 -- the look of a completion told that so many bios wait
 abbrev pub DeskFinds : DeskState → DeskState → DevId → ℕ → Type 0
 DeskFinds old new disk pending = (reply : Reply) × (completes : LooksAndCompletes old disk reply new) × (completes.count ≡ pending)
+
+-- what became of a choice at a desk, where a bio was completed
+abbrev pub DeskPicks : DeskState → DeskState → DevId → ℕ → ℕ → Option ℕ → Type 0
+DeskPicks old new disk pending chosen (Some index) = CompletesChosen disk chosen index new × DeskFinds old new disk pending
+DeskPicks old new disk pending chosen None = Unit {0}

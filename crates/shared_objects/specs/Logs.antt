@@ -15,7 +15,7 @@ use Rattle.task_steps.specs.declared.step.Step.{Step}
 use Rattle.task_steps.specs.declared.step.Step.TheVariants.{Stepped, Ended, Broken}
 use Rattle.task_steps.specs.Stage.{Stage, Owes}
 use Rattle.task_steps.specs.Turns.{Turns}
-use Rattle.object_things.specs.Histories.{Call, TicketsRise}
+use Rattle.object_things.specs.Histories.{Call, TicketsRise, FoundNone}
 use Rattle.object_things.specs.Stamps.{is_spent}
 use Rattle.shared_objects.specs.Calls.{calls_at, calls_to, struck}
 use Rattle.shared_objects.specs.Desks.{DeskState, HasCalled, PassOn, DeskServes}
@@ -71,10 +71,6 @@ IsMet seen call = is_spent call.told.reply ≡ false → call.told.note ≤ seen
 -- the number is 0, or a ticket that one of these calls drew, or what the note had seen that it met
 abbrev pub IsSeenIn : List Call → ℕ → Type 0
 IsSeenIn log number = (number ≡ 0) ⊎ ((call : Call) × Contains log call × ((call.told.drawn ≡ Some number) ⊎ (call.told.note ≡ number)))
-
--- a call found no ticket, at an object where no draw had failed
-abbrev pub FoundNone : Call → Type 0
-FoundNone call = (is_spent call.told.reply ≡ true) × (call.told.drew ≡ true) × (call.told.drawn ≡ None)
 
 -- so the pass knows that the last ticket was drawn
 abbrev pub KnowsLast : PassState → List Call → Type 0

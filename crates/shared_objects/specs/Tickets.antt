@@ -5,12 +5,12 @@ use Rattle.tick_clock.specs.Tickets.{PassState, AreApart}
 use Rattle.run_machine.specs.Laws.{Object}
 use Rattle.run_machine.specs.Scene.{Setup}
 use Rattle.task_core.specs.declared.plain.Plain.{Plain}
-use Rattle.object_things.specs.Histories.{Call}
+use Rattle.object_things.specs.Histories.{Call, FoundNone}
 use Rattle.object_things.specs.Stamps.{ThingState}
 use Rattle.shared_objects.specs.ClosedByName.{history_in}
 use Rattle.shared_objects.specs.Closes.{ClosesAs, Returned}
 use Rattle.shared_objects.specs.Kinds.{ThingAt}
-use Rattle.shared_objects.specs.Logs.{FoundNone, is_event, is_refused}
+use Rattle.shared_objects.specs.Logs.{is_event, is_refused}
 use Rattle.shared_objects.specs.Passes.{found_by}
 use Rattle.shared_objects.specs.declared.closed.Closed.{Closed}
 

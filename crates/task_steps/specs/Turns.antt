@@ -91,14 +91,13 @@ completes (Stepped event) = is_completion event.what
 completes step = false
 
 -- The chooser was asked where a bio was completed. It stays where any other event came, and where the task waits at a pool. Behind all else it
--- stays too, but for the completer of a disk in which, once it had chosen, no bio was left: the objects were looked at again behind that. Of a
--- step that breaks off nothing is said.
+-- stays too, but for the completer of a disk in which, once it had chosen, no bio was left or no ticket was to be had: the objects may have been
+-- looked at again behind that.
 abbrev pub Chosen : {S C : Type 0} → (C → ℕ → ℕ → C → Type 0) → (S → DevId → ℕ → ℕ → Option ℕ → Type 0) → S → DevId → C → Step → C → Type 0
 Chosen chooses picks now own old (Stepped event) new = chosen_by event.what
   where
     chosen_by : What → Type 0
     chosen_by (what.Complete disk index status) = IsAsked chooses (picks now disk) old (Some index) new
     chosen_by what = new ≡ old
-Chosen chooses picks now own old (Broken breach) new = Unit {0}
 Chosen chooses picks now own old (Blocked pool) new = new ≡ old
 Chosen {S} chooses picks now own old step new = (new ≡ old) ⊎ ((between : S) × IsAsked chooses (picks between own) old None new)

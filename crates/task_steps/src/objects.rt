@@ -78,7 +78,8 @@ pub enum Unmade {
 /// The objects of a run: pools, the lists of rescuers, disks, books and the tally. A call asks one of them, and names one that there is.
 ///
 /// All elements that they are handed and hand out are of the ledgers that they name, one for each pool. Where others use them too, a call
-/// may need a ticket that it cannot get: it changes nothing then, and hands back what it was handed. Plain objects always answer.
+/// may need a ticket that it cannot get: it changes nothing then, but for a take, whose element goes back, and hands back what it was handed. Plain
+/// objects always answer.
 ///
 /// What they tell of a call (`serves`) and what they owe for it are two clauses: the first is theirs to define, as the machine's relation or a seat's
 /// history, and the second is one definition for all. Which bio a disk completes is told by the chooser's own relation and by theirs (`chooses`,
@@ -96,7 +97,7 @@ pub trait Objects {
     ghost serves: { Self → Request → Reply → Self → Type 0 };
 
     /// What becomes of a choice: the objects before it and after it, the disk, how many bios wait there as a chooser is told, the index that it
-    /// chooses, and that of the bio which is completed, or none where others had taken them all by then.
+    /// chooses, and that of the bio which is completed, or none where others had taken them all by then, or there was no ticket.
     ghost picks: { Self → Self → DevId' → ℕ → ℕ → Option ℕ → Type 0 };
 
     /// What a completion finds: the objects before it and after it, the disk, and how many bios waited there at its first look.

@@ -2,7 +2,7 @@
 use Rattle.std.proofs.Common.{◌≡◌, ◌<◌, ℕ, Result, Ok, Err, Option, None, Some, inl, inr, refl, sym, subst}
 use Rattle.stack_base.specs.declared.ids.DevId.{DevId}
 use Rattle.model_disks.specs.declared.disk.Done.{Done as DoneBio}
-use Rattle.run_machine.specs.Requests.{Complete, LeftOver, Nothing}
+use Rattle.run_machine.specs.Requests.{Reply, Complete, LeftOver, Nothing}
 use Rattle.task_steps.specs.declared.objects.Unmade.{Unmade}
 use Rattle.task_steps.specs.Views.{Choice, completed_index, completed_reply}
 use Rattle.object_things.specs.declared.disk.DiskAsk.TheVariants as ask
@@ -19,24 +19,30 @@ module _ {C : Type 0} (chooses : C → ℕ → ℕ → C → Type 0) (disk : Dev
     inl (none, refl, refl),
   )
 
-  module _ (index : ℕ) (new : DeskState) where
+  module _ (some : 0 < count) (index : ℕ) (new : DeskState) where
+    finds_count : (reply : Reply) → HasCalled between (Complete disk) reply new → DeskFinds old new disk count
+    finds_count reply completes = (reply, record { count = count; between = between; looks = looks; goes = inr (some, completes) }, refl)
+
     -- the call that completed a bio keeps the index that was chosen
     picks_chosen : (told : Result (Option (ℕ × DoneBio)) Unmade) → (completes : HasCalled between (Complete disk) (completed_reply told) new) → IsUpTo index told
         → KeepsChoice (ask.Complete disk index) (completed_reply told) completes.told.chosen
         → DeskPicks old new disk count index (completed_index (completed_reply told))
     picks_chosen (Ok None) completes upto choice = tt
     picks_chosen (Ok (Some done)) completes upto choice =
-        record { between = between; reply = completed_reply (Ok (Some done)); calls = completes; picked = refl; kept = choice; most = upto }
+      (
+        record { between = between; reply = completed_reply (Ok (Some done)); calls = completes; picked = refl; kept = choice; most = upto },
+        finds_count (completed_reply (Ok (Some done))) completes,
+      )
     picks_chosen (Err back) completes upto choice = tt
 
     -- it found some, and the chooser is asked, whatever comes of it
-    pub some_waited : 0 < count → (after : C) → chooses chooser count index after → (said told : Result (Option (ℕ × DoneBio)) Unmade)
+    pub some_waited : (after : C) → chooses chooser count index after → (said told : Result (Option (ℕ × DoneBio)) Unmade)
         → said ≡ told → (completes : HasCalled between (Complete disk) (completed_reply told) new) → IsUpTo index told
         → KeepsChoice (ask.Complete disk index) (completed_reply told) completes.told.chosen
         → Choice chooses (DeskFinds old new disk) (DeskPicks old new disk) chooser (completed_reply said) after
-    some_waited some after chosen said told is completes upto choice =
+    some_waited after chosen said told is completes upto choice =
         subst (λ (s : Result (Option (ℕ × DoneBio)) Unmade). Choice chooses (DeskFinds old new disk) (DeskPicks old new disk) chooser (completed_reply s) after) (sym is) (
           count,
-          (completed_reply told, record { count = count; between = between; looks = looks; goes = inr (some, completes) }, refl),
+          finds_count (completed_reply told) completes,
           inr (some, (index, chosen, picks_chosen told completes upto choice)),
         )

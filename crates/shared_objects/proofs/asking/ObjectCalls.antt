@@ -101,10 +101,10 @@ module _ (locks : Locks) (seats : TaskSeats) (holds : DeskHolds locks seats) whe
   -- disks
   module _ (rows : List (DevId × LockId DiskThing)) (rows_are : rows ≡ locks.disks.items) (n place : ℕ) (is : IsTrue (has_disk (stage_at locks) (at n))) (there : place ≡ slice_index_or locks.index.disks n 0) (ask : DiskAsk)
       (named : object_of (disk_asked ask) ≡ OfDisk n) where
-    disk_locked : AreLocked dev_key disk_mark OfDisk locks.common.value (λ dev. has_disk (stage_at locks) (at dev)) locks.index.disks rows
+    pub disk_locked : AreLocked dev_key disk_mark OfDisk locks.common.value (λ dev. has_disk (stage_at locks) (at dev)) locks.index.disks rows
     disk_locked = subst (AreLocked dev_key disk_mark OfDisk locks.common.value (λ dev. has_disk (stage_at locks) (at dev)) locks.index.disks) (sym rows_are) holds.locked.disks
 
-    disk_seats : AreSeatsOf seats.number rows seats.disks.items
+    pub disk_seats : AreSeatsOf seats.number rows seats.disks.items
     disk_seats = subst (λ r. AreSeatsOf seats.number r seats.disks.items) (sym rows_are) holds.seated.disks
 
     pub disk_seated : AreSeatedAt rows seats.disks.items place
@@ -125,7 +125,7 @@ module _ (locks : Locks) (seats : TaskSeats) (holds : DeskHolds locks seats) whe
       disk_call =
           row_call disk_locked disk_seats n place is there disk_asked disk_replied DiskOwes made (λ m asking replied owed. owed.pass)
 
-      disk_calls : calls_in dev_key new.items ≡ upd (calls_in dev_key seats.disks.items) n (calls_in dev_key seats.disks.items n ++ record { by = seats.number + 1; asked = disk_asked ask; told = disk_call.told } ∷ [])
+      pub disk_calls : calls_in dev_key new.items ≡ upd (calls_in dev_key seats.disks.items) n (calls_in dev_key seats.disks.items n ++ record { by = seats.number + 1; asked = disk_asked ask; told = disk_call.told } ∷ [])
       disk_calls =
           row_calls disk_locked disk_seats n place is there disk_asked disk_replied DiskOwes made (λ m asking replied owed. owed.pass)
 

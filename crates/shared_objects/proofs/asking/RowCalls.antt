@@ -31,7 +31,7 @@ module _ {K T : Type 0} {key : K → ℕ} {mark : T → MarkState} {name : ℕ �
   module _ {Q S : Type 0} (asked_of : Q → Request) (reply_of : S → Reply) (owes : MarkState → Asking Q → Replied S → Type 0)
       {before after : Option PassState} {ask : Q} {said : S} {new : List (K × SeatState T Request Told)}
       (made : HasAskedAt (λ (asking : Asking Q). asked_of asking.ask) (told_by reply_of) (λ (thing : T). owes (mark thing)) i locks seats before ask said new after) where
-    seat_is_of : IsSeatOf task made.lock.1 made.seat.1
+    pub seat_is_of : IsSeatOf task made.lock.1 made.seat.1
     seat_is_of = seat_of locked seated n i is place made.lock made.lock_is made.seat made.seat_is
 
     module _ (passes : (m : MarkState) (asking : Asking Q) (replied : Replied S) → owes m asking replied → PassesBy reply_of asking replied) where

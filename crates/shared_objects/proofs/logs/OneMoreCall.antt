@@ -13,10 +13,10 @@ use Rattle.run_machine.specs.Laws.{Object, OfPool, OfRescuer, OfDisk, OfBook, Of
 use Rattle.run_machine.specs.Scene.{Setup}
 use Rattle.run_machine.specs.Tasks.{TaskState, request, look_of, lets, answered}
 use Rattle.object_things.specs.Stamps.{is_spent, PassBy, IsOver}
-use Rattle.object_things.specs.Histories.{Call, TicketsRise, IsNextTicket, or_last}
+use Rattle.object_things.specs.Histories.{Call, TicketsRise, IsNextTicket, or_last, FoundNone}
 use Rattle.shared_objects.specs.Calls.{CallsAt, with_call, is_same_object, calls_at, calls_to, struck}
 use Rattle.shared_objects.specs.Desks.{DeskState, HasCalled, PassOn}
-use Rattle.shared_objects.specs.Logs.{is_glance, tickets_in, Looked, LogLeads, IsMet, IsSeenIn, FoundNone, KnowsLast, WentThrough, HasPass, IsMade, IsLogged}
+use Rattle.shared_objects.specs.Logs.{is_glance, tickets_in, Looked, LogLeads, IsMet, IsSeenIn, KnowsLast, WentThrough, HasPass, IsMade, IsLogged}
 use Rattle.task_core.proofs.NumberTests.{same_by}
 
 abbrev here : Bool → Call → List Call

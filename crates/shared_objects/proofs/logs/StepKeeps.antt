@@ -14,9 +14,9 @@ use Rattle.task_steps.specs.Routed.{Routing, routing_setup}
 use Rattle.task_steps.specs.Stage.{Stage, Owes}
 use Rattle.task_steps.specs.TaskViews.{TaskOf}
 use Rattle.task_steps.specs.Turns.{Turns, Rested, Waited, Asked, Saw}
-use Rattle.object_things.specs.Histories.{Call}
+use Rattle.object_things.specs.Histories.{Call, FoundNone}
 use Rattle.shared_objects.specs.Desks.{DeskState, DeskServes}
-use Rattle.shared_objects.specs.Logs.{is_event, events_in, IsMet, IsSeenIn, FoundNone, KnowsLast, WentThrough, HasPass, IsLogged, HasStopped, seen_by, ShowsStep}
+use Rattle.shared_objects.specs.Logs.{is_event, events_in, IsMet, IsSeenIn, KnowsLast, WentThrough, HasPass, IsLogged, HasStopped, seen_by, ShowsStep}
 use Rattle.shared_objects.specs.Noting.{notes_of, AreNoted, IsBlank}
 use Rattle.shared_objects.specs.Rans.{IsRan, events_after, stopped_after, IsUnused, IsNewDesk, NewDesksAreRan, StepsKeepRan}
 use Rattle.shared_objects.specs.declared.noted.Noted.{Noted}

@@ -34,7 +34,8 @@ module _ {S T C : Type 0} (seen : S → T) (chooses : C → ℕ → ℕ → C �
   chosen own Waiting (inr (between, asked)) = inr (seen between, asked)
   chosen own Ended (inl same) = inl same
   chosen own Ended (inr (between, asked)) = inr (seen between, asked)
-  chosen own (Broken breach) is = is
+  chosen own (Broken breach) (inl same) = inl same
+  chosen own (Broken breach) (inr (between, asked)) = inr (seen between, asked)
 
   pub choices_seen : (task : TaskState) (step : Step) → ChosenBy task chooses (λ objects. picks (seen objects)) now old step new
       → ChosenBy task chooses picks (seen now) old step new

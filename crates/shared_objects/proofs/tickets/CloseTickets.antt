@@ -14,14 +14,14 @@ use Rattle.run_machine.specs.Laws.{Object, object_of}
 use Rattle.run_machine.specs.Scene.{Setup}
 use Rattle.run_machine.specs.Tasks.{TaskState}
 use Rattle.task_core.specs.declared.plain.Plain.{Plain}
-use Rattle.object_things.specs.Histories.{Call, or_last}
+use Rattle.object_things.specs.Histories.{Call, or_last, FoundNone}
 use Rattle.object_things.specs.Stamps.{ThingState, StepOf, carried}
 use Rattle.shared_objects.specs.ClosedByName.{history_in}
 use Rattle.shared_objects.specs.Closes.{Returned, ClosesAs}
 use Rattle.shared_objects.specs.Kinds.{ThingAt, looks_at, serves_at}
 use Rattle.shared_objects.specs.Led.{BrokeOff, IsLed}
 use Rattle.shared_objects.specs.Left.{HasClosed}
-use Rattle.shared_objects.specs.Logs.{FoundNone, is_event, is_glance, is_stop}
+use Rattle.shared_objects.specs.Logs.{is_event, is_glance, is_stop}
 use Rattle.shared_objects.specs.Passes.{found_by, numbers_of}
 use Rattle.shared_objects.specs.Tickets.{AreOfHistories, ClosesShowTickets, DrewTicket, EntryCarries, IsBehind, IsEvent, IsRefusedCall, ShowsItsTickets}
 use Rattle.shared_objects.specs.declared.closed.Closed.{Closed}

@@ -10,7 +10,7 @@ use Rattle.tick_clock.proofs.Rows.{pass_greatest, pass_one_more}
 use Rattle.run_machine.specs.Laws.{Object, object_of}
 use Rattle.run_machine.specs.Scene.{Setup}
 use Rattle.task_core.specs.declared.plain.Plain.{Plain}
-use Rattle.object_things.specs.Histories.{Call, KeepsHistory, or_last, TicketsRise}
+use Rattle.object_things.specs.Histories.{Call, KeepsHistory, or_last, TicketsRise, FoundNone}
 use Rattle.object_things.specs.Stamps.{ChoosesNone, ThingState}
 use Rattle.object_things.proofs.Looking.{book_quiet, tally_quiet, disk_quiet, list_quiet, pool_quiet}
 use Rattle.object_things.proofs.Refused.{book_stays, disk_stays, list_stays, pool_stays, tally_stays}
@@ -24,7 +24,7 @@ use Rattle.run_machine.specs.Laws.{OfPool, OfRescuer, OfDisk, OfBook, OfTally, O
 use Rattle.shared_objects.specs.Closes.{Returned, ClosesAs}
 use Rattle.shared_objects.specs.Passes.{drawn_by, found_by, numbers_of}
 use Rattle.shared_objects.specs.Kinds.{ThingAt, chooses_at, looks_at, opened_at, serves_at, unasked}
-use Rattle.shared_objects.specs.Logs.{tickets_in, IsSeenIn, FoundNone, KnowsLast, HasPass, IsLogged}
+use Rattle.shared_objects.specs.Logs.{tickets_in, IsSeenIn, KnowsLast, HasPass, IsLogged}
 use Rattle.shared_objects.proofs.tickets.CallOwners.{split_at, first_there, at_all, IsCallOfTask, owner, logged, kept, IsInPlace, in_place}
 
 pub keeps : (name : Object) → KeepsHistory (serves_at name) (looks_at name) (chooses_at name)

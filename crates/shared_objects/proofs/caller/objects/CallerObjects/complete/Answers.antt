@@ -12,7 +12,7 @@ returns-then-pending-eq0-clause-chosen g c =
 pub returns-clause-chosen : goal.returns-clause-chosen
 returns-clause-chosen g c =
     some_waited g.C.Chooser.chooses c.args.disk (desk_of c.args.self.now.seats.now) (desk_of c.look_at-pending.new.self.seats.now) c.look_at-pending.result
-    c.args.chooser.now c.look_at-pending.ensures.called.calls c.choose-index.result (desk_of c.complete_at.new.self.seats.now)
-    (omega (arith, c.if-pending-eq0.false)) c.choose-index.new.self
+    c.args.chooser.now c.look_at-pending.ensures.called.calls (omega (arith, c.if-pending-eq0.false)) c.choose-index.result
+    (desk_of c.complete_at.new.self.seats.now) c.choose-index.new.self
     c.choose-index.ensures.chooses c.or_unmade.result (or_unmade c.complete_at.result) c.or_unmade.ensures
     c.complete_at.ensures.called.called.calls c.complete_at.ensures.says.2 c.complete_at.ensures.called.choice
