@@ -11,13 +11,13 @@ use Rattle.block_core.specs.Charges.{state_rank}
 use Rattle.block_core.specs.Scenarios.{IsScenario, IsNaming}
 
 -- the entries of scripts, the rounds behind the first, and the changes of reserves
-abbrev pub waits : Scenario → ℕ
-waits s = sum_by (λ (script : PoolId × Answers). entries_of script.1) s.scripts + (round_count s - 1) + length s.changes
+abbrev pub extra_steps : Scenario → ℕ
+extra_steps s = sum_by (λ (script : PoolId × Answers). entries_of script.1) s.scripts + (round_count s - 1) + length s.changes
 
 -- what no run exceeds: eight events an element, two a fragment, and one an entry of a script, a round behind the first and a change of a
 -- reserve
 abbrev pub most_steps : Scenario → ℕ
-most_steps s = 8 * all_elements s.stack s.writes + 2 * all_parts s.stack s.writes + waits s
+most_steps s = 8 * all_elements s.stack s.writes + 2 * all_parts s.stack s.writes + extra_steps s
 
 -- nor does the rank of the state in which runs begin
 abbrev pub OpenedRankIsBounded : Type 0

@@ -183,7 +183,7 @@ open_charges price was_master scene s = charged price was_master scene s - spent
 abbrev pub state_rank : Scene → State → ℕ
 state_rank scene s = open_charges unit_price none_was scene s
 
--- Of each reached state: as many events as come behind it lower its rank by as many at least. So each event lowers the rank.
+-- Of each reached state: a run of n events from it lowers the rank by n at least.
 abbrev pub EventsLowerRank : Type 0
 EventsLowerRank = (s : Scenario) (ledger : ℕ → LedgerId) (before later : List Event) (old new : State) → IsScenario s → IsNaming ledger
     → IsRun (scene s ledger) (start s) before old → IsRun (scene s ledger) old later new

@@ -7,7 +7,7 @@ use Rattle.stack_base.specs.PoolId.{pool_number}
 use Rattle.stack_base.specs.Tree.{Tree, Leaf, Split, Mirrored}
 use Rattle.layout_model.specs.declared.fragment.Fragment.{Fragment}
 use Rattle.run_machine.specs.Scene.{Setup, Scene, tree_at}
-use Rattle.run_machine.specs.Submissions.{Want, Takes, Punts, Links, Ask, ToPush, ToCut, ToRecord, ToMaster, Doing, Rests, Drives, Copies, Breaks, Submission, rests, legs_of}
+use Rattle.run_machine.specs.Submissions.{Want, Takes, Punts, Links, Driving, ToPush, ToCut, ToRecord, ToMaster, Doing, Rests, Drives, Copies, Breaks, Submission, rests, legs_of}
 use Rattle.run_machine.specs.Tasks.{Gathered, NoBio, HasBio, HasBoth, Carried, Empty, Brings, Carries, Fails, TaskState, Writer, Rescuer, Completer, Keeper}
 use Rattle.run_machine.specs.Runs.{State}
 use Rattle.block_core.specs.Fragments.{fragment_of}
@@ -26,7 +26,7 @@ WantIsRight dev Punts = Unit {0}
 WantIsRight dev (Links hand) = hand.share.no ≡ pool_number (Bios dev)
 
 -- a disk's driver pushes, one that cuts asks for a bio, and a mirror's for a record, which is of its device's
-abbrev pub AskIsRight : Tree → DevId → Ask → Type 0
+abbrev pub AskIsRight : Tree → DevId → Driving → Type 0
 AskIsRight (Leaf number sectors) dev ToPush = Unit {0}
 AskIsRight (Split number kind sizes members) dev (ToCut want) = WantIsRight dev want
 AskIsRight (Mirrored number sizes members) dev ToRecord = Unit {0}

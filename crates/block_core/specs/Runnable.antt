@@ -6,7 +6,7 @@ use Rattle.work_text.specs.declared.Work.{Work}
 use Rattle.run_machine.specs.Opened.{Scenario}
 use Rattle.run_machine.specs.ReadBehind.{IsReadBehind}
 use Rattle.run_machine.specs.Scenario.{scenario_of}
-use Rattle.block_core.specs.Bounded.{waits, most_steps}
+use Rattle.block_core.specs.Bounded.{extra_steps, most_steps}
 use Rattle.block_core.specs.Breaks.{ElementsAreAllowed}
 use Rattle.block_core.specs.Scenarios.{IsScenario, EveryPoolKeepsSome, AreSorted}
 
@@ -27,7 +27,7 @@ pub record IsRunnable (s : Scenario) : Type 0 where
   -- no two writes of a round have a sector in common, and each goes to a device that is no member
   pub apart : AreApartByRounds s.stack s.writes s.rounds
   -- and there are not too many entries, rounds and changes
-  pub few : waits s ≤ most_waits
+  pub few : extra_steps s ≤ most_waits
 
 -- then no run has many events
 abbrev pub StepsFitIn24Bits : Type 0

@@ -31,18 +31,18 @@ DoesNotWaitForItself setup (Drives bio (ToMaster slip)) lists = Unit {0}
 DoesNotWaitForItself setup (Copies bio master leg want) lists = NoneBehind setup bio.dev want lists
 DoesNotWaitForItself setup (Breaks breach kept) lists = Unit {0}
 
-abbrev pub TaskDoesNotWait : Setup → TaskState → Type 0
-TaskDoesNotWait setup (Writer number todo taken submission) = DoesNotWaitForItself setup submission.doing submission.lists
-TaskDoesNotWait setup (Rescuer dev submission) = DoesNotWaitForItself setup submission.doing submission.lists
-TaskDoesNotWait setup (Completer disk carried) = Unit {0}
-TaskDoesNotWait setup (Keeper keeping) = Unit {0}
+abbrev pub TaskDoesNotWaitForItself : Setup → TaskState → Type 0
+TaskDoesNotWaitForItself setup (Writer number todo taken submission) = DoesNotWaitForItself setup submission.doing submission.lists
+TaskDoesNotWaitForItself setup (Rescuer dev submission) = DoesNotWaitForItself setup submission.doing submission.lists
+TaskDoesNotWaitForItself setup (Completer disk carried) = Unit {0}
+TaskDoesNotWaitForItself setup (Keeper keeping) = Unit {0}
 
 pub record NoneWaitsForItself (scene : Scene) (state : State) : Type 0 where
-  pub tasks : (place : ℕ) → TaskDoesNotWait scene.setup (state.task place)
+  pub tasks : (place : ℕ) → TaskDoesNotWaitForItself scene.setup (state.task place)
   -- bios wait for rescuers only where there is one
   pub rescued : (dev : ℕ) → (state.objects.rescue dev ≡ []) ⊎ (scene.setup.rescuer dev ≡ true)
 
--- where each mirror of two members or more has a rescuer, no task ever waits for an element of a set of which it has a bio in its lists
+-- where each mirror of two members or more has a rescuer, no task ever waits for a bio of a set of which it has one in its lists
 abbrev pub NoTaskWaitsForItself : Type 0
 NoTaskWaitsForItself = (s : Scenario) (ledger : ℕ → LedgerId) (events : List Event) (state : State) → IsScenario s → HasRescuers s.stack → IsNaming ledger
     → IsRun (scene s ledger) (start s) events state → NoneWaitsForItself (scene s ledger) state

@@ -7,7 +7,7 @@ use Rattle.bio_books.specs.Books.{Node, BookState, VectorItem, SlipItem, Holding
 use Rattle.bio_books.specs.Drops.{Closed}
 use Rattle.model_disks.specs.Disks.{DiskState}
 use Rattle.run_machine.specs.Scene.{Setup, Scene, tree_at}
-use Rattle.run_machine.specs.Submissions.{Want, Takes, Punts, Links, Ask, ToPush, ToCut, ToRecord, ToMaster, Doing, Rests, Drives, Copies, Breaks, Submission, legs_of}
+use Rattle.run_machine.specs.Submissions.{Want, Takes, Punts, Links, Driving, ToPush, ToCut, ToRecord, ToMaster, Doing, Rests, Drives, Copies, Breaks, Submission, legs_of}
 use Rattle.run_machine.specs.Tasks.{Todo, Gathered, NoBio, HasBio, HasBoth, Carried, Empty, Brings, Carries, Fails, TaskState, Writer, Rescuer, Completer, Keeper}
 use Rattle.run_machine.specs.Runs.{State}
 
@@ -66,7 +66,7 @@ want_weight w (Takes waits) = 0
 want_weight w Punts = 0
 want_weight w (Links hand) = w.hand hand
 
-abbrev pub ask_weight : Weight → Ask → ℕ
+abbrev pub ask_weight : Weight → Driving → ℕ
 ask_weight w ToPush = 0
 ask_weight w (ToCut want) = want_weight w want
 ask_weight w ToRecord = 0

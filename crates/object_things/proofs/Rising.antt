@@ -1,13 +1,15 @@
 -- Tickets rise along a history, and the calls that drew one are a run, as are those whose entries carry one.
-use Rattle.std.proofs.Common.{◌≡◌, ◌≤◌, ℕ, inl, inr, true, false, cond, List, [], ◌∷◌, All, Option, Some, None, refl, sym, ◌∙◌, ap, subst, arith}
+use Rattle.std.proofs.Common.{◌≡◌, ◌≤◌, ℕ, inl, inr, Bool, true, false, not, cond, List, [], ◌∷◌, All, Option, Some, None, refl, sym, ◌∙◌, ap, subst, arith}
 use Rattle.std.specs.Option.{is_some}
-use Rattle.std.proofs.lemmas.List.Elements.{All-nil, All-cons, All-head, All-tail}
+use Rattle.std.specs.Prelude.{Contains}
+use Rattle.std.proofs.lemmas.Bool.{true≢false}
+use Rattle.std.proofs.lemmas.List.Elements.{All-nil, All-cons, All-head, All-tail, Contains-append_right}
 use Rattle.seat_lock.specs.History.{Leads}
 use Rattle.run_machine.specs.declared.event.What.{What}
 use Rattle.run_machine.specs.Events.{what_of}
 use Rattle.run_machine.specs.Requests.{Request, Reply, Spent}
-use Rattle.object_things.specs.Stamps.{ThingState, StepOf, ThingAnswers, carried}
-use Rattle.object_things.specs.Histories.{Call, IsNextTicket, or_last, TicketsRise, CarriedRise, drawn_in, ticketed_in, CarriesItsOwn, IsQuiet, LeadDrawn, DrawnRun, KeepsHistory, StaysSpent}
+use Rattle.object_things.specs.Stamps.{ThingState, StepOf, ThingAnswers, carried, is_spent}
+use Rattle.object_things.specs.Histories.{Call, FoundNone, IsNextTicket, or_last, TicketsRise, CarriedRise, drawn_in, ticketed_in, CarriesItsOwn, IsQuiet, LeadDrawn, DrawnRun, KeepsHistory, StaysSpent}
 
 -- an entry carries no ticket of a call that drew none
 carried_none : (what : Option What) → carried what None ≡ None
@@ -162,7 +164,7 @@ module _ {O : Type 0} (serves : O → Request → Reply → O → Type 0) (looks
         by_ticket ticket t step false is rest = further (rest is)
         by_ticket (Some n) t step true is rest = absurd (true≢false (sym is ∙ step.4))
         by_ticket None t step true is rest =
-            (call, first_there call calls, (marked old leads.0 call.asked call.told.reply step.0 had is, leads.1.drew ∙ ap not had, t))
+            (call, (0, omega arith, refl), (marked old leads.0 call.asked call.told.reply step.0 had is, leads.1.drew ∙ ap not had, t))
 
     pub stays_spent : StaysSpent serves looks chooses
     stays_spent = record { found = found; stays = λ old new history l h. none_drawn old new history h l; follows = follows; marks = marks }

@@ -75,7 +75,7 @@ HasNoTask tasks name = (place : ℕ) → place < length tasks → name ≡ id_of
 abbrev pub FindsTask : List Task → TaskId → Option ℕ → Type 0
 FindsTask tasks name found = MatchOption found (HasNoTask (map task_of_plain tasks) name) (IsPlaceOfTask (map task_of_plain tasks) name)
 
--- the event is one of a task with a submission under way
+-- the task of this name has a submission under way
 abbrev pub IsOfSubmission : List TaskState → TaskId → Type 0
 IsOfSubmission tasks name = (place : ℕ) × IsPlaceOfTask tasks name place × Submits (task_at tasks place)
 

@@ -25,6 +25,7 @@ use Rattle.run_machine.specs.Tasks.{Todo, NoBio, Empty, Duty, Resizes, Starts, K
 use Rattle.run_machine.specs.Objects.{Objects, TallyState}
 use Rattle.run_machine.specs.Events.{pool_of}
 use Rattle.run_machine.specs.Runs.{State}
+use Rattle.model_disks.specs.Disks.{DiskState}
 
 -- a pool gets another reserve before the round of this number starts
 pub record Change : Type 0 where
@@ -179,12 +180,16 @@ script_at scripts number = option_map_or (λ (script : PoolId × Answers). scrip
 abbrev pub tally_in : List ℕ → List Write → TallyState
 tally_in rounds writes = record { round = 0; left = left_in rounds; statuses = replicate (length writes) status.Ok }
 
+-- a disk of a stack as it is opened
+abbrev pub opened_disk : Stack → ℕ → DiskState
+opened_disk stack dev = disk.blank_disk (at dev) (size (tree stack dev)) (bads_of stack dev)
+
 -- pools are full, disks are zeros, nothing waits, no node is open and every write is unfinished
 abbrev pub objects : Scenario → Objects
 objects s = record {
   pool = λ number. opened (reserve_of s.stack (pool_of number)) (script_at s.scripts number);
   rescue = λ dev. [];
-  disk = λ dev. disk.blank_disk (at dev) (size (tree s.stack dev)) (bads_of s.stack dev);
+  disk = opened_disk s.stack;
   book = λ writer. record { writer = writer; nodes = replicate (places_of s writer) None };
   tally = tally_in s.rounds s.writes;
 }

@@ -32,16 +32,16 @@ pub data Want : Type 0 where
 
 -- what a driver does with the bio that it has: a disk's takes it, one that cuts wants a bio for the first piece, and a mirror's takes a
 -- record and links a master that holds it
-pub data Ask : Type 0 where
-  ToPush : Ask
-  ToCut : Want → Ask
-  ToRecord : Ask
-  ToMaster : (slip : SlipItem) → Ask
+pub data Driving : Type 0 where
+  ToPush : Driving
+  ToCut : Want → Driving
+  ToRecord : Driving
+  ToMaster : (slip : SlipItem) → Driving
 
 pub data Doing : Type 0 where
   Rests : Doing
   -- the driver of the bio's device has it
-  Drives : (bio : Item Pad) → Ask → Doing
+  Drives : (bio : Item Pad) → Driving → Doing
   -- a mirror copies a bio, which waits with its parent: the place of the master, and the leg that is made next
   Copies : (bio : Bio) (master leg : ℕ) → Want → Doing
   -- it cannot go on, and keeps what it had at hand and what came back
@@ -189,7 +189,7 @@ want_kept (Takes waits) = []
 want_kept Punts = []
 want_kept (Links hand) = KeptBio hand ∷ []
 
-abbrev pub ask_kept : Ask → List Kept
+abbrev pub ask_kept : Driving → List Kept
 ask_kept ToPush = []
 ask_kept (ToCut want) = want_kept want
 ask_kept ToRecord = []

@@ -16,8 +16,8 @@ use Rattle.stack_base.proofs.Unfolded.{tree_is}
 use Rattle.task_core.specs.declared.plain.Plain.{Plain}
 use Rattle.task_core.specs.Leaving.{disk_at, disks_from, disks_of}
 use Rattle.run_machine.specs.Named.{is_disk_kind}
-use Rattle.run_machine.specs.Opened.{at}
-use Rattle.task_core.specs.Plains.{disk_number, no_disk, objects_of, stage_of, Holds}
+use Rattle.run_machine.specs.Opened.{at, opened_disk}
+use Rattle.task_core.specs.Plains.{disk_number, objects_of, stage_of, Holds}
 use Rattle.run_machine.specs.Scene.{keeps_data}
 use Rattle.task_steps.specs.Stage.{has_disk}
 use Rattle.task_core.specs.Tables.{is_entry_of, look_up}
@@ -143,5 +143,5 @@ module _ (plain : Plain) (holds : Holds plain) where
       sym (
       sym (map-map (objects_of plain).disk (λ (dev : DevId). dev.0) (disks_of stack))
       ∙ ap (map (objects_of plain).disk) (sym (numbers is_disk_at 0 stack.devices.items kinds))
-      ∙ found_all disk_number (no_disk stack) is_disk_at (length stack.devices.items) 0 plain.disks.items holds.entered.order
+      ∙ found_all disk_number (opened_disk stack) is_disk_at (length stack.devices.items) 0 plain.disks.items holds.entered.order
       )

@@ -15,7 +15,7 @@ use Rattle.run_machine.specs.Opened.{at}
 use Rattle.run_machine.specs.Requests.{Request}
 use Rattle.task_steps.specs.Stage.{Stage, has_book, has_rescuer, has_disk, is_bios, is_slips}
 use Rattle.task_core.specs.Tables.{look_up, AreAt}
-use Rattle.task_core.specs.Plains.{Holds, is_bios_number}
+use Rattle.task_core.specs.Plains.{Holds, is_bios_number, by_kind}
 use Rattle.object_things.specs.Stamps.{CommonState, MarkState, Told, stage_in}
 use Rattle.object_things.specs.Histories.{Call}
 use Rattle.object_things.specs.Books.{book_mark}
@@ -102,14 +102,10 @@ pub record DeskHolds (locks : Locks) (seats : TaskSeats) : Type 0 where
 abbrev pub calls_in : {K T : Type 0} → (K → ℕ) → List (K × SeatState T Request Told) → ℕ → List Call
 calls_in {K = K} {T = T} key seats = look_up (λ (e : K × SeatState T Request Told). key e.0) (λ e. own e.1.known) (λ number. []) seats
 
--- what pools have by their numbers, from what those of each kind have
-abbrev pub by_pool : {X : Type 0} → X → (ℕ → X) → (ℕ → X) → ℕ → X
-by_pool vecs bios records number = if number == 64 then vecs else if is_bios_number number then bios number else records number
-
 -- the calls that a task has made, as its seats know them
 abbrev pub calls_of : TaskSeats → CallsAt
 calls_of seats = record {
-  pool = by_pool (own seats.vecs.known) (calls_in set_key seats.bios.items) (calls_in slip_key seats.records.items);
+  pool = by_kind (own seats.vecs.known) (calls_in set_key seats.bios.items) (calls_in slip_key seats.records.items);
   rescue = calls_in dev_key seats.lists.items;
   disk = calls_in dev_key seats.disks.items;
   book = calls_in writer_key seats.books.items;

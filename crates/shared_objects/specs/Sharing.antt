@@ -10,8 +10,8 @@ use Rattle.shared_objects.specs.Guards.{guarded}
 use Rattle.shared_objects.specs.Rows.{Abreast}
 
 -- locks of a kind are round these objects, one by one
-abbrev pub AreRound : {K O T : Type 0} → (O → T) → List (K × O) → List (K × LockId T) → Type 0
-AreRound guard objects locks = Abreast (λ entry lock. (lock.0 ≡ entry.0) × (lock.1.key.value ≡ guard entry.1)) objects locks
+abbrev pub AreAround : {K O T : Type 0} → (O → T) → List (K × O) → List (K × LockId T) → Type 0
+AreAround guard objects locks = Abreast (λ entry lock. (lock.0 ≡ entry.0) × (lock.1.key.value ≡ guard entry.1)) objects locks
 
 -- disks, each with its device
 abbrev pub disks_by_device : List DiskState → List (DevId × DiskState)
@@ -21,10 +21,10 @@ disks_by_device disks = map (λ disk. (disk.dev, disk)) disks
 pub record AreOfOpened (opened : Plain) (locks : Locks) : Type 0 where
   pub same : locks.common.value.opened ≡ opened
   pub index : locks.index ≡ opened.index
-  pub bios : AreRound (guarded locks.common.value) opened.bios.items locks.bios.items
+  pub bios : AreAround (guarded locks.common.value) opened.bios.items locks.bios.items
   pub vecs : locks.vecs.key.value ≡ guarded locks.common.value opened.vecs
-  pub records : AreRound (guarded locks.common.value) opened.records.items locks.records.items
-  pub lists : AreRound (guarded locks.common.value) opened.lists.items locks.lists.items
-  pub disks : AreRound (guarded locks.common.value) (disks_by_device opened.disks.items) locks.disks.items
-  pub books : AreRound (guarded locks.common.value) opened.books.items locks.books.items
+  pub records : AreAround (guarded locks.common.value) opened.records.items locks.records.items
+  pub lists : AreAround (guarded locks.common.value) opened.lists.items locks.lists.items
+  pub disks : AreAround (guarded locks.common.value) (disks_by_device opened.disks.items) locks.disks.items
+  pub books : AreAround (guarded locks.common.value) opened.books.items locks.books.items
   pub tally : locks.tally.key.value ≡ guarded locks.common.value (tally_of opened.tally)

@@ -24,7 +24,7 @@ use Rattle.task_core.specs.Tables.{look_up, AreAt}
 use Rattle.run_machine.specs.Requests.{Request, Reply, NextRound, Did}
 use Rattle.run_machine.specs.Objects.{TallyState, Objects, Serves}
 use Rattle.run_machine.specs.Events.{pool_of}
-use Rattle.run_machine.specs.Opened.{at, reserve_of}
+use Rattle.run_machine.specs.Opened.{at, reserve_of, opened_disk}
 use Rattle.task_core.specs.ObjectsOf.{AreObjectsOf, AreNumbered}
 use Rattle.task_steps.specs.Stage.{Stage, has_book, has_rescuer, has_disk, is_bios, is_slips}
 
@@ -52,9 +52,6 @@ no_pool stack some number = record {
   most = reserve_of stack (pool_of number);
 }
 
-abbrev pub no_disk : Stack → ℕ → DiskState
-no_disk stack dev = disk.blank_disk (at dev) (size (tree stack dev)) (bads_of stack dev)
-
 abbrev pub no_book : ℕ → BookState
 no_book writer = record { writer = writer; nodes = [] }
 
@@ -63,7 +60,7 @@ abbrev pub is_bios_number : ℕ → Bool
 is_bios_number number = number == 65 || number % 2 == 0
 
 -- what a number stands for among pools: the vectors' is 64, and those of records are odd
-abbrev pub by_kind : LedgerPool → (ℕ → LedgerPool) → (ℕ → LedgerPool) → ℕ → LedgerPool
+abbrev pub by_kind : {X : Type 0} → X → (ℕ → X) → (ℕ → X) → ℕ → X
 by_kind vecs bios records number = if number == 64 then vecs else if is_bios_number number then bios number else records number
 
 abbrev pub bios_at : Plain → ℕ → LedgerPool
@@ -83,7 +80,7 @@ abbrev pub objects_of : Plain → Objects
 objects_of plain = record {
   pool = λ number. (pool_at plain number).state;
   rescue = look_up list_number (λ entry. entry.1.bios) (λ dev. []) plain.lists.items;
-  disk = look_up disk_number (λ disk. disk) (no_disk plain.stage.value.stack) plain.disks.items;
+  disk = look_up disk_number (λ disk. disk) (opened_disk plain.stage.value.stack) plain.disks.items;
   book = look_up book_number (λ entry. entry.1) no_book plain.books.items;
   tally = tally_of plain.tally;
 }

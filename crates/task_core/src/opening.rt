@@ -2,7 +2,7 @@
 ghost use Rattle.std.specs.Prelude.{◌≡◌, ◌≤◌, ◌<◌, ◌^◌, IfOk, OnOk, length, sum};
 ghost use Rattle.stack_base.specs.Stack.{HasRescuers, IsStack};
 ghost use Rattle.task_core.specs.Leaving.{IsReservedForRun};
-ghost use Rattle.task_core.specs.opened.NewTasks.{others_in, reserves_in, writers_in, AddsTasks, AreShared, IsRoutingFor};
+ghost use Rattle.task_core.specs.opened.NewTasks.{others_in, reserves_in, writers_in, AddsTasks, AreServableWrites, IsRoutingFor};
 ghost use Rattle.task_core.specs.opened.OpenTasks.{AreTasksOf};
 ghost use Rattle.task_core.specs.opened.OfOne.{scenario_in, AreOpenedOf, IsOpened};
 ghost use Rattle.run_machine.specs.ReadBehind.{IsReadBehind};
@@ -79,7 +79,7 @@ fn open_routes(
     kinds: &mut Vec<Kind>,
 ) -> Result<Routes, AllocError>
     requires stack { IsStack stack.now }
-    requires shared { AreShared stack.now work.now.rounds.items work.now.writes.items }
+    requires shared { AreServableWrites stack.now work.now.rounds.items work.now.writes.items }
     ensures kinds { OnOk result (AddsTasks kinds.old.items (writers_in work.now) kinds.new.items) }
     ensures routes { IfOk result (IsRoutingFor stack.now work.now) }
 {
@@ -121,7 +121,7 @@ pub fn open_tasks(
     work: &Work,
 ) -> Result<(Arc<Routes>, Vec<Task>, Vec<u32>), AllocError>
     requires stack { IsStack stack.now }
-    requires shared { AreShared stack.now work.now.rounds.items work.now.writes.items }
+    requires shared { AreServableWrites stack.now work.now.rounds.items work.now.writes.items }
     ensures { IfOk result (λ opened. AreTasksOf stack.now work.now opened.0.value opened.1.items opened.2.items) }
 {
     let mut kinds = Vec::new(alloc);

@@ -13,7 +13,7 @@ use Rattle.run_machine.specs.Requests.{Request, Reply, TakeBio, Spent}
 use Rattle.bio_records.specs.declared.bio.Bio.{Bio}
 use Rattle.bio_records.specs.declared.bio.Pad.{Pad}
 use Rattle.bio_records.specs.Items.{Item}
-use Rattle.run_machine.specs.Submissions.{Want, Takes, Punts, Links, Ask, ToPush, ToCut, ToRecord, ToMaster, Doing, Rests, Drives, Copies, Breaks, want_kept, ask_kept, at_hand}
+use Rattle.run_machine.specs.Submissions.{Want, Takes, Punts, Links, Driving, ToPush, ToCut, ToRecord, ToMaster, Doing, Rests, Drives, Copies, Breaks, want_kept, ask_kept, at_hand}
 use Rattle.task_steps.specs.SubmissionViews.{attempt_of}
 use Rattle.task_steps.specs.Answers.{AnswersSubmission, IsSpent}
 
@@ -24,7 +24,7 @@ same_there : {A : Type 0} (one there : A) → Some one ≡ Some there → one �
 same_there {A = A} one there same = ap (λ (o : Option A). option_map_or (λ (x : A). x) o there) same
 
 -- where a driver takes a bio, it has none at hand for a piece or a leg
-pub cuts_for_none : (bio : Item Pad) (ask : Ask) → attempt_of (Drives bio ask) ≢ None → ask_kept ask ≡ []
+pub cuts_for_none : (bio : Item Pad) (ask : Driving) → attempt_of (Drives bio ask) ≢ None → ask_kept ask ≡ []
 cuts_for_none bio ToPush takes = absurd (takes refl)
 cuts_for_none bio (ToCut (Takes waits)) takes = refl
 cuts_for_none bio (ToCut Punts) takes = absurd (takes refl)

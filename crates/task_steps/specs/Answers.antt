@@ -21,7 +21,7 @@ use Rattle.task_steps.specs.declared.step.Step.{Step}
 use Rattle.task_steps.specs.declared.step.Step.TheVariants.{Stepped}
 use Rattle.run_machine.specs.Scene.{Setup}
 use Rattle.run_machine.specs.Requests.{Request, Reply, Opening, TakeBio, Punt, Link, HadBio, Missed, Did, LinkedTo, Nothing, Spent}
-use Rattle.run_machine.specs.Submissions.{Want, Links, Ask, Doing, Drives, Submission, asks_at, submission_request, after_miss, submission_answered}
+use Rattle.run_machine.specs.Submissions.{Want, Links, Driving, Doing, Drives, Submission, asks_at, submission_request, after_miss, submission_answered}
 use Rattle.task_steps.specs.Turns.{named_node, step_of}
 use Rattle.run_machine.specs.Kept.{Kept, KeptBio, holding_kept, opening_kept}
 use Rattle.task_steps.specs.SubmissionViews.{submission_of, want_of, unmade_kept, back_kept}
@@ -52,7 +52,7 @@ abbrev pub SubmissionReady : {S : Type 0} → Ghosts S → S → Routing → Doi
 SubmissionReady words objects routing doing lists = Ready words objects (submission_request (routing_setup routing) doing lists)
 
 -- what the driver of a device asks for first, whatever bio it has
-abbrev pub AsksFirst : Routing → TaskLists → DevId → Ask → Type 0
+abbrev pub AsksFirst : Routing → TaskLists → DevId → Driving → Type 0
 AsksFirst routing lists dev ask =
     (item : Item Pad) → item.bio.dev ≡ dev → asks_at (routing_setup routing) lists item (routed_tree routing dev) ≡ Drives item ask
 

@@ -66,7 +66,8 @@ pub record Asks {S : Type 0} (serves : S → Request → Reply → S → Type 0)
   pub follows : ((reply ≢ Nothing) × (new ≡ middle) × (step ≡ step_of setup (id_of task) (request setup task) reply))
       ⊎ ((reply ≡ Nothing) × ((left : ℕ) × serves middle LookLeft (LeftOver left) new × (step ≡ idle_step left)))
 
--- A step of a task: it looks where it has to, asks one object for what it asks for next, and goes on with the reply.
+-- A step of a task: it looks where it has to, asks one object for what it asks for next, and goes on with the reply. It goes by what was asked, since
+-- that is what a history of calls has to match; what each answer of a step tells stands in ByAnswer.antt, and follows from this.
 pub data Turns {S : Type 0} (serves : S → Request → Reply → S → Type 0) (owes : Request → Reply → Type 0) (setup : Setup)
     (task : TaskState) (old : S) (next : TaskState) (new : S) (step : Step) : Type 0 where
   -- it asks for nothing: it has ended, or has broken off

@@ -14,7 +14,7 @@ use Rattle.bio_records.specs.Items.{Item}
 use Rattle.task_steps.specs.declared.routes.Cut.{Cut}
 use Rattle.run_machine.specs.Scene.{tree_number, keeps_data, is_mirror, setup_of}
 use Rattle.run_machine.specs.Requests.{Request, Reply, Punt, Popped}
-use Rattle.run_machine.specs.Submissions.{Ask, ToPush, ToCut, ToRecord, ToMaster, Doing, Rests, Drives, Copies, Breaks, Submission, first_length, legs_of, settled, submission_request, submission_answered, is_cut}
+use Rattle.run_machine.specs.Submissions.{Driving, ToPush, ToCut, ToRecord, ToMaster, Doing, Rests, Drives, Copies, Breaks, Submission, first_length, legs_of, settled, submission_request, submission_answered, is_cut}
 use Rattle.run_machine.specs.Tasks.{Todo, TaskState, Writer, Rescuer, Completer, Keeper, request, answered}
 
 -- a bio with a sector, that ends within its device, which is one of the stack
@@ -46,7 +46,7 @@ abbrev pub is_handed_on : Tree → Range → Bool
 is_handed_on t range = option_map_or (λ (cut : Cut). cut.sectors == range.len) (first_cut t range) false
 
 -- whether a device with this tree can be asked so for such a run
-abbrev pub AskFits : Tree → Range → Ask → Type 0
+abbrev pub AskFits : Tree → Range → Driving → Type 0
 AskFits t range ToPush = keeps_data t ≡ true
 AskFits t range (ToCut want) = is_cut t range ≡ true
 AskFits t range ToRecord = is_mirror t ≡ true

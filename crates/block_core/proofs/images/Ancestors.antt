@@ -11,7 +11,7 @@ use Rattle.bio_books.specs.Books.{Node, node_at, parent_of}
 use Rattle.bio_books.specs.Drops.{Closed}
 use Rattle.model_disks.specs.Disks.{DiskState}
 use Rattle.run_machine.specs.Scene.{Scene, tree_at}
-use Rattle.run_machine.specs.Submissions.{Want, Ask, Doing, Rests, Drives, Copies, Breaks, legs_of}
+use Rattle.run_machine.specs.Submissions.{Want, Driving, Doing, Rests, Drives, Copies, Breaks, legs_of}
 use Rattle.run_machine.specs.Tasks.{TaskState, Writer, Rescuer, Completer, Keeper, Carried, Empty, Brings, Carries, Fails}
 use Rattle.run_machine.specs.Runs.{State}
 use Rattle.block_core.specs.Weights.{Weight, Lined, Rescued, Pending, total, sum_at, one, submission_weight, refs, names_node, under, legs_left}
@@ -99,7 +99,7 @@ module _ (scene : Scene) (s : State) (i : Kept scene s) (level : ℕ → ℕ →
 
   -- at work,
   module _ (place : ℕ) (x : TaskState) (here : place < scene.tasks) (is : s.task place ≡ x) where
-    of_driven : (bio : Item Pad) (ask : Ask) (lists : TaskLists) → HasSubmission x (Drives bio ask) lists → P bio.bio.write
+    of_driven : (bio : Item Pad) (ask : Driving) (lists : TaskLists) → HasSubmission x (Drives bio ask) lists → P bio.bio.write
     of_driven bio ask lists h =
         let r = refs scene.setup bio.bio.writer bio.bio.node in
         let up = open_at scene s i bio.bio.writer bio.bio.node

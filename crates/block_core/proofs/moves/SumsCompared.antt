@@ -9,7 +9,7 @@ use Rattle.bio_books.specs.Books.{Node, VectorItem, SlipItem, node_at}
 use Rattle.bio_books.specs.Drops.{Closed}
 use Rattle.model_disks.specs.Disks.{DiskState}
 use Rattle.run_machine.specs.Scene.{Scene, tree_at}
-use Rattle.run_machine.specs.Submissions.{Want, Takes, Punts, Links, Ask, ToPush, ToCut, ToRecord, ToMaster, Doing, Rests, Drives, Copies, Breaks, Submission, legs_of}
+use Rattle.run_machine.specs.Submissions.{Want, Takes, Punts, Links, Driving, ToPush, ToCut, ToRecord, ToMaster, Doing, Rests, Drives, Copies, Breaks, Submission, legs_of}
 use Rattle.run_machine.specs.Tasks.{Todo, Gathered, NoBio, HasBio, HasBoth, Carried, Empty, Brings, Carries, Fails, TaskState, Writer, Rescuer, Completer, Keeper}
 use Rattle.run_machine.specs.Runs.{State}
 use Rattle.block_core.specs.Weights.{Weight, Spot, Lined, Rescued, Pending, Brought, total, sum_at, weigh_option, want_weight, ask_weight, doing_weight, submission_weight, gathered_weight, carried_weight, task_weight, book_weight}
@@ -56,7 +56,7 @@ module _ (scene : Scene) (s : State) (i : Kept scene s) (u v : Weight) (le : IsU
   want_under Punts = omega arith
   want_under (Links hand) = le.hand hand
 
-  ask_under : (ask : Ask) → ask_weight u ask ≤ ask_weight v ask
+  ask_under : (ask : Driving) → ask_weight u ask ≤ ask_weight v ask
   ask_under ToPush = omega arith
   ask_under (ToCut want) = want_under want
   ask_under ToRecord = omega arith

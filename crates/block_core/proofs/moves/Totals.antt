@@ -11,7 +11,7 @@ use Rattle.bio_books.specs.Books.{Node, BookState, VectorItem, SlipItem, node_at
 use Rattle.bio_books.specs.Drops.{Closed}
 use Rattle.model_disks.specs.Disks.{DiskState}
 use Rattle.run_machine.specs.Scene.{Setup, Scene, tree_at}
-use Rattle.run_machine.specs.Submissions.{Want, Takes, Punts, Links, Ask, ToPush, ToCut, ToRecord, ToMaster, Doing, Rests, Drives, Copies, Breaks, Submission}
+use Rattle.run_machine.specs.Submissions.{Want, Takes, Punts, Links, Driving, ToPush, ToCut, ToRecord, ToMaster, Doing, Rests, Drives, Copies, Breaks, Submission}
 use Rattle.run_machine.specs.Tasks.{TaskState, Writer, Rescuer, Completer, Keeper, Todo, Gathered, NoBio, HasBio, HasBoth, Carried, Empty, Brings, Carries, Fails}
 use Rattle.run_machine.specs.Runs.{State}
 use Rattle.block_core.specs.Weights.{Weight, Spot, Lined, Rescued, Pending, Brought, total, sum_at, one, weigh_option, want_weight, ask_weight, doing_weight, submission_weight, gathered_weight, carried_weight, task_weight, book_weight, refs, under, legs_left, no_weight}
@@ -77,7 +77,7 @@ module _ (u v x y : Weight) (le : IsWithin u v x y) where
   want_within Punts = omega arith
   want_within (Links hand) = le.hand hand
 
-  ask_within : (ask : Ask) → ask_weight u ask ≤ ask_weight v ask + ask_weight x ask + ask_weight y ask
+  ask_within : (ask : Driving) → ask_weight u ask ≤ ask_weight v ask + ask_weight x ask + ask_weight y ask
   ask_within ToPush = omega arith
   ask_within (ToCut want) = want_within want
   ask_within ToRecord = omega arith

@@ -10,7 +10,7 @@ use Rattle.bio_books.specs.declared.node.Role.{Role}
 use Rattle.bio_books.specs.declared.node.Role.TheVariants as role
 use Rattle.bio_books.specs.Books.{Node, node_at, keeping}
 use Rattle.run_machine.specs.Scene.{Setup, Scene, tree_at}
-use Rattle.run_machine.specs.Submissions.{Ask, ToPush, ToCut, ToRecord, ToMaster, Doing, Rests, Drives, Copies, Breaks, Submission, rests, legs_of}
+use Rattle.run_machine.specs.Submissions.{Driving, ToPush, ToCut, ToRecord, ToMaster, Doing, Rests, Drives, Copies, Breaks, Submission, rests, legs_of}
 use Rattle.run_machine.specs.Tasks.{TaskState, Writer, Rescuer, Completer, Keeper, Keeping, Keeps, Stops, Gathered, NoBio, HasBio, HasBoth}
 use Rattle.run_machine.specs.Runs.{State}
 use Rattle.block_core.specs.Weights.{total, elements_of_pool, refs, count_of}
@@ -32,7 +32,7 @@ own_of None = 0
 own_of (Some node) = own_part node.role node.held.bio
 
 -- what is asked suits the device
-abbrev pub Suits : Tree → Ask → Type 0
+abbrev pub Suits : Tree → Driving → Type 0
 Suits (Leaf number sectors) ToPush = Unit {0}
 Suits (Split number kind sizes members) (ToCut want) = Unit {0}
 Suits (Mirrored number sizes members) ToRecord = Unit {0}

@@ -15,7 +15,7 @@ use Rattle.bio_records.specs.declared.tasks.TaskLists.{TaskLists}
 use Rattle.bio_records.specs.Items.{Item}
 use Rattle.bioset_pools.specs.Sets.{bios_of}
 use Rattle.run_machine.specs.Scene.{Setup, Scene, tree_at}
-use Rattle.run_machine.specs.Submissions.{Want, Takes, Punts as WantsPunt, Links, Ask, ToPush, ToCut, ToRecord, ToMaster, Doing, Rests, Drives, Copies, Breaks, Submission}
+use Rattle.run_machine.specs.Submissions.{Want, Takes, Punts as WantsPunt, Links, Driving, ToPush, ToCut, ToRecord, ToMaster, Doing, Rests, Drives, Copies, Breaks, Submission}
 use Rattle.run_machine.specs.Tasks.{TaskState, Writer, Rescuer, Completer, Keeper, Gathered, NoBio, HasBio, HasBoth, Empty, Brings, Carries, Fails}
 use Rattle.run_machine.specs.Runs.{State}
 use Rattle.block_core.specs.Orders.{IsAbove, AreAbove, GoUp, IsSetOf, IsOwnBelow, IsLegOf, DoingInOrder, DoingBelow, AreBelow, TaskInOrder, AreInListOrder}
@@ -108,7 +108,7 @@ module _ (setup : Setup) where
   doing_right limit Rests lists fits d = tt
   doing_right limit (Drives bio ask) lists fits d = by_tree (tree_at setup bio.bio.dev) ask d.3
     where
-      by_tree : (t : Tree) (ask : Ask) → AskFits t bio.bio.range bio.bio.dev.0 ask → AskIsRight t bio.bio.dev ask
+      by_tree : (t : Tree) (ask : Driving) → AskFits t bio.bio.range bio.bio.dev.0 ask → AskIsRight t bio.bio.dev ask
       by_tree (Leaf number sectors) ToPush a = tt
       by_tree (Leaf number sectors) (ToCut want) a = absurd a
       by_tree (Leaf number sectors) ToRecord a = absurd a

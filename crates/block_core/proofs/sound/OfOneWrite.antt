@@ -12,7 +12,7 @@ use Rattle.bio_books.specs.Books.{Node, VectorItem, node_at, parent_of}
 use Rattle.bio_books.specs.Links.{IsVacant}
 use Rattle.run_machine.specs.declared.event.Event.{Event}
 use Rattle.run_machine.specs.Scene.{Scene, tree_at}
-use Rattle.run_machine.specs.Submissions.{Want, Ask, Links, ToCut, ToMaster, Drives, Copies, first_length, legs_of, leg_at}
+use Rattle.run_machine.specs.Submissions.{Want, Driving, Links, ToCut, ToMaster, Drives, Copies, first_length, legs_of, leg_at}
 use Rattle.run_machine.specs.Tasks.{TaskState, Todo}
 use Rattle.run_machine.specs.Opened.{Scenario, scene, start, setup as setup_in}
 use Rattle.run_machine.specs.Runs.{State, IsRun}
@@ -191,7 +191,7 @@ module _ (scene : Scene) (s : State) (i : Kept scene s) (write_of : ℕ → ℕ 
 
   -- Of what a task has at hand: the bio that it drives is of the write of the open node that it names, and so is one that it copies of the
   -- write of its master;
-  pub driven_of_write : (place : ℕ) (x : TaskState) (bio : Item Pad) (ask : Ask) (lists : TaskLists) (node : Node) → place < scene.tasks → s.task place ≡ x → HasSubmission x (Drives bio ask) lists
+  pub driven_of_write : (place : ℕ) (x : TaskState) (bio : Item Pad) (ask : Driving) (lists : TaskLists) (node : Node) → place < scene.tasks → s.task place ≡ x → HasSubmission x (Drives bio ask) lists
       → node_at (s.objects.book bio.bio.writer) bio.bio.node ≡ Some node → node.write ≡ bio.bio.write
   driven_of_write place x bio ask lists node here is h at =
       omega (arith, none, node_write bio.bio.writer bio.bio.node node at, submission_part scene (strays write_of) s place x (Drives bio ask) lists here is h)

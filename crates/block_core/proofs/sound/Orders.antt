@@ -19,7 +19,7 @@ use Rattle.bioset_pools.specs.Sets.{bios_of, waits_first}
 use Rattle.bio_lists.specs.Punt.{unpunted}
 use Rattle.bio_books.specs.Books.{VectorItem, keeping}
 use Rattle.run_machine.specs.Scene.{Setup, tree_at}
-use Rattle.run_machine.specs.Submissions.{Want, Takes, Punts as WantsPunt, Links, Ask, ToPush, ToCut, ToRecord, ToMaster, Doing, Rests, Drives, Copies, Breaks, Submission, settled, goes_on, copies, asks_at, first_length, landed, legs_of, leg_at, is_cut}
+use Rattle.run_machine.specs.Submissions.{Want, Takes, Punts as WantsPunt, Links, Driving, ToPush, ToCut, ToRecord, ToMaster, Doing, Rests, Drives, Copies, Breaks, Submission, settled, goes_on, copies, asks_at, first_length, landed, legs_of, leg_at, is_cut}
 use Rattle.run_machine.specs.Tasks.{TaskState, Writer, Rescuer, Completer, Keeper, Todo, Gathered, NoBio, HasBio, HasBoth, first_bio}
 use Rattle.run_machine.specs.Runs.{State}
 use Rattle.block_core.proofs.moves.Moves.{Wants, with_want, filled_of, cut_lists, piece}
@@ -50,7 +50,7 @@ WantFits dev (Takes waits) = Unit {0}
 WantFits dev WantsPunt = Unit {0}
 WantFits dev (Links hand) = hand.share.no ≡ 2 * dev
 
-abbrev pub AskFits : Tree → Range → ℕ → Ask → Type 0
+abbrev pub AskFits : Tree → Range → ℕ → Driving → Type 0
 AskFits (Leaf number sectors) range dev ToPush = Unit {0}
 AskFits (Split number kind sizes members) range dev (ToCut want) = IsTrue (is_cut (Split number kind sizes members) range) × WantFits dev want
 AskFits (Mirrored number sizes members) range dev ToRecord = Unit {0}
@@ -158,7 +158,7 @@ module _ (setup : Setup) (g : Ground setup) where
   asks_placed limit it lists (Leaf number sectors) same settles none placed ordered =
       (none, placed, ordered, subst (λ t. AskFits t it.bio.range it.bio.dev.0 ToPush) (sym same) tt)
   asks_placed limit it lists (Split number kind sizes members) same settles none placed ordered =
-      let ask : Ask = ToCut (Takes (waits_first (setup.rescuer it.bio.dev.0) lists)) in
+      let ask : Driving = ToCut (Takes (waits_first (setup.rescuer it.bio.dev.0) lists)) in
       let here : AskFits (Split number kind sizes members) it.bio.range it.bio.dev.0 ask = (settles, tt) in
       (none, placed, ordered, subst (λ t. AskFits t it.bio.range it.bio.dev.0 ask) (sym same) here)
   asks_placed limit it lists (Mirrored number sizes members) same settles none placed ordered =

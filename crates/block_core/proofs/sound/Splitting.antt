@@ -9,7 +9,7 @@ use Rattle.bio_books.specs.Books.{Node, BookState, VectorItem, SlipItem, node_at
 use Rattle.bio_books.specs.Drops.{Closed}
 use Rattle.model_disks.specs.Disks.{DiskState}
 use Rattle.run_machine.specs.Scene.{Scene}
-use Rattle.run_machine.specs.Submissions.{Want, Takes, Punts, Links, Ask, ToPush, ToCut, ToRecord, ToMaster, Doing, Rests, Drives, Copies, Breaks, Submission}
+use Rattle.run_machine.specs.Submissions.{Want, Takes, Punts, Links, Driving, ToPush, ToCut, ToRecord, ToMaster, Doing, Rests, Drives, Copies, Breaks, Submission}
 use Rattle.run_machine.specs.Tasks.{TaskState, Writer, Rescuer, Completer, Keeper, Todo, Gathered, NoBio, HasBio, HasBoth, Carried, Empty, Brings, Carries, Fails}
 use Rattle.run_machine.specs.Runs.{State}
 use Rattle.block_core.specs.Weights.{Weight, Spot, Lined, Rescued, Pending, Brought, total, sum_at, weigh_option, want_weight, ask_weight, doing_weight, submission_weight, gathered_weight, carried_weight, task_weight, book_weight}
@@ -44,7 +44,7 @@ module _ (u a b x y : Weight) (is : IsSumOf u a b x y) where
   want_sum Punts = refl
   want_sum (Links hand) = is.hand hand
 
-  ask_sum : (ask : Ask) → ask_weight u ask ≡ ask_weight a ask + ask_weight b ask + ask_weight x ask + ask_weight y ask
+  ask_sum : (ask : Driving) → ask_weight u ask ≡ ask_weight a ask + ask_weight b ask + ask_weight x ask + ask_weight y ask
   ask_sum ToPush = refl
   ask_sum (ToCut want) = want_sum want
   ask_sum ToRecord = refl
@@ -142,7 +142,7 @@ module _ (u v : Weight) (same : IsSameButClosed u v) where
   want_but Punts = refl
   want_but (Links hand) = ap (λ f. f hand) same.hand
 
-  ask_but : (ask : Ask) → ask_weight u ask ≡ ask_weight v ask
+  ask_but : (ask : Driving) → ask_weight u ask ≡ ask_weight v ask
   ask_but ToPush = refl
   ask_but (ToCut want) = want_but want
   ask_but ToRecord = refl

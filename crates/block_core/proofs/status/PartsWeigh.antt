@@ -11,7 +11,7 @@ use Rattle.bio_books.specs.Books.{Node, VectorItem, SlipItem, node_at}
 use Rattle.bio_books.specs.Drops.{Closed}
 use Rattle.model_disks.specs.Disks.{DiskState}
 use Rattle.run_machine.specs.Scene.{Scene}
-use Rattle.run_machine.specs.Submissions.{Want, Takes, Punts, Links, Ask, ToPush, ToCut, ToRecord, ToMaster, Doing, Rests, Drives, Copies, Breaks, Submission}
+use Rattle.run_machine.specs.Submissions.{Want, Takes, Punts, Links, Driving, ToPush, ToCut, ToRecord, ToMaster, Doing, Rests, Drives, Copies, Breaks, Submission}
 use Rattle.run_machine.specs.Tasks.{Todo, Gathered, NoBio, HasBio, HasBoth, Carried, Empty, Brings, Carries, Fails, TaskState, Writer, Rescuer, Completer, Keeper}
 use Rattle.run_machine.specs.Runs.{State}
 use Rattle.block_core.specs.Weights.{Weight, Spot, Lined, Rescued, Pending, Brought, sum_at, weigh_option, doing_weight, submission_weight, gathered_weight, want_weight, ask_weight, task_weight, book_weight, total}
@@ -144,7 +144,7 @@ module _ (scene : Scene) (s : State) (w : Weight) where
     no_want Punts = refl
     no_want (Links hand) = o.hand hand
 
-    no_ask : (ask : Ask) → ask_weight w ask ≡ 0
+    no_ask : (ask : Driving) → ask_weight w ask ≡ 0
     no_ask ToPush = refl
     no_ask (ToCut want) = no_want want
     no_ask ToRecord = refl

@@ -32,7 +32,7 @@ use Rattle.std.specs.Prelude.{All}
 use Rattle.std.proofs.lemmas.List.Elements.{All-nil, All-cons}
 use Rattle.bioset_pools.specs.Sets.{is_empty}
 use Rattle.block_core.proofs.sound.OrdersKept.{all_at, placed_at}
-use Rattle.block_core.specs.Waits.{NoneBehind, DoesNotWaitForItself, TaskDoesNotWait, NoneWaitsForItself}
+use Rattle.block_core.specs.Waits.{NoneBehind, DoesNotWaitForItself, TaskDoesNotWaitForItself, NoneWaitsForItself}
 
 -- where it waits, list 0 is empty
 abbrev pub WantWaits : Bool → Want → TaskLists → Type 0
@@ -298,7 +298,7 @@ module _ (setup : Setup) (limit : ℕ) where
   doing_behind (Copies bio master leg want) lists w d = waits_behind bio.dev want lists w d.4 d.3
   doing_behind (Breaks breach kept) lists w d = tt
 
-task_behind : (setup : Setup) (x : TaskState) → TaskWaits setup x → TaskPlaced setup x → TaskDoesNotWait setup x
+task_behind : (setup : Setup) (x : TaskState) → TaskWaits setup x → TaskPlaced setup x → TaskDoesNotWaitForItself setup x
 task_behind setup (Writer number todo taken submission) w t = doing_behind setup 32 submission.doing submission.lists w t.1
 task_behind setup (Rescuer dev submission) w t = doing_behind setup dev.0 submission.doing submission.lists w t
 task_behind setup (Completer disk carried) w t = tt

@@ -30,8 +30,9 @@ use Rattle.run_machine.proofs.Frames.{upd_same}
 use Rattle.plain_core.specs.objects.Books.{ended_of_plain, end_of, IsToldBy}
 use Rattle.plain_core.specs.declared.objects.book.NodeOutcome.{NodeOutcome}
 use Rattle.plain_core.specs.declared.objects.book.NodeOutcome.TheVariants as ended
-use Rattle.plain_core.specs.objects.Plain.{CoreObjects, core_pool_at, core_rescue_at, kept_disk, core_disk_at, disk_or, opened_disk, core_book_at, objects_of_core}
-use Rattle.plain_core.specs.objects.Told.{MovesAs, IsPunt, Punts, Pops, IsPush, PushesIn, Pushes, CompletesIn, CompletesBio, Links, Joins, IsDrop, Finishes, StartsRound}
+use Rattle.plain_core.specs.objects.Plain.{CoreObjects, core_pool_at, core_rescue_at, kept_disk, core_disk_at, disk_or, core_book_at, objects_of_core}
+use Rattle.run_machine.specs.Opened.{opened_disk}
+use Rattle.plain_core.specs.objects.Told.{MovesAs, IsPunt, Punts, Pops, IsPush, PushesIn, Pushes, CompletesIn, CompletesBio, Links, LinksWithRoom, IsDrop, Finishes, StartsRound}
 use Rattle.plain_core.specs.steps.Answers.{IsAnswer, Refuses, HasAnswer, AnswersRequest, Lacks}
 use Rattle.plain_core.specs.declared.fault.CoreFault.{CoreFault}
 use Rattle.plain_core.specs.declared.fault.CoreFault.TheVariants as fault
@@ -224,7 +225,7 @@ link old new writer opening what (Ok node) t = record {
 link old new writer opening what (Err fault.NotEnabled) t = (t.0, not_linked old writer opening what t.1)
 link old new writer opening what (Err fault.Memory) t = absurd t
 
-pub joined : (old new : CoreObjects) (writer node : ℕ) (opening : Opening) (what : What) → Joins old writer opening what (Ok node) new
+pub joined : (old new : CoreObjects) (writer node : ℕ) (opening : Opening) (what : What) → LinksWithRoom old writer opening what (Ok node) new
     → IsAnswer old (Link writer opening) what (LinkedTo (Made node)) new
 joined old new writer node opening what t = link old new writer opening what (Ok node) t
 
@@ -239,7 +240,7 @@ can_link old writer opening what node book is opened =
       serves = (subst (Opened (core_book_at old writer) opening (Made node)) here opened, ap (λ b. record (objects_of_core old) { book = upd (core_book_at old) writer b }) here);
     }
 
-pub join_failed : (old new : CoreObjects) (writer : ℕ) (opening : Opening) (what : What) (e : CoreFault) → Joins old writer opening what (Err e) new
+pub join_failed : (old new : CoreObjects) (writer : ℕ) (opening : Opening) (what : What) (e : CoreFault) → LinksWithRoom old writer opening what (Err e) new
     → Lacks old (Link writer opening) what e new
 join_failed old new writer opening what fault.NotEnabled t = link old new writer opening what (Err fault.NotEnabled) t
 join_failed old new writer opening what fault.Memory t = (t.0, can_link old writer opening what t.1 t.2 t.3 t.4)

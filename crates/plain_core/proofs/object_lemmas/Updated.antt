@@ -5,7 +5,8 @@ use Rattle.std.proofs.lemmas.List.{get_or-set_other}
 use Rattle.mempool_core.specs.Move.{PoolMove}
 use Rattle.run_machine.specs.Maps.{upd}
 use Rattle.run_machine.specs.Objects.{MovesPool}
-use Rattle.plain_core.specs.objects.Plain.{CoreObjects, core_pool_at, with_pool, core_rescue_at, with_rescue, kept_disk, core_disk_at, disk_or, opened_disk, with_disk, core_book_at, with_book, objects_of_core}
+use Rattle.plain_core.specs.objects.Plain.{CoreObjects, core_pool_at, with_pool, core_rescue_at, with_rescue, kept_disk, core_disk_at, disk_or, with_disk, core_book_at, with_book, objects_of_core}
+use Rattle.run_machine.specs.Opened.{opened_disk}
 use Rattle.plain_core.specs.objects.Told.{CorePoolMoves}
 
 -- a map that differs at one place alone

@@ -25,7 +25,7 @@ use Rattle.model_disks.specs.Disks.{DiskState}
 use Rattle.work_text.specs.declared.Work.{Work}
 use Rattle.run_machine.specs.Events.{pool_of}
 use Rattle.run_machine.specs.Submissions.{rests}
-use Rattle.run_machine.specs.Opened.{Scenario, at, duties, is_numbered, keepers, no_task, objects, places_of, records_of, reserve_of, setup, tasks, todos_of, writers, in_round, left_in, rounds_in}
+use Rattle.run_machine.specs.Opened.{Scenario, at, duties, is_numbered, keepers, no_task, objects, places_of, records_of, reserve_of, setup, tasks, todos_of, writers, in_round, left_in, rounds_in, opened_disk}
 use Rattle.task_steps.specs.Routed.{Routing, places_at, routing_setup}
 use Rattle.run_machine.specs.Scene.{is_disk, keeps_data, setup_of}
 use Rattle.run_machine.specs.Tasks.{Duty, TaskState, Writer, Rescuer, Completer, Keeper, Keeps, NoBio, Empty}
@@ -33,8 +33,8 @@ use Rattle.task_steps.specs.Within.{AreWithin, IsItemWithin, SubmissionFits, Tas
 use Rattle.plain_core.specs.Cores.{CoreState, AreFound, IsCore}
 use Rattle.plain_core.specs.objects.Ledgers.{ledger_of}
 use Rattle.plain_core.specs.opening.Opening.{core_objects_of, CanOpen, IsOpenedCore, new_book, new_books, new_disk, new_disks, new_pool, new_pools, scenario_by}
-use Rattle.plain_core.specs.objects.Plain.{CoreObjects, HasPlacesForStack, HasSize, disk_or, no_core_pool, objects_of_core, opened_disk}
-use Rattle.task_core.specs.opened.NewTasks.{AreShared}
+use Rattle.plain_core.specs.objects.Plain.{CoreObjects, HasPlacesForStack, HasSize, disk_or, no_core_pool, objects_of_core}
+use Rattle.task_core.specs.opened.NewTasks.{AreServableWrites}
 use Rattle.task_core.proofs.opened.Behind.{sum_le}
 use Rattle.task_core.proofs.opened.Setups.{no_writer}
 use Rattle.task_core.proofs.opened.Sharing.{share_served}
@@ -127,7 +127,7 @@ module _ (stack : Stack) (scripts : List (PoolId × Answers)) (work : Work) (can
   s = scenario_by stack scripts work
 
   -- its writes can be shared out
-  pub shared : AreShared stack work.rounds.items work.writes.items
+  pub shared : AreServableWrites stack work.rounds.items work.writes.items
   shared =
       let allowed = can.allowed in
       let below = sum_le (nodes stack) (elements stack) work.writes.items (λ write. omega arith) in

@@ -23,7 +23,7 @@ use Rattle.plain_core.specs.declared.steps.task.Task.{Task}
 use Rattle.plain_core.specs.Cores.{slot_of}
 use Rattle.plain_core.specs.opening.Opening.{AreTasksEntered, CanOpen, EntersTasks, scenario_by}
 use Rattle.plain_core.specs.opening.Seen.{HasNotBegun, Rises}
-use Rattle.plain_core.specs.steps.Duties.{IsOfPool}
+use Rattle.plain_core.specs.steps.Duties.{NamesStackPool}
 use Rattle.plain_core.specs.steps.Views.{task_of_plain}
 use Rattle.plain_core.proofs.opening_lemmas.Entered.{entered_on}
 use Rattle.task_core.proofs.opened.ScriptsBehind.{all_flat}
@@ -62,7 +62,7 @@ keepers_rise : (ds : List Duty) → Rises 72 (keepers ds) 73
 keepers_rise [] = omega arith
 keepers_rise (d ∷ ds) = (omega arith, omega arith)
 
-keepers_begin : (ds : List Duty) → All IsOfPool ds → All HasNotBegun (keepers ds)
+keepers_begin : (ds : List Duty) → All NamesStackPool ds → All HasNotBegun (keepers ds)
 keepers_begin [] all = All-nil HasNotBegun
 keepers_begin (d ∷ ds) all = All-cons HasNotBegun (Keeper (Keeps (d ∷ ds))) [] all (All-nil HasNotBegun)
 
@@ -74,19 +74,19 @@ module _ (stack : Stack) (scripts : List (PoolId × Answers)) (work : Work) (can
   abbrev at_round : ℕ → Change → Bool
   at_round round change = change.round == round
 
-  round_of_pools : (round : ℕ) → All IsOfPool (duties_of s round)
+  round_of_pools : (round : ℕ) → All NamesStackPool (duties_of s round)
   round_of_pools round =
-      All-append IsOfPool (map (λ (change : Change). Resizes change.pool change.min (writes_from s round)) (filter (at_round round) s.changes))
+      All-append NamesStackPool (map (λ (change : Change). Resizes change.pool change.min (writes_from s round)) (filter (at_round round) s.changes))
       (Starts round (writes_from s round) ∷ [])
-      (All-map IsOfPool (λ (change : Change). Resizes change.pool change.min (writes_from s round)) (filter (at_round round) s.changes)
+      (All-map NamesStackPool (λ (change : Change). Resizes change.pool change.min (writes_from s round)) (filter (at_round round) s.changes)
       (All-filter (at_round round) (λ (change : Change). IsOfStack change.pool) s.changes
       (All-map (λ (change : Change). IsOfStack change.pool) change_of work.resizes.items can.resizes)))
-      (All-cons IsOfPool (Starts round (writes_from s round)) [] tt (All-nil IsOfPool))
+      (All-cons NamesStackPool (Starts round (writes_from s round)) [] tt (All-nil NamesStackPool))
 
-  of_pools : All IsOfPool (duties s)
+  of_pools : All NamesStackPool (duties s)
   of_pools =
       let rounds = range_with_len 1 (round_count s - 1) in
-      all_flat IsOfPool (duties_of s) rounds (λ k d lt. round_of_pools (get_or rounds k d))
+      all_flat NamesStackPool (duties_of s) rounds (λ k d lt. round_of_pools (get_or rounds k d))
 
   pub firsts : All HasNotBegun (tasks s)
   firsts =

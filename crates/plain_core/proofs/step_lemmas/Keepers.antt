@@ -7,7 +7,7 @@ use Rattle.std.proofs.lemmas.Option.{slice_get_cases}
 use Rattle.task_steps.specs.declared.keeper.Duty.{Duty}
 use Rattle.task_steps.specs.KeeperViews.{duties_from, duty_of}
 use Rattle.task_steps.proofs.KeeperLemmas.{duty_there}
-use Rattle.plain_core.specs.steps.Duties.{IsOfPool}
+use Rattle.plain_core.specs.steps.Duties.{NamesStackPool}
 
 -- a duty is left at this place, before those behind it, or none is left
 at_place : (duties : List Duty) (done : ℕ)
@@ -24,8 +24,8 @@ one_left duties done some = elim (at_place duties done) [
   | inr none ↦ absurd (some none)
 ]
 
-pub others_of_pools : (duties : List Duty) (done : ℕ) → duties_from done duties ≢ [] → All IsOfPool (duties_from done duties) → All IsOfPool (duties_from (done + 1) duties)
+pub others_of_pools : (duties : List Duty) (done : ℕ) → duties_from done duties ≢ [] → All NamesStackPool (duties_from done duties) → All NamesStackPool (duties_from (done + 1) duties)
 others_of_pools duties done some all = elim (at_place duties done) [
-  | inl at ↦ All-tail IsOfPool (duty_of at.1.0) (duties_from (done + 1) duties) (subst (All IsOfPool) at.1.1 all)
+  | inl at ↦ All-tail NamesStackPool (duty_of at.1.0) (duties_from (done + 1) duties) (subst (All NamesStackPool) at.1.1 all)
   | inr none ↦ absurd (some none)
 ]

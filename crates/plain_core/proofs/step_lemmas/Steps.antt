@@ -23,7 +23,7 @@ use Rattle.plain_core.specs.declared.steps.submission.Continuation.{Continuation
 use Rattle.plain_core.specs.declared.steps.submission.Continuation.TheVariants as next
 use Rattle.plain_core.specs.declared.steps.task.Copying.{Copying}
 use Rattle.plain_core.specs.objects.Plain.{CoreObjects}
-use Rattle.plain_core.specs.objects.Told.{Punts, Pushes, Joins}
+use Rattle.plain_core.specs.objects.Told.{Punts, Pushes, LinksWithRoom}
 use Rattle.plain_core.specs.steps.Views.{want_of_plain, ask_of_plain}
 use Rattle.plain_core.specs.steps.Answers.{IsAnswer, Lacks}
 use Rattle.plain_core.specs.steps.Takes.{TakesSlip}
@@ -83,10 +83,10 @@ copy_punted r old new copying w lists rest what n after is_want p stays takes =
 pub cut_linked : (r : Routing) (old new : CoreObjects) (part hand : Item Pad) (w : PlainWant) (lists wide rest : TaskLists) (what : What) (after : submission.Doing) (bio : Bio) (node : ℕ)
     → w ≡ want.Links hand → bio ≡ part.bio → wide ≡ lists
     → submission.cut_at (routing_setup r) wide part hand node (tree r.stack part.bio.dev.0) ≡ submission.goes_on (routing_setup r) part.bio.dev rest
-    → Joins old bio.writer (Chain bio.node) what (Ok node) new
+    → LinksWithRoom old bio.writer (Chain bio.node) what (Ok node) new
     → SubmissionSteps r old (cuts_for part (want_of_plain w)) lists what (Ok (next.Returns bio.dev)) new after rest
 cut_linked r old new part hand w lists wide rest what after bio node is_want is_bio same is_after l =
-    let m = subst (λ (b : Bio). Joins old b.writer (Chain b.node) what (Ok node) new) is_bio l in
+    let m = subst (λ (b : Bio). LinksWithRoom old b.writer (Chain b.node) what (Ok node) new) is_bio l in
     subst (λ v. SubmissionSteps r old (cuts_for part (want_of_plain v)) lists what (Ok (next.Returns bio.dev)) new after rest) (sym is_want) (
       LinkedTo (Made node),
       joined old new part.bio.writer node (Chain part.bio.node) what m,
@@ -94,17 +94,17 @@ cut_linked r old new part hand w lists wide rest what after bio node is_want is_
     )
 
 pub cut_not_linked : (r : Routing) (old new : CoreObjects) (part hand : Item Pad) (w : PlainWant) (lists rest : TaskLists) (what : What) (bio : Bio) (e : CoreFault)
-    → w ≡ want.Links hand → bio ≡ part.bio → rest ≡ lists → Joins old bio.writer (Chain bio.node) what (Err e) new
+    → w ≡ want.Links hand → bio ≡ part.bio → rest ≡ lists → LinksWithRoom old bio.writer (Chain bio.node) what (Err e) new
     → SubmissionSteps r old (cuts_for part (want_of_plain w)) lists what (Err e) new (cuts_for part (submission.Links hand)) rest
 cut_not_linked r old new part hand w lists rest what bio e is_want is_bio same l =
-    let m = subst (λ (b : Bio). Joins old b.writer (Chain b.node) what (Err e) new) is_bio l in
+    let m = subst (λ (b : Bio). LinksWithRoom old b.writer (Chain b.node) what (Err e) new) is_bio l in
     subst (λ v. SubmissionSteps r old (cuts_for part (want_of_plain v)) lists what (Err e) new (cuts_for part (submission.Links hand)) rest) (sym is_want)
     (failed r old new (cuts_for part (submission.Links hand)) lists rest what e same (join_failed old new part.bio.writer (Chain part.bio.node) what e m))
 
 pub copy_linked : (r : Routing) (old new : CoreObjects) (copying : Copying) (hand : Item Pad) (w : PlainWant) (lists wide rest : TaskLists) (what : What) (n : Continuation) (after : submission.Doing) (node : ℕ)
     → w ≡ want.Links hand → wide ≡ lists → rest ≡ submitted (submission.leg_at copying.bio hand copying.leg node (tree r.stack copying.bio.dev.0)) wide
     → submission.copies (routing_setup r) rest copying.bio copying.master (copying.leg + 1) ≡ turned (routing_setup r) after rest n
-    → Joins old copying.bio.writer (Leg copying.master) what (Ok node) new → SubmissionSteps r old (copies_for copying (want_of_plain w)) lists what (Ok n) new after rest
+    → LinksWithRoom old copying.bio.writer (Leg copying.master) what (Ok node) new → SubmissionSteps r old (copies_for copying (want_of_plain w)) lists what (Ok n) new after rest
 copy_linked r old new copying hand w lists wide rest what n after node is_want same is_rest is_after l =
     subst (λ v. SubmissionSteps r old (copies_for copying (want_of_plain v)) lists what (Ok n) new after rest) (sym is_want) (
       LinkedTo (Made node),
@@ -114,7 +114,7 @@ copy_linked r old new copying hand w lists wide rest what n after node is_want s
     )
 
 pub copy_not_linked : (r : Routing) (old new : CoreObjects) (copying : Copying) (hand : Item Pad) (w : PlainWant) (lists rest : TaskLists) (what : What) (e : CoreFault)
-    → w ≡ want.Links hand → rest ≡ lists → Joins old copying.bio.writer (Leg copying.master) what (Err e) new
+    → w ≡ want.Links hand → rest ≡ lists → LinksWithRoom old copying.bio.writer (Leg copying.master) what (Err e) new
     → SubmissionSteps r old (copies_for copying (want_of_plain w)) lists what (Err e) new (copies_for copying (submission.Links hand)) rest
 copy_not_linked r old new copying hand w lists rest what e is_want same l =
     subst (λ v. SubmissionSteps r old (copies_for copying (want_of_plain v)) lists what (Err e) new (copies_for copying (submission.Links hand)) rest) (sym is_want)
@@ -136,10 +136,10 @@ drive_not_pushed r old new part a lists rest what e is_ask same p =
 
 pub drive_mastered : (r : Routing) (old new : CoreObjects) (part : Item Pad) (slip : SlipItem) (a : DriverAsk) (lists rest : TaskLists) (what : What) (after : submission.Doing) (bio : Bio) (legs node : ℕ)
     → a ≡ ask.ToMaster slip → bio ≡ part.bio → legs ≡ submission.legs_of (tree r.stack part.bio.dev.0) → rest ≡ lists
-    → Joins old part.bio.writer (Master part.bio.node part slip legs) what (Ok node) new
+    → LinksWithRoom old part.bio.writer (Master part.bio.node part slip legs) what (Ok node) new
     → SubmissionSteps r old (drives_for part (ask_of_plain a)) lists what (Ok (next.Copies bio node)) new after rest
 drive_mastered r old new part slip a lists rest what after bio legs node is_ask is_bio is_legs same l =
-    let m = subst (λ n. Joins old part.bio.writer (Master part.bio.node part slip n) what (Ok node) new) is_legs l in
+    let m = subst (λ n. LinksWithRoom old part.bio.writer (Master part.bio.node part slip n) what (Ok node) new) is_legs l in
     subst (λ v. SubmissionSteps r old (drives_for part (ask_of_plain v)) lists what (Ok (next.Copies bio node)) new after rest) (sym is_ask) (
       LinkedTo (Made node),
       joined old new part.bio.writer node (Master part.bio.node part slip (submission.legs_of (tree r.stack part.bio.dev.0))) what m,
@@ -148,10 +148,10 @@ drive_mastered r old new part slip a lists rest what after bio legs node is_ask 
 
 pub drive_not_mastered : (r : Routing) (old new : CoreObjects) (part : Item Pad) (slip : SlipItem) (a : DriverAsk) (lists rest : TaskLists) (what : What) (legs : ℕ) (e : CoreFault)
     → a ≡ ask.ToMaster slip → legs ≡ submission.legs_of (tree r.stack part.bio.dev.0) → rest ≡ lists
-    → Joins old part.bio.writer (Master part.bio.node part slip legs) what (Err e) new
+    → LinksWithRoom old part.bio.writer (Master part.bio.node part slip legs) what (Err e) new
     → SubmissionSteps r old (drives_for part (ask_of_plain a)) lists what (Err e) new (drives_for part (submission.ToMaster slip)) rest
 drive_not_mastered r old new part slip a lists rest what legs e is_ask is_legs same l =
-    let m = subst (λ n. Joins old part.bio.writer (Master part.bio.node part slip n) what (Err e) new) is_legs l in
+    let m = subst (λ n. LinksWithRoom old part.bio.writer (Master part.bio.node part slip n) what (Err e) new) is_legs l in
     subst (λ v. SubmissionSteps r old (drives_for part (ask_of_plain v)) lists what (Err e) new (drives_for part (submission.ToMaster slip)) rest) (sym is_ask)
     (failed r old new (drives_for part (submission.ToMaster slip)) lists rest what e same
     (join_failed old new part.bio.writer (Master part.bio.node part slip (submission.legs_of (tree r.stack part.bio.dev.0))) what e m))

@@ -31,7 +31,7 @@ use Rattle.plain_core.specs.steps.Answers.{IsAnswer, Refuses, HasAnswer}
 use Rattle.plain_core.specs.steps.Submissions.{IsSubmitting, SubmissionMoves}
 use Rattle.plain_core.specs.steps.Takes.{TakesPart, TakesVector}
 use Rattle.plain_core.specs.steps.Moves.{TaskMoves, duty_reply}
-use Rattle.plain_core.specs.steps.Closing.{IsCarried, GivesFirst, PassesOn, ClosesOn, bare}
+use Rattle.plain_core.specs.steps.Closing.{CarriedMoves, GivesFirst, PassesOn, ClosedMoves, bare}
 
 -- the keeper's duty is done
 duty_done : (duty : task.Duty) (rest : List task.Duty) → task.Keeper (task.Keeps rest) ≡ task.Keeper (task.keeper_answered (task.Keeps (duty ∷ rest)) (duty_reply duty))
@@ -78,21 +78,21 @@ gave_part old new p part slip what is answer =
 -- it goes on
 pub closed_gave : (old new : CoreObjects) (writer : ℕ) (closed : Closed) (held : Holding) (what : What)
     → GivesFirst old closed.held.vector closed.held.bio closed.held.slip what (Ok true) new held.vector held.bio held.slip
-    → ClosesOn old writer closed what (Ok None) new (record closed { held = held })
+    → ClosedMoves old writer closed what (Ok None) new (record closed { held = held })
 closed_gave old new writer closed held what gives = let gave = gives writer closed closed.parent in (Did, gave.0, gave.1)
 
 -- a completer goes on
 pub carried_completed : (old new : CoreObjects) (disk : DevId) (b : PlainCarried) (what : What) (index : ℕ) (part : Item Pad) (status : Status) → b ≡ carried.Empty
-    → IsAnswer old (Complete disk) what (Completed index part status) new → IsCarried old disk (carried_of_plain b) what (Ok (tt {0})) new (task.Brings part status)
+    → IsAnswer old (Complete disk) what (Completed index part status) new → CarriedMoves old disk (carried_of_plain b) what (Ok (tt {0})) new (task.Brings part status)
 carried_completed old new disk b what index part status is answer =
-    subst (λ v. IsCarried old disk (carried_of_plain v) what (Ok (tt {0})) new (task.Brings part status)) (sym is) (Completed index part status, answer, refl)
+    subst (λ v. CarriedMoves old disk (carried_of_plain v) what (Ok (tt {0})) new (task.Brings part status)) (sym is) (Completed index part status, answer, refl)
 
 pub carried_told : (old new : CoreObjects) (disk : DevId) (b : PlainCarried) (what : What) (part again : Item Pad) (bio : Bio) (status : Status) (e : NodeOutcome) (after : PlainCarried)
     → b ≡ carried.Brings part status → bio ≡ part.bio → again ≡ part
     → IsAnswer old (Drop bio.writer bio.node status (Some again)) what (DroppedTo (ended_of_plain e)) new
-    → ((node : ℕ) → carried_of_plain after ≡ task.after_drop bio.writer node (ended_of_plain e)) → IsCarried old disk (carried_of_plain b) what (Ok (tt {0})) new (carried_of_plain after)
+    → ((node : ℕ) → carried_of_plain after ≡ task.after_drop bio.writer node (ended_of_plain e)) → CarriedMoves old disk (carried_of_plain b) what (Ok (tt {0})) new (carried_of_plain after)
 carried_told old new disk b what part again bio status e after is is_bio is_again answer carries =
-    subst (λ v. IsCarried old disk (carried_of_plain v) what (Ok (tt {0})) new (carried_of_plain after)) (sym is) (
+    subst (λ v. CarriedMoves old disk (carried_of_plain v) what (Ok (tt {0})) new (carried_of_plain after)) (sym is) (
       DroppedTo (ended_of_plain e),
       subst (λ (i : Bio). IsAnswer old (Drop i.writer i.node status (Some part)) what (DroppedTo (ended_of_plain e)) new) is_bio
           (subst (λ q. IsAnswer old (Drop bio.writer bio.node status (Some q)) what (DroppedTo (ended_of_plain e)) new) is_again answer),

@@ -50,7 +50,7 @@ abbrev pub IsLoweredAt : BookState → ℕ → Status → Option (Item Pad) → 
 IsLoweredAt old place status part new =
     (node : Node) → node_at old place ≡ Some node → 1 < node.count → new ≡ with_node old place (Some (lowered (told node status part)))
 
--- it was told of its last end, and this is left of it
+-- it was told of an end and has closed, whatever it waited for, and this is left of it
 abbrev pub IsClosedAt : BookState → ℕ → Status → Option (Item Pad) → Closed → BookState → Type 0
 IsClosedAt old place status part closed new =
     (node : Node) → node_at old place ≡ Some node → (closed ≡ closed_of (told node status part)) × (new ≡ with_node old place None)

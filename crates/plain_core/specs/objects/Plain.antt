@@ -13,7 +13,7 @@ use Rattle.model_disks.specs.Moves as disk
 use Rattle.run_machine.specs.Scene.{keeps_data}
 use Rattle.task_steps.specs.Within.{AreWithin}
 use Rattle.run_machine.specs.Objects.{TallyState, Objects}
-use Rattle.run_machine.specs.Opened.{at}
+use Rattle.run_machine.specs.Opened.{at, opened_disk}
 use Rattle.plain_core.specs.declared.fault.CoreFault.{CoreFault}
 use Rattle.plain_core.specs.declared.fault.CoreFault.TheVariants as fault
 
@@ -76,9 +76,6 @@ with_book o writer book = record o { books = slice_set o.books writer book }
 abbrev pub disk_or : Option DiskState → DiskState → DiskState
 disk_or None other = other
 disk_or (Some disk) other = disk
-
-abbrev pub opened_disk : Stack → ℕ → DiskState
-opened_disk stack dev = disk.blank_disk (at dev) (size (tree stack dev)) (bads_of stack dev)
 
 abbrev pub core_disk_at : CoreObjects → ℕ → DiskState
 core_disk_at o dev = disk_or (kept_disk o dev) (opened_disk o.stack dev)

@@ -120,10 +120,10 @@ Links old writer opening what result new =
     result new
 
 -- the same where room is made for what comes of it: that can lack memory, and then a node could be opened else
-abbrev pub Joins : CoreObjects → ℕ → Opening → What → Result ℕ CoreFault → CoreObjects → Type 0
-Joins old writer opening what (Ok node) new = Links old writer opening what (Ok node) new
-Joins old writer opening what (Err fault.NotEnabled) new = Links old writer opening what (Err fault.NotEnabled) new
-Joins old writer opening what (Err fault.Memory) new =
+abbrev pub LinksWithRoom : CoreObjects → ℕ → Opening → What → Result ℕ CoreFault → CoreObjects → Type 0
+LinksWithRoom old writer opening what (Ok node) new = Links old writer opening what (Ok node) new
+LinksWithRoom old writer opening what (Err fault.NotEnabled) new = Links old writer opening what (Err fault.NotEnabled) new
+LinksWithRoom old writer opening what (Err fault.Memory) new =
     (new ≡ old)
     × (node : ℕ)
     × (book : BookState)
@@ -132,7 +132,7 @@ Joins old writer opening what (Err fault.Memory) new =
 
 -- the same of a mirror's master for a bio
 abbrev pub JoinsMaster : CoreObjects → Item Pad → SlipItem → ℕ → What → Result ℕ CoreFault → CoreObjects → Type 0
-JoinsMaster old part slip legs what result new = Joins old part.bio.writer (Master part.bio.node part slip legs) what result new
+JoinsMaster old part slip legs what result new = LinksWithRoom old part.bio.writer (Master part.bio.node part slip legs) what result new
 
 -- a node of a writer's book was told of an end
 abbrev pub IsDrop : CoreObjects → ℕ → ℕ → Status → Option (Item Pad) → What → Result NodeOutcome CoreFault → CoreObjects → Type 0

@@ -18,7 +18,7 @@ use Rattle.work_text.specs.declared.Work.{Work}
 use Rattle.task_core.specs.opened.NewTasks.{new_tally}
 use Rattle.run_machine.specs.Events.{id_of, pool_of}
 use Rattle.run_machine.specs.Objects.{TallyState}
-use Rattle.run_machine.specs.Opened.{Scenario, most_writers, objects, reserve_of, scene, script_at, start}
+use Rattle.run_machine.specs.Opened.{Scenario, most_writers, objects, reserve_of, scene, script_at, start, opened_disk}
 use Rattle.task_steps.specs.Routed.{places_at}
 use Rattle.run_machine.specs.Scenario.{change_of}
 use Rattle.run_machine.specs.Scene.{keeps_data}
@@ -26,7 +26,7 @@ use Rattle.run_machine.specs.Tasks.{TaskState}
 use Rattle.plain_core.specs.declared.steps.task.Task.{Task}
 use Rattle.plain_core.specs.Cores.{CoreState, most_slots, AreFound, scene_of_core, slot_of, state_of_core}
 use Rattle.plain_core.specs.objects.Ledgers.{ledger_of}
-use Rattle.plain_core.specs.objects.Plain.{CoreObjects, most_pools, opened_disk}
+use Rattle.plain_core.specs.objects.Plain.{CoreObjects, most_pools}
 use Rattle.plain_core.specs.steps.Views.{task_of_plain}
 
 -- the scenario that these mean together

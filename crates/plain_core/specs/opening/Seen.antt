@@ -4,7 +4,7 @@ use Rattle.run_machine.specs.Events.{id_of}
 use Rattle.run_machine.specs.Submissions.{rests}
 use Rattle.run_machine.specs.Tasks.{TaskState, NoBio, Empty, Keeps, Stops, Writer, Rescuer, Completer, Keeper}
 use Rattle.plain_core.specs.Cores.{slot_of}
-use Rattle.plain_core.specs.steps.Duties.{IsOfPool}
+use Rattle.plain_core.specs.steps.Duties.{NamesStackPool}
 
 -- It has nothing at hand, no element and no submission, as each task that has not begun. Of the keeper, which never has an element, this says that
 -- it has not broken off, and that its changes of reserves name pools that a stack can have.
@@ -12,7 +12,7 @@ abbrev pub HasNotBegun : TaskState → Type 0
 HasNotBegun (Writer number todo taken submission) = (taken ≡ NoBio) × (submission ≡ rests)
 HasNotBegun (Rescuer dev submission) = submission ≡ rests
 HasNotBegun (Completer disk carried) = carried ≡ Empty
-HasNotBegun (Keeper (Keeps duties)) = All IsOfPool duties
+HasNotBegun (Keeper (Keeps duties)) = All NamesStackPool duties
 HasNotBegun (Keeper (Stops breach)) = ⊥
 
 -- the slots of tasks rise from one number up to below another

@@ -16,17 +16,17 @@ use Rattle.plain_core.specs.declared.fault.CoreFault.{CoreFault}
 use Rattle.plain_core.specs.declared.fault.CoreFault.TheVariants as fault
 
 -- a completer goes on
-abbrev pub IsCarried : CoreObjects → DevId → task.Carried → What → Result (Unit {0}) CoreFault → CoreObjects → task.Carried → Type 0
-IsCarried old disk before what (Ok done) new after =
+abbrev pub CarriedMoves : CoreObjects → DevId → task.Carried → What → Result (Unit {0}) CoreFault → CoreObjects → task.Carried → Type 0
+CarriedMoves old disk before what (Ok done) new after =
     (reply : Reply)
     × IsAnswer old (task.carried_request disk before) what reply new
     × (after ≡ task.carried_answered before reply)
-IsCarried old disk before what (Err fault.NotEnabled) new after = (new ≡ old) × (after ≡ before) × Refuses old (task.carried_request disk before) what
-IsCarried old disk before what (Err fault.Memory) new after = ⊥
+CarriedMoves old disk before what (Err fault.NotEnabled) new after = (new ≡ old) × (after ≡ before) × Refuses old (task.carried_request disk before) what
+CarriedMoves old disk before what (Err fault.Memory) new after = ⊥
 
 -- the same of what a completer carries as plain data
 abbrev pub CarriesOn : CoreObjects → DevId → PlainCarried → What → Result (Unit {0}) CoreFault → CoreObjects → PlainCarried → Type 0
-CarriesOn old disk before what result new after = IsCarried old disk (carried_of_plain before) what result new (carried_of_plain after)
+CarriesOn old disk before what result new after = CarriedMoves old disk (carried_of_plain before) what result new (carried_of_plain after)
 
 -- the first of the elements that a closed node holds went back, or it holds none
 abbrev pub GivesFirst : CoreObjects → Option VectorItem → Option (Item Pad) → Option SlipItem → What → Result Bool CoreFault → CoreObjects
@@ -66,14 +66,14 @@ PassesOn old writer closed what (Err fault.NotEnabled) new = (new ≡ old) × Re
 PassesOn old writer closed what (Err fault.Memory) new = ⊥
 
 -- it goes on, and is still carried or no more
-abbrev pub ClosesOn : CoreObjects → ℕ → Closed → What → Result (Option PlainCarried) CoreFault → CoreObjects → Closed → Type 0
-ClosesOn old writer closed what (Ok None) new after =
+abbrev pub ClosedMoves : CoreObjects → ℕ → Closed → What → Result (Option PlainCarried) CoreFault → CoreObjects → Closed → Type 0
+ClosedMoves old writer closed what (Ok None) new after =
     (reply : Reply)
     × IsAnswer old (closed_asks writer closed) what reply new
     × (task.Carries writer after ≡ closed_becomes writer closed reply)
-ClosesOn old writer closed what (Ok (Some carried)) new after =
+ClosedMoves old writer closed what (Ok (Some carried)) new after =
     (reply : Reply)
     × IsAnswer old (closed_asks writer closed) what reply new
     × (carried_of_plain carried ≡ closed_becomes writer closed reply)
-ClosesOn old writer closed what (Err fault.NotEnabled) new after = (new ≡ old) × (after ≡ closed) × Refuses old (closed_asks writer closed) what
-ClosesOn old writer closed what (Err fault.Memory) new after = ⊥
+ClosedMoves old writer closed what (Err fault.NotEnabled) new after = (new ≡ old) × (after ≡ closed) × Refuses old (closed_asks writer closed) what
+ClosedMoves old writer closed what (Err fault.Memory) new after = ⊥

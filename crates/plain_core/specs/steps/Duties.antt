@@ -6,10 +6,10 @@ use Rattle.task_steps.specs.declared.keeper.Duty as real
 use Rattle.task_steps.specs.KeeperViews.{duty_of}
 
 -- a change of reserves names a pool that a stack can have
-abbrev pub IsOfPool : Duty → Type 0
-IsOfPool (Resizes pool min later) = IsOfStack pool
-IsOfPool (Starts round later) = Unit {0}
+abbrev pub NamesStackPool : Duty → Type 0
+NamesStackPool (Resizes pool min later) = IsOfStack pool
+NamesStackPool (Starts round later) = Unit {0}
 
 -- the first duty of all, which is such a one
 abbrev pub IsNextDuty : List Duty → real.Duty → Type 0
-IsNextDuty all next = IsOfPool (duty_of next) × (all ≡ duty_of next ∷ drop 1 all)
+IsNextDuty all next = NamesStackPool (duty_of next) × (all ≡ duty_of next ∷ drop 1 all)

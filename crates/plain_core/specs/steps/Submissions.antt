@@ -55,7 +55,7 @@ SubmissionSteps r old doing lists what (Err fault.Memory) new after rest =
     (new ≡ old) × (after ≡ doing) × (rest ≡ lists) × HasAnswer old (submission.submission_request (routing_setup r) doing lists) what
 
 -- a driver that has a bio, one that cuts it, and a mirror that copies it
-abbrev pub drives_for : Item Pad → submission.Ask → submission.Doing
+abbrev pub drives_for : Item Pad → submission.Driving → submission.Doing
 drives_for part ask = submission.Drives part ask
 
 abbrev pub cuts_for : Item Pad → submission.Want → submission.Doing
@@ -85,7 +85,7 @@ IsSubmitting submission.Rests = ⊥
 IsSubmitting doing = Unit {0}
 
 -- what the driver of a device asks for first, for any bio at the device
-abbrev pub IsFirstAsk : Routing → TaskLists → DevId → submission.Ask → Type 0
+abbrev pub IsFirstAsk : Routing → TaskLists → DevId → submission.Driving → Type 0
 IsFirstAsk r lists dev ask =
     (part : Item Pad) → part.bio.dev ≡ dev → drives_for part ask ≡ submission.asks_at (routing_setup r) lists part (tree r.stack dev.0)
 

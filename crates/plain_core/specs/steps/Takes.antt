@@ -16,6 +16,7 @@ use Rattle.plain_core.specs.steps.Views.{want_of_plain}
 use Rattle.plain_core.specs.steps.Answers.{IsAnswer, Refuses}
 use Rattle.plain_core.specs.declared.fault.CoreFault.{CoreFault}
 use Rattle.plain_core.specs.declared.fault.CoreFault.TheVariants as fault
+use Rattle.task_steps.specs.Answers.{WantsOn}
 
 -- an attempt at a bio of a set had one, or missed
 abbrev pub TakesPart : CoreObjects → SetId → Bool → What → Result (Option (Item Pad)) CoreFault → CoreObjects → Type 0
@@ -38,14 +39,8 @@ TakesVector old what (Ok None) new = (used : Bool) × IsAnswer old TakeVec what 
 TakesVector old what (Err fault.NotEnabled) new = (new ≡ old) × Refuses old TakeVec what
 TakesVector old what (Err fault.Memory) new = ⊥
 
--- what a driver wants behind its attempt at a bio
-abbrev pub IsWanted : Bool → Reply → submission.Want → Type 0
-IsWanted waits (HadBio got hand) want = want ≡ submission.Links hand
-IsWanted waits (Missed used) want = want ≡ submission.after_miss waits
-IsWanted waits reply want = ⊥
-
 abbrev pub TakesWant : CoreObjects → DevId → Bool → What → Result PlainWant CoreFault → CoreObjects → Type 0
 TakesWant old dev waits what (Ok want) new =
-    (reply : Reply) × IsAnswer old (TakeBio (Of dev) waits) what reply new × IsWanted waits reply (want_of_plain want)
+    (reply : Reply) × IsAnswer old (TakeBio (Of dev) waits) what reply new × WantsOn waits reply (want_of_plain want)
 TakesWant old dev waits what (Err fault.NotEnabled) new = (new ≡ old) × Refuses old (TakeBio (Of dev) waits) what
 TakesWant old dev waits what (Err fault.Memory) new = ⊥

@@ -25,7 +25,7 @@ want_of_plain (want.Takes waits) = submission.Takes waits
 want_of_plain want.Punts = submission.Punts
 want_of_plain (want.Links hand) = submission.Links hand
 
-abbrev pub ask_of_plain : DriverAsk → submission.Ask
+abbrev pub ask_of_plain : DriverAsk → submission.Driving
 ask_of_plain ask.ToPush = submission.ToPush
 ask_of_plain (ask.ToCut want) = submission.ToCut (want_of_plain want)
 ask_of_plain ask.ToRecord = submission.ToRecord

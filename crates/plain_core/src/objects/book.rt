@@ -101,7 +101,7 @@ impl Book {
         node.count = node.count.saturating_sub(1);
     }
 
-    // The node at a place is told of its last end, and closes.
+    // The node at a place is told of an end and closes, whatever it waited for: `tell` looks at the count.
     fn close(&mut self, place: u32, status: Status, part: Option<Part>) -> Closed
         requires { IsSome (node_at self.old place) }
         ensures { IsClosedAt self.old place status part result self.new }

@@ -2,7 +2,7 @@
 ghost use Rattle.std.specs.Prelude.{◌≡◌, OnOk};
 ghost use Rattle.run_machine.specs.Requests.{Write, Chain, Leg};
 ghost use Rattle.plain_core.specs.objects.Lists.{lists_of, ListsHaveCapacity};
-ghost use Rattle.plain_core.specs.objects.Told.{Links, Joins, JoinsMaster, IsDrop};
+ghost use Rattle.plain_core.specs.objects.Told.{Links, LinksWithRoom, JoinsMaster, IsDrop};
 
 use crate::fault::CoreFault;
 use crate::objects::book::NodeOutcome;
@@ -43,7 +43,7 @@ impl Objects {
         lists: &mut Lists,
         what: &What,
     ) -> Result<u32, CoreFault>
-        ensures joins { Joins self.old writer (Chain parent) what.now result self.new }
+        ensures joins { LinksWithRoom self.old writer (Chain parent) what.now result self.new }
         ensures same { lists_of lists.new ≡ lists_of lists.old }
         ensures room { OnOk result (ListsHaveCapacity 2 lists.new) }
     {
@@ -93,7 +93,7 @@ impl Objects {
         lists: &mut Lists,
         what: &What,
     ) -> Result<u32, CoreFault>
-        ensures joins { Joins self.old writer (Leg master) what.now result self.new }
+        ensures joins { LinksWithRoom self.old writer (Leg master) what.now result self.new }
         ensures same { lists_of lists.new ≡ lists_of lists.old }
         ensures room { OnOk result (ListsHaveCapacity 2 lists.new) }
     {

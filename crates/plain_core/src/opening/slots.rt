@@ -48,7 +48,7 @@ pub fn resting(alloc: Global) -> PlainSubmission
     }
 }
 
-/// All slots, in which no place is kept.
+/// All slots, with the place 0 in each: who looks for a task compares the name of the task at that place.
 ///
 /// # Errors
 /// Where there is no memory.

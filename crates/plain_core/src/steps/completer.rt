@@ -4,7 +4,7 @@ ghost use Rattle.plain_core.specs.steps.Views.{carried_of_plain};
 ghost use Rattle.run_machine.specs.Tasks.{after_drop};
 ghost use Rattle.plain_core.specs.objects.Books.{ended_of_plain};
 ghost use Rattle.plain_core.specs.steps.Moves.{CompleterMoves};
-ghost use Rattle.plain_core.specs.steps.Closing.{CarriesOn, GivesFirst, GivesFirstHeld, PassesOn, ClosesOn};
+ghost use Rattle.plain_core.specs.steps.Closing.{CarriesOn, GivesFirst, GivesFirstHeld, PassesOn, ClosedMoves};
 
 use crate::fault::CoreFault;
 use crate::objects::Objects;
@@ -110,7 +110,7 @@ fn close(
     closed: &mut Closed,
     what: &What,
 ) -> Result<Option<PlainCarried>, CoreFault>
-    ensures { ClosesOn objects.old writer closed.old what.now result objects.new closed.new }
+    ensures { ClosedMoves objects.old writer closed.old what.now result objects.new closed.new }
 {
     match give_first(objects, &mut closed.held, what) {
         Err(fault) => Err(fault),

@@ -2,7 +2,7 @@
 ghost use Rattle.plain_core.specs.steps.Views.{keeper_of};
 ghost use Rattle.task_steps.specs.KeeperViews.{duty_of};
 ghost use Rattle.plain_core.specs.steps.Moves.{AlwaysMoves, AnswersDuty};
-ghost use Rattle.plain_core.specs.steps.Duties.{IsOfPool};
+ghost use Rattle.plain_core.specs.steps.Duties.{NamesStackPool};
 
 use crate::fault::CoreFault;
 use crate::objects::Objects;
@@ -10,9 +10,9 @@ use crate::steps::asks;
 use crate::steps::task::Keeper;
 use task_core::{Duty, What};
 
-// What the keeper does next.
+// The objects do the keeper's next duty, a change of a reserve or a round, where the event tells of it.
 fn keep(objects: &mut Objects, duty: Duty, what: &What) -> Result<(), CoreFault>
-    requires { IsOfPool (duty_of duty) }
+    requires { NamesStackPool (duty_of duty) }
     ensures { AnswersDuty objects.old (duty_of duty) what.now result objects.new }
 {
     match duty {

@@ -5,7 +5,7 @@ ghost use Rattle.run_machine.specs.Submissions.{Rests};
 ghost use Rattle.plain_core.specs.steps.Views.{doing_of_plain, gathered_of_plain, task_of_plain};
 ghost use Rattle.plain_core.specs.steps.Submissions.{IsSubmitting};
 ghost use Rattle.task_steps.specs.KeeperViews.{duty_of};
-ghost use Rattle.plain_core.specs.steps.Duties.{IsNextDuty, IsOfPool};
+ghost use Rattle.plain_core.specs.steps.Duties.{IsNextDuty, NamesStackPool};
 
 use crate::objects::lists::Lists;
 use crate::objects::node::Closed;
@@ -140,19 +140,19 @@ impl Model for Keeper {
     ghost use Rattle.std.specs.Prelude.{All, List};
     ghost use Rattle.run_machine.specs.Tasks.{Duty as Ahead};
     ghost use Rattle.task_steps.specs.KeeperViews.{duties_from};
-    ghost use Rattle.plain_core.specs.steps.Duties.{IsOfPool};
+    ghost use Rattle.plain_core.specs.steps.Duties.{NamesStackPool};
 
     ghost Value = { List Ahead };
 
     ghost view = { λ k. duties_from k.done k.duties.items };
 
-    ghost invariant = { λ k. All IsOfPool (duties_from k.done k.duties.items) };
+    ghost invariant = { λ k. All NamesStackPool (duties_from k.done k.duties.items) };
 }
 
 impl Keeper {
     /// A keeper that does this, in its order.
     pub fn new(duties: Vec<Duty>) -> Keeper
-        requires { All IsOfPool (map duty_of duties.items) }
+        requires { All NamesStackPool (map duty_of duties.items) }
         ensures { result ≡ map duty_of duties.items }
     {
         Keeper { duties, done: 0 }

@@ -15,16 +15,16 @@ use Rattle.stack_base.specs.PoolId.{pool_number}
 use Rattle.stack_base.specs.Stack.{IsStack}
 use Rattle.mempool_core.specs.declared.Facts.{Facts}
 use Rattle.mempool_core.specs.Pool.{LedgerPool}
-use Rattle.run_machine.specs.Opened.{at}
+use Rattle.run_machine.specs.Opened.{at, opened_disk}
 use Rattle.run_machine.specs.Named as kinds
 use Rattle.run_machine.specs.Scene.{has_set, is_disk}
 use Rattle.task_core.specs.Leaving.{disks_of, falling_from, falling_pools}
-use Rattle.task_core.specs.Plains.{no_disk, no_pool, stage_of}
+use Rattle.task_core.specs.Plains.{no_pool, stage_of}
 use Rattle.task_core.specs.Tables.{look_up}
 use Rattle.task_core.specs.declared.plain.Plain.{Plain}
 use Rattle.task_steps.specs.Routed.{Routing, routing_setup}
 use Rattle.object_things.specs.Stamps.{ThingState}
-use Rattle.shared_objects.specs.ClosedByName.{state_of_held}
+use Rattle.shared_objects.specs.Shutting.{thing_of}
 use Rattle.shared_objects.specs.Holding.{set_key, slip_key}
 use Rattle.shared_objects.specs.Kinds.{unasked}
 use Rattle.shared_objects.specs.Left.{HasClosed}
@@ -98,13 +98,13 @@ module _ (closed : Closed) (has : HasClosed closed) where
 
   -- what was found of each pool
   abbrev vecs_left : ThingState LedgerPool
-  vecs_left = state_of_held closed.vecs.thing
+  vecs_left = thing_of closed.vecs.thing
 
   abbrev sets_left : ℕ → ThingState LedgerPool
-  sets_left = look_up (λ entry. set_key entry.0) (λ entry. state_of_held entry.1.thing) (λ n. unasked (no_pool plain.stage.value.stack plain.vecs.ledger n)) closed.bios.items
+  sets_left = look_up (λ entry. set_key entry.0) (λ entry. thing_of entry.1.thing) (λ n. unasked (no_pool plain.stage.value.stack plain.vecs.ledger n)) closed.bios.items
 
   abbrev slips_left : ℕ → ThingState LedgerPool
-  slips_left = look_up (λ entry. slip_key entry.0) (λ entry. state_of_held entry.1.thing) (λ n. unasked (no_pool plain.stage.value.stack plain.vecs.ledger n)) closed.records.items
+  slips_left = look_up (λ entry. slip_key entry.0) (λ entry. thing_of entry.1.thing) (λ n. unasked (no_pool plain.stage.value.stack plain.vecs.ledger n)) closed.records.items
 
   abbrev set_found : ℕ → SetId × Facts
   set_found n = (Of (at n), (sets_left (2 * n)).object.state.facts)
@@ -127,7 +127,7 @@ module _ (closed : Closed) (has : HasClosed closed) where
   -- the rows
   pub bios_row : row_of facts_left closed.bios.items ≡ (Fs, pools_in.facts FsBios) ∷ sets_below pools_in 32
   bios_row =
-      all_sets routing (λ shut. state_of_held shut.thing) (λ n. unasked (no_pool plain.stage.value.stack plain.vecs.ledger n)) closed.bios.items
+      all_sets routing (λ shut. thing_of shut.thing) (λ n. unasked (no_pool plain.stage.value.stack plain.vecs.ledger n)) closed.bios.items
       (has.order.bios ∙ has.opened.rows.bios.order) (λ thing. thing.object.state.facts)
       ∙ ap (λ l. (Fs, pools_in.facts FsBios) ∷ l)
       (map_alike set_found set_named (filter (has_set (routing_setup routing)) (range_with_len 0 count))
@@ -136,7 +136,7 @@ module _ (closed : Closed) (has : HasClosed closed) where
 
   pub records_row : row_of facts_left closed.records.items ≡ records_below pools_in 32
   records_row =
-      all_records routing (λ shut. state_of_held shut.thing) (λ n. unasked (no_pool plain.stage.value.stack plain.vecs.ledger n)) closed.records.items
+      all_records routing (λ shut. thing_of shut.thing) (λ n. unasked (no_pool plain.stage.value.stack plain.vecs.ledger n)) closed.records.items
       (has.order.records ∙ has.opened.rows.records.order) (λ thing. thing.object.state.facts)
       ∙ map_alike slips_found slips_named (filter (has_records routing) (range_with_len 0 count))
       (All-weaker (λ n. n < 32) (λ n. slips_found n ≡ slips_named n) slips_same (filter (has_records routing) (range_with_len 0 count)) (small (has_records routing)))
@@ -194,9 +194,9 @@ module _ (closed : Closed) (has : HasClosed closed) where
 
   pub disks_are : map (λ disk. disk.thing.object) closed.disks.items ≡ map (λ (dev : DevId). (state_in closed).objects.disk dev.0) (disks_of (shared_scenario closed).stack)
   disks_are =
-      sym (map-map (λ thing. thing.object) (λ shut. state_of_held shut.thing) closed.disks.items)
+      sym (map-map (λ thing. thing.object) (λ shut. thing_of shut.thing) closed.disks.items)
       ∙ ap (map (λ thing. thing.object))
-      (all_disks routing (λ shut. shut.thing.object.dev.0) (λ shut. state_of_held shut.thing) (λ n. unasked (no_disk plain.stage.value.stack n)) closed.disks.items
+      (all_disks routing (λ shut. shut.thing.object.dev.0) (λ shut. thing_of shut.thing) (λ n. unasked (opened_disk plain.stage.value.stack n)) closed.disks.items
       (has.order.disks ∙ has.opened.rows.disks.order))
       ∙ map-map _ _ (filter (is_disk (routing_setup routing)) (range_with_len 0 count))
       ∙ sym (map-map (λ (dev : DevId). (state_in closed).objects.disk dev.0) at (filter (is_disk (routing_setup routing)) (range_with_len 0 count)))

@@ -11,11 +11,11 @@ use Rattle.stack_base.specs.declared.ids.SetId.TheVariants.{Fs, Of}
 use Rattle.stack_base.proofs.ListLemmas.{first_or, behind_first}
 use Rattle.run_machine.specs.Opened.{at}
 use Rattle.run_machine.specs.Scene.{has_set, is_disk}
-use Rattle.task_core.specs.Plains.{is_bios_number}
+use Rattle.task_core.specs.Plains.{is_bios_number, by_kind}
 use Rattle.task_core.specs.Tables.{look_up}
 use Rattle.task_core.specs.opened.Openings.{itself, set_index, uses_set, slip_index, uses_slips}
 use Rattle.task_steps.specs.Routed.{Routing, routing_setup}
-use Rattle.shared_objects.specs.Holding.{by_pool, set_key, slip_key}
+use Rattle.shared_objects.specs.Holding.{set_key, slip_key}
 use Rattle.run_merge.proofs.Fronts.{has_some}
 use Rattle.run_merge.proofs.leaving.Devices.{has_records}
 use Rattle.run_merge.proofs.leaving.FoundByKey.{AreDistinct, looked, numbers_apart, pairs}
@@ -49,7 +49,7 @@ slip_named dev n is = ap at same
 
 -- what the number of a pool stands for
 module _ {Y : Type 0} (vecs : Y) (bios records : ℕ → Y) where
-  pub of_bios : (n : ℕ) → n < 32 → by_pool vecs bios records (2 * n) ≡ bios (2 * n)
+  pub of_bios : (n : ℕ) → n < 32 → by_kind vecs bios records (2 * n) ≡ bios (2 * n)
   of_bios n lt =
       ap (λ b. cond b vecs (cond (is_bios_number (2 * n)) (bios (2 * n)) (records (2 * n)))) (ne_eqb (2 * n) 64 (λ same. omega (arith, lt, same)))
       ∙ ap (λ b. cond ((2 * n == 65) || b) (bios (2 * n)) (records (2 * n))) (eq-eqb (2 * n % 2) 0 (omega arith))
@@ -59,7 +59,7 @@ module _ {Y : Type 0} (vecs : Y) (bios records : ℕ → Y) where
       by_test true = refl
       by_test false = refl
 
-  pub of_records : (n : ℕ) → n < 32 → by_pool vecs bios records (2 * n + 1) ≡ records (2 * n + 1)
+  pub of_records : (n : ℕ) → n < 32 → by_kind vecs bios records (2 * n + 1) ≡ records (2 * n + 1)
   of_records n lt =
       ap (λ b. cond b vecs (cond (is_bios_number (2 * n + 1)) (bios (2 * n + 1)) (records (2 * n + 1)))) (ne_eqb (2 * n + 1) 64 (λ same. omega (arith, same)))
       ∙ ap (λ b. cond ((2 * n + 1 == 65) || b) (bios (2 * n + 1)) (records (2 * n + 1))) (ne_eqb ((2 * n + 1) % 2) 0 (λ same. omega (arith, same)))

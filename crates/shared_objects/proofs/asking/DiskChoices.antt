@@ -28,11 +28,10 @@ module _ {C : Type 0} (chooses : C → ℕ → ℕ → C → Type 0) (disk : Dev
         → KeepsChoice (ask.Complete disk index) (completed_reply told) completes.told.chosen
         → DeskPicks old new disk count index (completed_index (completed_reply told))
     picks_chosen (Ok None) completes upto choice = tt
-    picks_chosen (Ok (Some done)) completes upto choice =
-      (
-        record { between = between; reply = completed_reply (Ok (Some done)); calls = completes; picked = refl; kept = choice; most = upto },
-        finds_count (completed_reply (Ok (Some done))) completes,
-      )
+    picks_chosen (Ok (Some done)) completes upto choice = (
+      record { between = between; reply = completed_reply (Ok (Some done)); calls = completes; picked = refl; kept = choice; most = upto },
+      finds_count (completed_reply (Ok (Some done))) completes,
+    )
     picks_chosen (Err back) completes upto choice = tt
 
     -- it found some, and the chooser is asked, whatever comes of it

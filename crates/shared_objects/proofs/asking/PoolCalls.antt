@@ -26,7 +26,8 @@ use Rattle.shared_objects.specs.declared.locks.Locks.{Locks}
 use Rattle.shared_objects.specs.declared.seats.TaskSeats.{TaskSeats}
 use Rattle.shared_objects.specs.Calling.{AreSeatedAt, FitsWith, HasAsked, HasAskedAt}
 use Rattle.shared_objects.specs.Desks.{HasCalled}
-use Rattle.shared_objects.specs.Holding.{AreLocked, AreSeatsOf, DeskHolds, by_pool, calls_in, calls_of, desk_of, set_key, slip_key, stage_at}
+use Rattle.shared_objects.specs.Holding.{AreLocked, AreSeatsOf, DeskHolds, calls_in, calls_of, desk_of, set_key, slip_key, stage_at}
+use Rattle.task_core.specs.Plains.{by_kind}
 use Rattle.shared_objects.proofs.asking.PassAndCalls.{SeatCalls, fits_with, has_called, home_again, numbered_stays, owed_of, seat_calls}
 use Rattle.task_core.proofs.PoolLemmas.{bios_change, records_change, vecs_change, stands_for_bios, stands_for_records, bios_not_64, bios_of_set, slips_not_64, slips_of_set}
 use Rattle.shared_objects.proofs.asking.RowCalls.{mark_as, row_call, row_calls, row_fits, row_owed, row_seats}
@@ -69,7 +70,7 @@ module _ (locks : Locks) (seats : TaskSeats) (holds : DeskHolds locks seats) whe
           let call : Call = record { by = seats.number + 1; asked = pool_asked ask; told = bios_call.told } in
           has_called (OfPool n) (calls_of seats) (calls_of with_bios) named bios_call
           (ap (λ (f : ℕ → List Call). record (calls_of seats) { pool = f })
-          (ap (λ f. by_pool (own seats.vecs.known) f (calls_in slip_key seats.records.items)) bios_calls
+          (ap (λ f. by_kind (own seats.vecs.known) f (calls_in slip_key seats.records.items)) bios_calls
           ∙ bios_change (own seats.vecs.known) (calls_in set_key seats.bios.items) (calls_in slip_key seats.records.items) n _ (bios_not_64 locks.common.value.opened n holds.locked.opened is) (bios_of_set locks.common.value.opened n is)
           ∙ ap (λ xs. upd (calls_of seats).pool n (xs ++ call ∷ []))
           (sym (stands_for_bios (own seats.vecs.known) (calls_in set_key seats.bios.items) (calls_in slip_key seats.records.items) n (bios_not_64 locks.common.value.opened n holds.locked.opened is) (bios_of_set locks.common.value.opened n is)))))
@@ -130,7 +131,7 @@ module _ (locks : Locks) (seats : TaskSeats) (holds : DeskHolds locks seats) whe
           let call : Call = record { by = seats.number + 1; asked = pool_asked ask; told = slips_call.told } in
           has_called (OfPool n) (calls_of seats) (calls_of with_slips) named slips_call
           (ap (λ (f : ℕ → List Call). record (calls_of seats) { pool = f })
-          (ap (λ f. by_pool (own seats.vecs.known) (calls_in set_key seats.bios.items) f) slips_calls
+          (ap (λ f. by_kind (own seats.vecs.known) (calls_in set_key seats.bios.items) f) slips_calls
           ∙ records_change (own seats.vecs.known) (calls_in set_key seats.bios.items) (calls_in slip_key seats.records.items) n _ (slips_not_64 locks.common.value.opened n is) (slips_of_set locks.common.value.opened n holds.locked.opened is)
           ∙ ap (λ xs. upd (calls_of seats).pool n (xs ++ call ∷ []))
           (sym (stands_for_records (own seats.vecs.known) (calls_in set_key seats.bios.items) (calls_in slip_key seats.records.items) n (slips_not_64 locks.common.value.opened n is) (slips_of_set locks.common.value.opened n holds.locked.opened is)))))

@@ -9,7 +9,8 @@ use Rattle.run_machine.specs.Laws.{Object, OfPool, OfRescuer, OfDisk, OfBook, Of
 use Rattle.run_machine.specs.Requests.{Request}
 use Rattle.mempool_core.specs.Pool.{LedgerPool}
 use Rattle.task_core.specs.declared.plain.Plain.{Plain}
-use Rattle.task_core.specs.Plains.{bios_at, book_number, disk_number, is_bios_number, list_number, no_book, no_disk, no_pool, records_at, records_number, set_number, tally_of}
+use Rattle.task_core.specs.Plains.{bios_at, book_number, disk_number, is_bios_number, list_number, no_book, no_pool, records_at, records_number, set_number, tally_of}
+use Rattle.run_machine.specs.Opened.{opened_disk}
 use Rattle.object_things.specs.Histories.{Call}
 use Rattle.object_things.specs.Stamps.{Told, ThingState}
 use Rattle.object_things.specs.Pools.{PoolAnswers}
@@ -19,12 +20,12 @@ use Rattle.object_things.specs.Books.{BookAnswers}
 use Rattle.object_things.specs.Tallies.{TallyAnswers}
 use Rattle.task_core.specs.Tables.{look_up}
 use Rattle.shared_objects.specs.Calls.{calls_at}
-use Rattle.shared_objects.specs.ClosedByName.{history_in, object_left_in, state_of_held}
+use Rattle.shared_objects.specs.ClosedByName.{history_in, object_left_in}
 use Rattle.shared_objects.specs.Holding.{AreSeatsOf, SeatsHold, calls_in, desk_of, dev_key, set_key, slip_key, writer_key}
 use Rattle.shared_objects.specs.Kinds.{answers_at, no_list, opened_at, unasked}
 use Rattle.shared_objects.specs.Rows.{Abreast}
 use Rattle.shared_objects.specs.Sharing.{AreOfOpened}
-use Rattle.shared_objects.specs.Shutting.{HasShut}
+use Rattle.shared_objects.specs.Shutting.{HasShut, thing_of}
 use Rattle.shared_objects.specs.Taking.{TakenHold}
 use Rattle.shared_objects.specs.declared.closed.Closed.{Closed}
 use Rattle.shared_objects.specs.declared.locks.Locks.{Locks}
@@ -53,10 +54,10 @@ mapped_at f (a ∷ xs) (suc k) x y lt = mapped_at f xs k x y (omega (arith, lt))
 module _ {O : Type 0} (mark : Stamped O → MarkState) (answers : ThingState O → Request → Told → ThingState O → Type 0) (common : CommonState) (object : O) (lock : LockId (Stamped O))
     (first : SeatState (Stamped O) Request Told) (thing : Stamped O) (told : SeatState (Stamped O) Request Told) (seats : List (Known (Stamped O) Request Told))
     (round : lock.key.value ≡ guarded common object) (shut : IsShutOf mark answers lock first thing told) (taken : HasTaken (length seats) seats first.known) where
-  one_led : Leads answers (unasked object) told.known.seen (state_of_held thing)
+  one_led : Leads answers (unasked object) told.known.seen (thing_of thing)
   one_led =
-      subst (λ history. Leads answers (unasked object) history (state_of_held thing)) (sym (ap (λ (s : SeatState (Stamped O) Request Told). s.known.seen) shut.told_is))
-      (subst (λ start. Leads answers start first.known.seen (state_of_held thing)) (ap state_of_held round) shut.left.0)
+      subst (λ history. Leads answers (unasked object) history (thing_of thing)) (sym (ap (λ (s : SeatState (Stamped O) Request Told). s.known.seen) shut.told_is))
+      (subst (λ start. Leads answers start first.known.seen (thing_of thing)) (ap thing_of round) shut.left.0)
 
   one_of_these : IsOfThese seats told.known.seen
   one_of_these =
@@ -137,15 +138,15 @@ module _ (opened : Plain) (locks : Locks) (firsts : TaskSeats) (closed : Closed)
   seen_records = look_up (λ entry. slip_key entry.0) (λ entry. entry.1.told.value.known.seen) (λ n. []) closed.records.items
 
   abbrev left_bios : ℕ → ThingState LedgerPool
-  left_bios = look_up (λ entry. set_key entry.0) (λ entry. state_of_held entry.1.thing) (λ n. unasked (no_pool opened.stage.value.stack opened.vecs.ledger n)) closed.bios.items
+  left_bios = look_up (λ entry. set_key entry.0) (λ entry. thing_of entry.1.thing) (λ n. unasked (no_pool opened.stage.value.stack opened.vecs.ledger n)) closed.bios.items
 
   abbrev left_records : ℕ → ThingState LedgerPool
-  left_records = look_up (λ entry. slip_key entry.0) (λ entry. state_of_held entry.1.thing) (λ n. unasked (no_pool opened.stage.value.stack opened.vecs.ledger n)) closed.records.items
+  left_records = look_up (λ entry. slip_key entry.0) (λ entry. thing_of entry.1.thing) (λ n. unasked (no_pool opened.stage.value.stack opened.vecs.ledger n)) closed.records.items
 
   pools_led : (n : ℕ) (is_vecs of_set : Bool)
       → Leads PoolAnswers (unasked (if is_vecs then opened.vecs else if of_set then bios_at opened n else records_at opened n))
       (if is_vecs then closed.vecs.told.value.known.seen else if of_set then seen_bios n else seen_records n)
-      (if is_vecs then state_of_held closed.vecs.thing else if of_set then left_bios n else left_records n)
+      (if is_vecs then thing_of closed.vecs.thing else if of_set then left_bios n else left_records n)
   pools_led n true of_set =
       one_led pool_mark PoolAnswers locks.common.value opened.vecs locks.vecs firsts.vecs closed.vecs.thing closed.vecs.told.value (map (λ (seats : TaskSeats). seats.vecs.known) all) of.vecs shut.vecs vecs_taken
   pools_led n false true = thing_led bios_left (no_pool opened.stage.value.stack opened.vecs.ledger) n
@@ -154,7 +155,7 @@ module _ (opened : Plain) (locks : Locks) (firsts : TaskSeats) (closed : Closed)
   pub things_led : (name : Object) → Leads (answers_at name) (unasked (opened_at opened name)) (history_in closed name) (object_left_in closed opened name)
   things_led (OfPool n) = pools_led n (n == 64) (is_bios_number n)
   things_led (OfRescuer dev) = thing_led lists_left no_list dev
-  things_led (OfDisk dev) = thing_led disks_left (no_disk opened.stage.value.stack) dev
+  things_led (OfDisk dev) = thing_led disks_left (opened_disk opened.stage.value.stack) dev
   things_led (OfBook writer) = thing_led books_left no_book writer
   things_led OfTally =
       one_led tally_mark TallyAnswers locks.common.value (tally_of opened.tally) locks.tally firsts.tally closed.tally.thing closed.tally.told.value (map (λ (seats : TaskSeats). seats.tally.known) all) of.tally shut.tally tally_taken

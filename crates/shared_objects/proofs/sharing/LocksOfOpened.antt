@@ -26,7 +26,7 @@ use Rattle.shared_objects.specs.Guards.{guarded}
 use Rattle.shared_objects.specs.Holding.{AreLocked, IsNamed, LocksHold, dev_key, set_key, slip_key, writer_key}
 use Rattle.shared_objects.specs.Opening.{CanShare}
 use Rattle.shared_objects.specs.Rows.{Abreast}
-use Rattle.shared_objects.specs.Sharing.{AreOfOpened, AreRound, disks_by_device}
+use Rattle.shared_objects.specs.Sharing.{AreOfOpened, AreAround, disks_by_device}
 use Rattle.shared_objects.specs.declared.locks.Locks.{Locks}
 use Rattle.shared_objects.proofs.asking.RowSeats.{same_position}
 use Rattle.shared_objects.proofs.row_lemmas.AbreastRows.{of_made, some_of, weaker_two}
@@ -42,7 +42,7 @@ placed_by ekey lkey used table entries locks are there = λ n is. record {
 
 module _ {K O : Type 0} (key : K → ℕ) (mark : Stamped O → MarkState) (name : ℕ → Object) (number : O → ℕ) (common : CommonState)
     (marks : (o : O) → mark (guarded common o) ≡ record { common = common; name = name (number o) }) (objects : List (K × O)) (locks : List (K × LockId (Stamped O)))
-    (round : AreRound (guarded common) objects locks) where
+    (round : AreAround (guarded common) objects locks) where
   -- each lock is round the object that its key names
   named_by : All (λ (entry : K × O). number entry.1 ≡ key entry.0) objects → All (λ (e : K × LockId (Stamped O)). IsNamed mark common (name (key e.0)) e.1) locks
   named_by all k lock lt =

@@ -6,12 +6,12 @@ use Rattle.seat_lock.specs.Seats.{LockId, SeatState, own}
 use Rattle.run_machine.specs.Laws.{Object, OfPool, OfRescuer, OfDisk, OfBook, OfTally, OfNone}
 use Rattle.run_machine.specs.Requests.{Request}
 use Rattle.task_steps.specs.TaskViews.{TaskOf}
-use Rattle.task_core.specs.Plains.{is_bios_number}
+use Rattle.task_core.specs.Plains.{is_bios_number, by_kind}
 use Rattle.task_core.specs.Tables.{look_up}
 use Rattle.object_things.specs.Histories.{Call}
 use Rattle.object_things.specs.Stamps.{Told}
 use Rattle.shared_objects.specs.Calls.{calls_at}
-use Rattle.shared_objects.specs.Holding.{AreSeatsOf, DeskHolds, IsPassOf, IsSeatOf, LocksHold, SeatsHold, by_pool, calls_in, calls_of, desk_of, dev_key, set_key, slip_key, writer_key}
+use Rattle.shared_objects.specs.Holding.{AreSeatsOf, DeskHolds, IsPassOf, IsSeatOf, LocksHold, SeatsHold, calls_in, calls_of, desk_of, dev_key, set_key, slip_key, writer_key}
 use Rattle.shared_objects.specs.Opening.{AreNew, IsNewAt, IsTaskAt, first_pass_of}
 use Rattle.shared_objects.specs.Noting.{IsBlank}
 use Rattle.shared_objects.specs.Rans.{IsNewDesk, IsOtherPass, IsUnused, RanState}
@@ -30,7 +30,7 @@ module _ {K T : Type 0} (n : ℕ) (locks : List (K × LockId T)) (seats : List (
       found_has (λ (calls : List Call). calls ≡ []) (λ (e : K × SeatState T Request Told). key e.0) (λ (e : K × SeatState T Request Told). own e.1.known) (λ m. []) seats number refl
       (λ k d lt. let l = are.lens in let lock = some_of locks k (omega (arith, lt, l)) in (are.each k lock d (omega (arith, lt, l))).1.1)
 
-none_by_pool : (vecs : List Call) (bios records : ℕ → List Call) (number : ℕ) → vecs ≡ [] → bios number ≡ [] → records number ≡ [] → by_pool vecs bios records number ≡ []
+none_by_pool : (vecs : List Call) (bios records : ℕ → List Call) (number : ℕ) → vecs ≡ [] → bios number ≡ [] → records number ≡ [] → by_kind vecs bios records number ≡ []
 none_by_pool vecs bios records number v b r = by_case (number == 64) (is_bios_number number)
   where
     by_case : (x y : Bool) → cond x vecs (cond y (bios number) (records number)) ≡ []

@@ -18,7 +18,8 @@ use Rattle.task_core.specs.opened.NewTasks.{reserves_in}
 use Rattle.task_core.specs.opened.OfOne.{IsOpened}
 use Rattle.task_core.specs.opened.Openings.{itself, set_index, slip_index, uses_book, uses_disk, uses_list, uses_set, uses_slips, IsNewBook, IsNewDisk, IsNewList, IsNewRecords, IsNewSet}
 use Rattle.task_core.specs.ObjectsOf.{IsBookOf, IsDiskOf}
-use Rattle.task_core.specs.Plains.{bios_at, book_number, disk_number, is_bios_number, list_number, no_book, no_disk, no_pool, objects_of, pool_at, records_at, records_number, set_number, stage_of}
+use Rattle.task_core.specs.Plains.{bios_at, book_number, disk_number, is_bios_number, list_number, no_book, no_pool, objects_of, pool_at, records_at, records_number, set_number, stage_of}
+use Rattle.run_machine.specs.Opened.{opened_disk}
 use Rattle.task_core.specs.Tables.{is_entry_of, look_up}
 use Rattle.task_core.proofs.NumberTests.{is_itself}
 use Rattle.task_core.proofs.PoolLemmas.{stands_for_bios, stands_for_records}
@@ -171,7 +172,7 @@ module _ (o : Opened) (opened : IsOpened o) where
       let is = each_entry disk_number itself (uses_disk plain.stage.value) by_itself (IsNewDisk plain.stage.value) count plain.disks.items plain.index.disks opened.rows.disks k d lt in
       let disk : DiskState = get_or plain.disks.items k d in
       subst (λ n. IsDiskOf (stage_of plain) n disk) (sym is.keyed)
-      (subst (IsDiskOf (stage_of plain) is.index) (looked_up disk_number (λ (e : DiskState). e) (no_disk plain.stage.value.stack) plain.disks.items is.index disk is.found) (opened.one.holds.objects.disk is.index))
+      (subst (IsDiskOf (stage_of plain) is.index) (looked_up disk_number (λ (e : DiskState). e) (opened_disk plain.stage.value.stack) plain.disks.items is.index disk is.found) (opened.one.holds.objects.disk is.index))
 
   books : All (λ (entry : ℕ × BookState). IsBookOf (stage_of plain) entry.1.writer entry.1 × (entry.1.writer ≡ entry.0)) plain.books.items
   books = λ k d lt.

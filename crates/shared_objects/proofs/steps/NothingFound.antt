@@ -1,7 +1,7 @@
 -- A task that found nothing is as before.
 use Rattle.std.proofs.Common.{◌≡◌, ℕ, List, [], ◌∷◌, refl, sym, ◌∙◌, ap}
 use Rattle.stack_base.specs.declared.ids.DevId.{DevId}
-use Rattle.run_machine.specs.Submissions.{Doing, Rests, Drives, Copies, Breaks, Ask, ToPush, ToCut, ToRecord, ToMaster, Want, Takes, Punts, Links, Submission, submission_answered}
+use Rattle.run_machine.specs.Submissions.{Doing, Rests, Drives, Copies, Breaks, Driving, ToPush, ToCut, ToRecord, ToMaster, Want, Takes, Punts, Links, Submission, submission_answered}
 use Rattle.run_machine.specs.Requests.{Nothing}
 use Rattle.run_machine.specs.Scene.{Setup}
 use Rattle.run_machine.specs.Tasks.{Todo, Gathered, NoBio, HasBio, HasBoth, Carried, Empty, Brings, Carries, Fails, Duty, Resizes, Starts, Keeping, Keeps, Stops, TaskState, Writer, Rescuer, Completer, Keeper, answered, carried_answered, keeper_answered, writer_answered, write_answered, rescuer_answered}

@@ -9,7 +9,7 @@ ghost use Rattle.shared_objects.specs.Guards.{guarded};
 ghost use Rattle.shared_objects.specs.Holding.{LocksHold};
 ghost use Rattle.shared_objects.specs.Opening.{AreFirst, CanShare, IsFirstAt};
 ghost use Rattle.shared_objects.specs.Rows.{Abreast};
-ghost use Rattle.shared_objects.specs.Sharing.{AreOfOpened, AreRound, disks_by_device};
+ghost use Rattle.shared_objects.specs.Sharing.{AreOfOpened, AreAround, disks_by_device};
 
 use crate::locks::Locks;
 use crate::opening::guards::{
@@ -34,7 +34,7 @@ fn lock_row<K: Copy + Drop, T: Thing + Drop>(
     alloc: Global,
     things: Vec<(K, T)>,
 ) -> Result<(Vec<(K, SeatLock<T>)>, Vec<(K, Seat<T>)>), AllocError>
-    ensures round { IfOk result (λ made. AreRound (λ thing. thing) things.items made.0.items) }
+    ensures round { IfOk result (λ made. AreAround (λ thing. thing) things.items made.0.items) }
     ensures firsts { IfOk result (λ made. Abreast (IsFirstAt 0) made.0.items made.1.items) }
 {
     open_row(alloc, things)
@@ -53,7 +53,7 @@ fn lock_pools<K: Copy + Drop, P: Fresh + Drop>(
     AllocError,
 >
     requires { All (λ entry. IsPoolOf (stage_in common.now.value) entry.1) pools.items }
-    ensures round { IfOk result (λ made. AreRound (guarded common.now.value) pools.items made.0.items) }
+    ensures round { IfOk result (λ made. AreAround (guarded common.now.value) pools.items made.0.items) }
     ensures firsts { IfOk result (λ made. Abreast (IsFirstAt 0) made.0.items made.1.items) }
 {
     let things = guard_pools(alloc, pools, common)?;
@@ -73,7 +73,7 @@ fn lock_lists(
     AllocError,
 >
     requires { All (λ entry. AreServed (stage_in common.now.value) entry.1.bios) lists.items }
-    ensures round { IfOk result (λ made. AreRound (guarded common.now.value) lists.items made.0.items) }
+    ensures round { IfOk result (λ made. AreAround (guarded common.now.value) lists.items made.0.items) }
     ensures firsts { IfOk result (λ made. Abreast (IsFirstAt 0) made.0.items made.1.items) }
 {
     let things = guard_lists(alloc, lists, common)?;
@@ -93,7 +93,7 @@ fn lock_disks(
     AllocError,
 >
     requires { All (λ disk. IsDiskOf (stage_in common.now.value) disk.dev.0 disk) disks.items }
-    ensures round { IfOk result (λ made. AreRound (guarded common.now.value) (disks_by_device disks.items) made.0.items) }
+    ensures round { IfOk result (λ made. AreAround (guarded common.now.value) (disks_by_device disks.items) made.0.items) }
     ensures firsts { IfOk result (λ made. Abreast (IsFirstAt 0) made.0.items made.1.items) }
 {
     let things = guard_disks(alloc, disks, common)?;
@@ -107,7 +107,7 @@ fn lock_books(
     common: &Arc<Common, Global>,
 ) -> Result<(Vec<(u32, SeatLock<BookThing>)>, Vec<(u32, Seat<BookThing>)>), AllocError>
     requires { All (λ entry. IsBookOf (stage_in common.now.value) entry.1.writer entry.1) books.items }
-    ensures round { IfOk result (λ made. AreRound (guarded common.now.value) books.items made.0.items) }
+    ensures round { IfOk result (λ made. AreAround (guarded common.now.value) books.items made.0.items) }
     ensures firsts { IfOk result (λ made. Abreast (IsFirstAt 0) made.0.items made.1.items) }
 {
     let things = guard_books(alloc, books, common)?;

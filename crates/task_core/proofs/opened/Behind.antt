@@ -26,7 +26,7 @@ use Rattle.work_text.specs.Fit.{IsFitWork, IsPoolIn}
 use Rattle.work_text.specs.declared.Resize.{Resize}
 use Rattle.work_text.specs.declared.Work.{Work}
 use Rattle.work_text.proofs.Fit.{work_is_fit}
-use Rattle.task_core.specs.opened.NewTasks.{AreShared, reserves_in}
+use Rattle.task_core.specs.opened.NewTasks.{AreServableWrites, reserves_in}
 use Rattle.run_machine.specs.ReadBehind.{IsReadBehind}
 use Rattle.run_machine.specs.Opened.{at, records_of as records_at, reserve_of}
 use Rattle.task_core.specs.opened.Openings.{uses_set, uses_slips}
@@ -121,7 +121,7 @@ module _ (accepted : Accepted) (work : Work) (read : IsReadBehind accepted work)
   pub fit_work : IsFitWork accepted.stack work
   fit_work = work_is_fit read.text accepted work read.begins read.reads
 
-  pub shared : AreShared accepted.stack work.rounds.items work.writes.items
+  pub shared : AreServableWrites accepted.stack work.rounds.items work.writes.items
   shared =
       let allowed = read.reads.1.bound.allowed in
       let below = sum_le (nodes accepted.stack) (elements accepted.stack) work.writes.items (λ write. omega arith) in

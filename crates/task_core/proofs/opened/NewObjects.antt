@@ -30,9 +30,9 @@ use Rattle.run_machine.specs.Events.{pool_of}
 use Rattle.task_core.specs.opened.Filled.{AreMade}
 use Rattle.run_machine.specs.Objects.{Objects, TallyState}
 use Rattle.task_core.specs.ObjectsOf.{AreObjectsOf, IsNodeOf}
-use Rattle.run_machine.specs.Opened.{at, reserve_of, script_at}
+use Rattle.run_machine.specs.Opened.{at, reserve_of, script_at, opened_disk}
 use Rattle.task_core.specs.opened.Openings.{has_pool, opened_objects, widest, AreOpened, IsNewPool, set_at, set_index, uses_set, IsNewSet, AreSets, slip_index, uses_slips, IsNewRecords, AreRecords, itself, uses_disk, IsNewDisk, AreDisks, uses_list, IsNewList, AreLists, uses_book, IsNewBook, AreBooks}
-use Rattle.task_core.specs.Plains.{set_number, records_number, no_pool, list_number, disk_number, book_number, no_disk, no_book, by_kind, pool_at, tally_of, objects_of, stage_of, AreEntered}
+use Rattle.task_core.specs.Plains.{set_number, records_number, no_pool, list_number, disk_number, book_number, no_book, by_kind, pool_at, tally_of, objects_of, stage_of, AreEntered}
 use Rattle.task_steps.specs.Routed.{Routing, places_at, routing_setup}
 use Rattle.run_machine.specs.Scene.{has_set}
 use Rattle.task_steps.specs.Stage.{Stage, IsServed}
@@ -83,10 +83,10 @@ module _ (routing : Routing) where
   list_below n used = below_by n (length routing.stack.devices.items) (and_parts (nat_lt n (length routing.stack.devices.items)) _ used).0
 
   disks_are : (disks : List DiskState) (table : List ℕ) → AreDisks routing (length routing.stack.devices.items) disks table
-      → look_up disk_number (λ disk. disk) (no_disk routing.stack) disks ≡ no_disk routing.stack
+      → look_up disk_number (λ disk. disk) (opened_disk routing.stack) disks ≡ opened_disk routing.stack
   disks_are disks table all =
       look_made disk_number (uses_disk routing) (IsNewDisk routing) (length routing.stack.devices.items) disks table all disk_below (λ disk. disk)
-      (no_disk routing.stack) (no_disk routing.stack) (λ n disk made. made) (λ n unused. refl)
+      (opened_disk routing.stack) (opened_disk routing.stack) (λ n disk made. made) (λ n unused. refl)
 
   lists_are : (lists : List (DevId × Rescue)) (table : List ℕ) → AreLists routing (length routing.stack.devices.items) lists table
       → ◌≡◌ {A = ℕ → List (Item Pad)} (look_up list_number (λ entry. entry.1.bios) (λ dev. []) lists) (λ dev. [])
@@ -308,7 +308,7 @@ module _ (plain : Plain) (good : IsStack plain.stage.value.stack) (scripts : Lis
       ap (λ pool. objects_with pool given.rescue given.disk given.book tally) pools
       ∙ ap (λ rescue. objects_with (opened_objects routing scripts tally).pool rescue given.disk given.book tally) (lists_are routing plain.lists.items plain.index.lists lists)
       ∙ ap (λ disk. objects_with (opened_objects routing scripts tally).pool (λ dev. []) disk given.book tally) (disks_are routing plain.disks.items plain.index.disks disks)
-      ∙ ap (λ book. objects_with (opened_objects routing scripts tally).pool (λ dev. []) (no_disk routing.stack) book tally) (books_are routing plain.books.items plain.index.books books book_below)
+      ∙ ap (λ book. objects_with (opened_objects routing scripts tally).pool (λ dev. []) (opened_disk routing.stack) book tally) (books_are routing plain.books.items plain.index.books books book_below)
 
   entered : AreEntered plain
   entered = record {

@@ -29,7 +29,7 @@ use Rattle.run_machine.specs.Events.{pool_of}
 use Rattle.task_steps.specs.Homes.{TodoFits, IsSubmissionOf, IsOwned, DutyFits, IsTaskOf}
 use Rattle.task_core.specs.Leaving.{IsReservedForRun}
 use Rattle.run_machine.specs.Submissions.{rests}
-use Rattle.task_core.specs.opened.NewTasks.{AreShared, others_in, reserves_in}
+use Rattle.task_core.specs.opened.NewTasks.{AreServableWrites, others_in, reserves_in}
 use Rattle.task_core.specs.opened.OpenTasks.{AreTasksOf}
 use Rattle.run_machine.specs.Objects.{Objects, TallyState}
 use Rattle.task_core.specs.opened.OfOne.{states, AreOfOne, IsOpened, scenario_in}
@@ -189,7 +189,7 @@ module _ (o : Opened) (routing : Routing) (counts : List ℕ) (read : IsReadBehi
   abbrev stage : Stage
   stage = stage_of o.objects
 
-  sharing : AreShared s.stack s.rounds s.writes
+  sharing : AreServableWrites s.stack s.rounds s.writes
   sharing = shared o.accepted.value o.work.value read
 
   same : routing.stack ≡ s.stack

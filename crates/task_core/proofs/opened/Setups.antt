@@ -18,7 +18,7 @@ use Rattle.run_machine.specs.Scene.{setup_of}
 use Rattle.run_machine.specs.Tasks.{TaskState, Todo}
 use Rattle.task_steps.specs.Routed.{Routing, places_at, routing_setup}
 use Rattle.task_steps.specs.TaskViews.{TaskOf}
-use Rattle.task_core.specs.opened.NewTasks.{AreShared, others_in, with_routing}
+use Rattle.task_core.specs.opened.NewTasks.{AreServableWrites, others_in, with_routing}
 use Rattle.task_core.specs.opened.OfOne.{states}
 use Rattle.task_core.specs.opened.OpenTasks.{AreTasksOf}
 use Rattle.task_core.proofs.NumberTests.{lt_or}
@@ -35,7 +35,7 @@ shown_states : (routing : Routing) (tasks : List TaskState) → states (with_rou
 shown_states routing [] = refl
 shown_states routing (task ∷ tasks) = ap (λ more. task ∷ more) (shown_states routing tasks)
 
-module _ (stack : Stack) (scripts : List (PoolId × Answers)) (work : Work) (sharing : AreShared stack work.rounds.items work.writes.items) where
+module _ (stack : Stack) (scripts : List (PoolId × Answers)) (work : Work) (sharing : AreServableWrites stack work.rounds.items work.writes.items) where
   abbrev s : Scenario
   s = record { stack = stack; scripts = scripts; writes = work.writes.items; rounds = work.rounds.items; changes = map change_of work.resizes.items }
 

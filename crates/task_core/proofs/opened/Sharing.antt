@@ -15,7 +15,7 @@ use Rattle.task_steps.specs.declared.task.Kind.{Kind}
 use Rattle.run_machine.specs.Submissions.{rests}
 use Rattle.task_core.specs.declared.opening.tasks.DeviceTasks.{DeviceTasks}
 use Rattle.task_core.specs.declared.opening.tasks.DeviceTasks.TheVariants as of_devices
-use Rattle.task_core.specs.opened.NewTasks.{device_tasks, writer_with, shown_tasks, AddsTasks, AreShared, ArePlaced}
+use Rattle.task_core.specs.opened.NewTasks.{device_tasks, writer_with, shown_tasks, AddsTasks, AreServableWrites, ArePlaced}
 use Rattle.run_machine.specs.Scene.{Setup, is_disk}
 use Rattle.run_machine.specs.Opened.{at, is_by, numbered, numbered_from, share_of, nodes_of, is_writer, writers_of}
 use Rattle.run_machine.specs.Tasks.{Todo, TaskState, NoBio, Empty, Writer, Rescuer, Completer}
@@ -115,7 +115,7 @@ writes_few stack [] = omega arith
 writes_few stack (write ∷ writes) =
     let rest = writes_few stack writes in omega (arith, rest, sum_by-cons (λ write. nodes stack write) write writes)
 
-module _ (stack : Stack) (rounds : List ℕ) (writes : List Write) (shared : AreShared stack rounds writes) where
+module _ (stack : Stack) (rounds : List ℕ) (writes : List Write) (shared : AreServableWrites stack rounds writes) where
   pub share_few : (writer : ℕ) → nodes_of stack (share_of rounds writes writer) < 2 ^ 32
   share_few writer =
       let all = nodes_all stack 0 rounds writes shared.paired in

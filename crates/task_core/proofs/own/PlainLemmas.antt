@@ -20,10 +20,10 @@ use Rattle.run_machine.specs.Maps.{upd}
 use Rattle.task_core.specs.Tables.{look_up}
 use Rattle.run_machine.specs.Requests.{Request, Reply}
 use Rattle.run_machine.specs.Objects.{Objects, MovesPool, Serves}
-use Rattle.run_machine.specs.Opened.{at}
+use Rattle.run_machine.specs.Opened.{at, opened_disk}
 use Rattle.task_steps.specs.Stage.{Stage, has_rescuer, has_disk, has_book, is_bios, is_slips, RequestFits, Owes}
 use Rattle.task_core.specs.ObjectsOf.{AreObjectsOf, AreNumbered}
-use Rattle.task_core.specs.Plains.{set_number, records_number, list_number, disk_number, book_number, no_pool, no_disk, no_book, by_kind, bios_at, records_at, pool_at, objects_of, stage_of, AreEntered, Holds}
+use Rattle.task_core.specs.Plains.{set_number, records_number, list_number, disk_number, book_number, no_pool, no_book, by_kind, bios_at, records_at, pool_at, objects_of, stage_of, AreEntered, Holds}
 use Rattle.run_machine.proofs.Frames.{upd_same}
 use Rattle.task_core.proofs.Keeping.{objects_stay, objects_owe}
 use Rattle.task_core.proofs.TableLemmas.{looked, changed, places_stay, numbers_stay}
@@ -209,14 +209,14 @@ module _ (plain : Plain) (holds : Holds plain) (d i : ℕ) (is : IsTrue (has_dis
     (entry : DiskState) (value : entry ≡ get_or plain.disks.items i entry) where
   pub disk_there : (objects_of plain).disk d ≡ entry
   disk_there =
-      looked disk_number plain.index.disks plain.disks.items d i (holds.entered.disks d is) place entry value (λ e. e) (no_disk plain.stage.value.stack)
+      looked disk_number plain.index.disks plain.disks.items d i (holds.entered.disks d is) place entry value (λ e. e) (opened_disk plain.stage.value.stack)
 
   module _ (x : DiskState) (same : x.dev ≡ entry.dev) where
     pub disk_changes : objects_of (with_disks plain i x) ≡ record (objects_of plain) { disk = upd (objects_of plain).disk d x }
     disk_changes =
         ap (λ f. record (objects_of plain) { disk = f })
         (changed disk_number plain.index.disks plain.disks.items d i (holds.entered.disks d is) place entry value x (ap (λ (dev : DevId). dev.0) same) (λ e. e)
-        (no_disk plain.stage.value.stack))
+        (opened_disk plain.stage.value.stack))
 
     pub disk_now : (objects_of (with_disks plain i x)).disk d ≡ x
     disk_now = ap (λ (o : Objects). o.disk d) disk_changes ∙ upd_same (objects_of plain).disk d x

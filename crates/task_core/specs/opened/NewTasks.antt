@@ -25,7 +25,7 @@ use Rattle.run_machine.specs.Opened.{share_of, nodes_of, writers_of, rescuers_of
 use Rattle.run_machine.specs.Scenario.{change_of}
 
 -- Writes that a stack can serve, by writers of small numbers, each with its round, which open few nodes together.
-pub record AreShared (stack : Stack) (rounds : List ℕ) (writes : List Write) : Type 0 where
+pub record AreServableWrites (stack : Stack) (rounds : List ℕ) (writes : List Write) : Type 0 where
   pub served : All (IsWrite stack) writes
   pub writers : All (λ (write : Write). write.task < 8) writes
   pub paired : length rounds ≡ length writes

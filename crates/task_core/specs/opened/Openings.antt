@@ -18,8 +18,8 @@ use Rattle.task_core.specs.declared.plain.Plain.{Plain}
 use Rattle.run_machine.specs.Events.{pool_of}
 use Rattle.task_core.specs.opened.Filled.{AreMade, IsNext}
 use Rattle.run_machine.specs.Objects.{TallyState, Objects}
-use Rattle.run_machine.specs.Opened.{at, reserve_of, script_at}
-use Rattle.task_core.specs.Plains.{set_number, records_number, list_number, disk_number, book_number, no_disk, objects_of, stage_of, Holds}
+use Rattle.run_machine.specs.Opened.{at, reserve_of, script_at, opened_disk}
+use Rattle.task_core.specs.Plains.{set_number, records_number, list_number, disk_number, book_number, objects_of, stage_of, Holds}
 use Rattle.task_steps.specs.Routed.{Routing, places_at, routing_setup}
 use Rattle.run_machine.specs.Scene.{is_device, is_disk, is_mirror, has_set}
 
@@ -36,7 +36,7 @@ abbrev pub uses_disk : Routing → ℕ → Bool
 uses_disk routing = is_disk (routing_setup routing)
 
 abbrev pub IsNewDisk : Routing → ℕ → DiskState → Type 0
-IsNewDisk routing dev disk = disk ≡ no_disk routing.stack dev
+IsNewDisk routing dev disk = disk ≡ opened_disk routing.stack dev
 
 abbrev pub AreDisks : Routing → ℕ → List DiskState → List ℕ → Type 0
 AreDisks routing bound disks table = AreMade disk_number itself (uses_disk routing) (IsNewDisk routing) bound disks table
@@ -135,7 +135,7 @@ abbrev pub opened_objects : Routing → List (PoolId × Answers) → TallyState 
 opened_objects routing scripts tally = record {
   pool = λ number. opened (reserve_of routing.stack (pool_of number)) (script_at scripts number);
   rescue = λ dev. [];
-  disk = no_disk routing.stack;
+  disk = opened_disk routing.stack;
   book = λ writer. record { writer = writer; nodes = replicate (places_at routing.places writer) None };
   tally = tally;
 }

@@ -3,7 +3,7 @@ ghost use Rattle.std.specs.Prelude.{◌≡◌, ◌+◌, ◌<◌, ◌^◌, ◌++�
 ghost use Rattle.stack_base.specs.Stack.{IsStack};
 ghost use Rattle.layout_model.specs.Writes.{IsWrite};
 ghost use Rattle.run_machine.specs.Opened.{is_by, share_of, nodes_of};
-ghost use Rattle.task_core.specs.opened.NewTasks.{book_places, writer_with, writers_among, writers_in, AddsTasks, AreShared, ArePlaced};
+ghost use Rattle.task_core.specs.opened.NewTasks.{book_places, writer_with, writers_among, writers_in, AddsTasks, AreServableWrites, ArePlaced};
 
 use layout_model::need;
 use stack_base::Stack;
@@ -74,7 +74,7 @@ fn open_writer(
     places: &mut [u32; 8],
 ) -> Result<(), AllocError>
     requires stack { IsStack stack.now }
-    requires shared { AreShared stack.now work.now.rounds.items work.now.writes.items }
+    requires shared { AreServableWrites stack.now work.now.rounds.items work.now.writes.items }
     requires small { writer < 8 }
     ensures kinds { OnOk result (AddsTasks kinds.old.items (writers_among work.now (writer ∷ [])) kinds.new.items) }
     ensures places { OnOk result (places.new ≡ slice_set places.old writer (book_places stack.now work.now writer)) }
@@ -94,7 +94,7 @@ pub(crate) fn open_writers(
     places: &mut [u32; 8],
 ) -> Result<(), AllocError>
     requires stack { IsStack stack.now }
-    requires shared { AreShared stack.now work.now.rounds.items work.now.writes.items }
+    requires shared { AreServableWrites stack.now work.now.rounds.items work.now.writes.items }
     ensures kinds { OnOk result (AddsTasks kinds.old.items (writers_in work.now) kinds.new.items) }
     ensures places { OnOk result (ArePlaced stack.now work.now.rounds.items work.now.writes.items 8 places.new) }
 {

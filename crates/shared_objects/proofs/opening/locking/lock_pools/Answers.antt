@@ -1,10 +1,10 @@
 use Rattle.std.proofs.lemmas.Result.{IfOk-weaker}
 use Rattle.shared_objects.specs.Guards.{guarded}
-use Rattle.shared_objects.specs.Sharing.{AreRound}
+use Rattle.shared_objects.specs.Sharing.{AreAround}
 use Rattle.shared_objects.proofs.sharing.FirstSeats.{round_objects}
 use Rattle.shared_objects.proofs.opening.locking.lock_pools.Goals as goal
 
 pub returns-clause-round : goal.returns-clause-round
 returns-clause-round g c =
-    IfOk-weaker c.lock_row.result (λ made. AreRound (λ thing. thing) c.in_ok-things.things.items made.0.items) (λ made. AreRound (guarded c.args.common.now.value) c.args.pools.items made.0.items)
+    IfOk-weaker c.lock_row.result (λ made. AreAround (λ thing. thing) c.in_ok-things.things.items made.0.items) (λ made. AreAround (guarded c.args.common.now.value) c.args.pools.items made.0.items)
     (λ made are. round_objects c.args.common.now.value c.args.pools.items c.in_ok-things.things.items made.0.items c.in_ok-things.ensures are) c.lock_row.ensures.round
