@@ -95,8 +95,8 @@ looked stamp pass drawn chosen said = record {
   ticket = None;
 }
 
--- what the history keeps of a reply: the reply, what the note had seen, whether no draw had failed before, the ticket that was drawn, of a
--- completion the index that was chosen, and the ticket that the entry carries
+-- what the history keeps of a reply: the reply, what the note had seen, whether no draw had failed before, the ticket that was drawn, the index
+-- that was chosen where a bio was completed, and the ticket that the entry carries
 pub record Told : Type 0 where
   pub reply : Reply
   pub note : ℕ

@@ -112,7 +112,7 @@ pub struct Replied<S> {
     pub drew: bool,
     /// The ticket that was drawn. It has no bytes: only clauses read it.
     pub drawn: Snapshot<Option<u64>>,
-    /// The index that a completion was asked for. It has no bytes either.
+    /// The index that a completion was asked for, where it has completed a bio. It has no bytes either.
     pub chosen: Snapshot<Option<u64>>,
     /// The ticket that the entry of this call carries: the one that was drawn, where the call is an event. One that was refused is none.
     pub ticket: Option<u64>,
