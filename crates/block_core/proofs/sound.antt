@@ -26,6 +26,7 @@ pub mod Splitting
 pub mod Lasting
 pub mod Misplaced
 pub mod StoodFor
+pub mod Strays
 pub mod Roles
 pub mod EachBio
 pub mod LegLists

@@ -16,7 +16,7 @@ use Rattle.run_machine.specs.Tasks.{TaskState, Writer, Rescuer, Completer, Keepe
 use Rattle.run_machine.specs.Runs.{State}
 use Rattle.block_core.specs.Weights.{Weight, Lined, Rescued, Pending, total, sum_at, one, submission_weight, refs, names_node, under, legs_left}
 use Rattle.block_core.specs.Weights.{apart}
-use Rattle.block_core.specs.OfOneWrite.{bio_strays, parent_strays, strays}
+use Rattle.block_core.proofs.sound.Strays.{bio_strays, parent_strays, strays}
 use Rattle.block_core.specs.Present.{AreSuch, DoingIs, SubmissionIs, CarriedIs, TaskIs, AllAtWork}
 use Rattle.block_core.proofs.moves.Moves.{HasSubmission, limit_of}
 use Rattle.block_core.proofs.moves.Sums.{one-same, within_book}

@@ -28,7 +28,7 @@ use Rattle.block_core.specs.Weights.{Spot, Lined, Rescued, Pending, Brought, tot
 use Rattle.block_core.specs.Scenarios.{IsScenario, IsNaming}
 use Rattle.block_core.specs.Dones.{done_in}
 use Rattle.block_core.specs.Fragments.{offset_of, fragment_of, leg_fragments, todo_fragments, bio_comes, legs_come, to_come, completed_by, completed, is_it}
-use Rattle.block_core.specs.OfOneWrite.{strays}
+use Rattle.block_core.proofs.sound.Strays.{strays}
 use Rattle.block_core.specs.DoneWrites.{DoneIsCompleted}
 use Rattle.block_core.proofs.moves.Sums.{one-same}
 use Rattle.block_core.proofs.sound.Facts.{Fair, Kept}

@@ -20,7 +20,7 @@ use Rattle.block_core.proofs.moves.Totals.{task_part}
 use Rattle.block_core.proofs.unrefused.Resizes.{goes_down}
 use Rattle.block_core.proofs.moves.Devices.{ground}
 use Rattle.block_core.proofs.sound.EveryRun.{runs_tallied, runs_leveled, start_leveled, runs_whole, start_whole}
-use Rattle.block_core.proofs.sound.OfOneWrite.{all_of_one_write}
+use Rattle.block_core.proofs.sound.OfOneWrite.{none_strays}
 use Rattle.block_core.proofs.images.Ancestors.{all_at_work}
 
 -- the write of an open top node is unfinished and begun, so it is of no earlier round and of no later one
@@ -71,7 +71,7 @@ work_is_present s ledger events state good naming run =
     let i = (runs_whole (scene s ledger) f g (start s) events state begun run).kept in
     let t = runs_tallied (scene s ledger) f g s.rounds keeper (start s) events state begun (start_tallied s good ledger) run in
     let l = runs_leveled (scene s ledger) f g (start s) events state begun (start_leveled s ledger good naming) run in
-    let o = all_of_one_write s ledger events state good naming run in
+    let o = none_strays s ledger events state good naming run in
     all_at_work (scene s ledger) state i l.0 (goes_down (scene s ledger) state i l.0 l.1) o.0 o.1 (IsOfPresent s state)
     (λ writer key node some at is. top_present s.rounds keeper (scene s ledger) state i t writer key node at is)
     (λ place disk writer closed here is top. carried_present s.rounds keeper (scene s ledger) state t place disk writer closed here is top)

@@ -13,24 +13,27 @@ use Rattle.bio_books.specs.Links.{IsVacant}
 use Rattle.run_machine.specs.declared.event.Event.{Event}
 use Rattle.run_machine.specs.Scene.{Scene, tree_at}
 use Rattle.run_machine.specs.Submissions.{Want, Driving, Links, ToCut, ToMaster, Drives, Copies, first_length, legs_of, leg_at}
-use Rattle.run_machine.specs.Tasks.{TaskState, Todo}
+use Rattle.run_machine.specs.Tasks.{TaskState, Todo, Completer, Carries}
 use Rattle.run_machine.specs.Opened.{Scenario, scene, start, setup as setup_in}
 use Rattle.run_machine.specs.Runs.{State, IsRun}
 use Rattle.block_core.specs.Weights.{total, under}
 use Rattle.block_core.specs.Weights.{apart}
-use Rattle.block_core.specs.Scenarios.{IsScenario}
-use Rattle.block_core.specs.OfOneWrite.{bio_strays, parent_strays, strays, AreOfOneWrite, AllAreOfOneWrite}
+use Rattle.block_core.specs.Scenarios.{IsScenario, IsNaming}
+use Rattle.block_core.specs.OfOneWrite.{AreOfOneWrite, AllAreOfOneWrite}
 use Rattle.block_core.proofs.moves.Moves.{Move, Can, after, lost, gained, limit_of, HasSubmission, filled_of, cut_lists}
 use Rattle.block_core.proofs.moves.Moves as moves
 use Rattle.block_core.proofs.sound.Facts.{TaskFits, Fair, Kept}
 use Rattle.block_core.proofs.sound.TaskSubmissions.{submission_fits}
 use Rattle.block_core.proofs.sound.Orders.{Ground}
+use Rattle.block_core.proofs.sound.EachBio.{each_bio, each_copied}
+use Rattle.block_core.proofs.sound.Strays.{bio_strays, parent_strays, strays, NoneStrays}
 use Rattle.block_core.proofs.moves.Devices.{ground}
 use Rattle.block_core.proofs.moves.Deltas.{other_place, delta}
 use Rattle.block_core.proofs.sound.SumParts.{copies_weight, unless, unless_none, cut_weight, submission_part}
 use Rattle.block_core.proofs.moves.SubmissionWeights.{IsBlind, landed_same, first_weight, goes_weight}
 use Rattle.block_core.proofs.moves.VacantMarks.{with_mark, mark_here, mark_other, mark_still, IsUnmoved, none_moves}
 use Rattle.block_core.proofs.stuck.Idle.{node_part}
+use Rattle.block_core.proofs.moves.Totals.{task_part}
 use Rattle.block_core.proofs.moves.StepMoves.{step_is_move}
 use Rattle.block_core.proofs.start.FactsAtStart.{total_zero, start_opened}
 use Rattle.block_core.proofs.sound.EveryRun.{Whole, runs_whole, start_whole}
@@ -75,12 +78,12 @@ leg_of_write write_of bio hand leg key (Mirrored number sizes members) lt is = o
 
 module _ (scene : Scene) (s : State) (i : Kept scene s) (write_of : ℕ → ℕ → ℕ) (none : total scene (strays write_of) s ≡ 0) where
   -- the writes stay
-  same : (m : Move) → Can scene s m → gained scene (strays write_of) s m ≤ lost scene (strays write_of) s m → AreOfOneWrite scene (after scene s m)
+  same : (m : Move) → Can scene s m → gained scene (strays write_of) s m ≤ lost scene (strays write_of) s m → NoneStrays scene (after scene s m)
   same m c le = (write_of, omega (arith, none, delta scene (strays write_of) s m c, le))
 
   -- a vacant place gets one
   one_more : (m : Move) → Can scene s m → (writer key n : ℕ) → IsVacant (s.objects.book writer) key
-      → gained scene (strays (with_mark write_of writer key n)) s m ≤ lost scene (strays (with_mark write_of writer key n)) s m → AreOfOneWrite scene (after scene s m)
+      → gained scene (strays (with_mark write_of writer key n)) s m ≤ lost scene (strays (with_mark write_of writer key n)) s m → NoneStrays scene (after scene s m)
   one_more m c writer key n v le =
       (with_mark write_of writer key n, omega (arith, vacant_strays write_of writer key n scene s i v none, delta scene (strays (with_mark write_of writer key n)) s m c, le))
 
@@ -88,7 +91,7 @@ module _ (scene : Scene) (s : State) (i : Kept scene s) (write_of : ℕ → ℕ 
   pub node_write : (writer key : ℕ) (node : Node) → node_at (s.objects.book writer) key ≡ Some node → write_of writer key ≡ node.write
   node_write writer key node at = omega (arith, none, node_part scene s i (strays write_of) writer key node at)
 
-  pub stays_of_one_write : (m : Move) → Can scene s m → AreOfOneWrite scene (after scene s m)
+  pub stays_of_one_write : (m : Move) → Can scene s m → NoneStrays scene (after scene s m)
   -- takes, misses, punts, pops, pushes and completions
   stays_of_one_write (moves.TakesFirst place writer todo later move) c = same (moves.TakesFirst place writer todo later move) c (omega arith)
   stays_of_one_write (moves.TakesVector place writer todo later item move) c = same (moves.TakesVector place writer todo later item move) c (omega arith)
@@ -208,19 +211,45 @@ module _ (scene : Scene) (s : State) (i : Kept scene s) (write_of : ℕ → ℕ 
       let same : parent_strays write_of writer (parent_of child.role) child.write ≡ apart (write_of writer parent) child.write = ap (λ p. parent_strays write_of writer p child.write) under_it in
       omega (arith, none, same, node_part scene s i (strays write_of) writer key child at, node_write writer parent node up)
 
+-- the writes of places of which all is, as facts
+module _ (scene : Scene) (s : State) (i : Kept scene s) (write_of : ℕ → ℕ → ℕ) (none : total scene (strays write_of) s ≡ 0) where
+  are_of_one_write : AreOfOneWrite scene s
+  are_of_one_write = record {
+    write_of = write_of;
+    opened = node_write scene s i write_of none;
+    named = each_bio (λ item. write_of item.bio.writer item.bio.node ≡ item.bio.write) (strays write_of) (λ spot item zero. omega (arith, zero)) scene s none;
+    copied = each_copied (λ bio master. write_of bio.writer master ≡ bio.write) (strays write_of) (λ bio master leg zero. omega (arith, zero)) scene s none;
+    under = λ writer place node parent at is.
+        let here : parent_strays write_of writer (parent_of node.role) node.write ≡ apart (write_of writer parent) node.write =
+        ap (λ p. parent_strays write_of writer p node.write) is in
+        omega (arith, none, here, node_part scene s i (strays write_of) writer place node at);
+    carried = λ place disk writer closed parent lt is is_under.
+        let here : parent_strays write_of writer closed.parent closed.write ≡ apart (write_of writer parent) closed.write =
+        ap (λ p. parent_strays write_of writer p closed.write) is_under in
+        omega (arith, none, here, task_part scene (strays write_of) s place (Completer disk (Carries writer closed)) lt is);
+  }
+
 -- every run keeps it
 module _ (scene : Scene) (f : Fair scene) (g : Ground scene.setup) where
-  pub runs_of_one_write : (s : State) (events : List Event) (new : State) → Whole scene s → AreOfOneWrite scene s → IsRun scene s events new → AreOfOneWrite scene new
-  runs_of_one_write s [] new i t run = subst (AreOfOneWrite scene) (sym run) t
+  pub runs_of_one_write : (s : State) (events : List Event) (new : State) → Whole scene s → NoneStrays scene s → IsRun scene s events new → NoneStrays scene new
+  runs_of_one_write s [] new i t run = subst (NoneStrays scene) (sym run) t
   runs_of_one_write s (event ∷ events) new i t (next, (place, steps), run) =
       let moved = step_is_move scene s f i.kept place event next steps in
       runs_of_one_write next events new (runs_whole scene f g s (event ∷ []) next i (next, (place, steps), refl))
-      (subst (AreOfOneWrite scene) (sym moved.is) (stays_of_one_write scene s i.kept t.0 t.1 moved.move moved.can)) run
+      (subst (NoneStrays scene) (sym moved.is) (stays_of_one_write scene s i.kept t.0 t.1 moved.move moved.can)) run
 
-pub start_of_one_write : (s : Scenario) → IsScenario s → (ledger : ℕ → LedgerId) → AreOfOneWrite (scene s ledger) (start s)
+pub start_of_one_write : (s : Scenario) → IsScenario s → (ledger : ℕ → LedgerId) → NoneStrays (scene s ledger) (start s)
 start_of_one_write s good ledger = (λ writer place. 0, total_zero (scene s ledger) (start s) (strays (λ writer place. 0)) (λ n todos. refl) (start_opened s good ledger))
+
+pub none_strays : (s : Scenario) (ledger : ℕ → LedgerId) (events : List Event) (state : State) → IsScenario s → IsNaming ledger
+    → IsRun (scene s ledger) (start s) events state → NoneStrays (scene s ledger) state
+none_strays s ledger events state good naming run =
+    runs_of_one_write (scene s ledger) (record { named = naming }) (ground s.stack good.stack (setup_in s).places) (start s) events state (start_whole s ledger good naming)
+    (start_of_one_write s good ledger) run
 
 pub all_of_one_write : AllAreOfOneWrite
 all_of_one_write s ledger events state good naming run =
-    runs_of_one_write (scene s ledger) (record { named = naming }) (ground s.stack good.stack (setup_in s).places) (start s) events state (start_whole s ledger good naming)
-    (start_of_one_write s good ledger) run
+    let none = none_strays s ledger events state good naming run in
+    let i =
+    runs_whole (scene s ledger) (record { named = naming }) (ground s.stack good.stack (setup_in s).places) (start s) events state (start_whole s ledger good naming) run in
+    are_of_one_write (scene s ledger) state i.kept none.0 none.1
