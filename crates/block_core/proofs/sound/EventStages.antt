@@ -85,12 +85,15 @@ module _ (f : List Todo → Gathered → ℕ) (worth : ℕ → ℕ) where
   -- what writes in stage are worth changes where one is told done, and as what is to come does
   pub staged : (scene : Scene) (s : State) (m : Move) → Can scene s m
       → total scene w (after scene s m) + ended_worth worth m + to_come_before f m ≡ total scene w s + to_come_after scene f worth m
+  -- takes: a writer then has something for its next write
   staged scene s (moves.TakesFirst place writer todo later move) c = omega (arith, delta scene w s (moves.TakesFirst place writer todo later move) c)
   staged scene s (moves.TakesVector place writer todo later item move) c = omega (arith, delta scene w s (moves.TakesVector place writer todo later item move) c)
   staged scene s (moves.TakesSub place x doing lists dev waits move) c = omega (arith, delta scene w s (moves.TakesSub place x doing lists dev waits move) c)
   staged scene s (moves.TakesSlip place x bio lists move) c = omega (arith, delta scene w s (moves.TakesSlip place x bio lists move) c)
+  -- misses: a writer that waits has what it had, and a task that tries goes on to punt
   staged scene s (moves.MissesOne place x number used) c = omega (arith, delta scene w s (moves.MissesOne place x number used) c)
   staged scene s (moves.MissesTry place x doing lists dev used) c = omega (arith, delta scene w s (moves.MissesTry place x doing lists dev used) c)
+  -- punts, pops, pushes and completions: nothing in a submission, in a list or in a disk is worth anything
   staged scene s (moves.Punts place x doing lists dev) c =
       omega (arith, delta scene w s (moves.Punts place x doing lists dev) c, zeros (punted (Of dev) lists))
   staged scene s (moves.Pops place dev bio bios) c = omega (arith, delta scene w s (moves.Pops place dev bio bios) c, submission_zero dev.0 (settled scene.setup (bio ∷ [])))
@@ -102,10 +105,12 @@ module _ (f : List Todo → Gathered → ℕ) (worth : ℕ → ℕ) where
         submission_zero (limit_of x) (record { doing = Drives bio ToPush; lists = lists }),
       )
   staged scene s (moves.Completed place disk index bio status new) c = omega (arith, delta scene w s (moves.Completed place disk index bio status new) c)
+  -- links of writes: what is to come of the write is then in its top node
   staged scene s (moves.Begins place writer todo later item None key) c =
       omega (arith, delta scene w s (moves.Begins place writer todo later item None key) c, submission_zero 32 (settled scene.setup (filled_of writer todo item None key ∷ [])))
   staged scene s (moves.Begins place writer todo later item (Some vector) key) c =
       omega (arith, delta scene w s (moves.Begins place writer todo later item (Some vector) key) c, submission_zero 32 (settled scene.setup (filled_of writer todo item (Some vector) key ∷ [])))
+  -- links of pieces: the new node is no top
   staged scene s (moves.Chained place x bio lists hand number kind sizes members key node) c =
       omega (
         arith,
@@ -113,6 +118,7 @@ module _ (f : List Todo → Gathered → ℕ) (worth : ℕ → ℕ) where
         submission_zero (limit_of x) (goes_on scene.setup bio.bio.dev (cut_lists bio lists hand (first_length kind sizes bio.bio.range) key kind sizes members)),
         submission_zero (limit_of x) (record { doing = Drives bio (ToCut (Links hand)); lists = lists }),
       )
+  -- links of masters: the master is no top
   staged scene s (moves.Mastered place x bio lists slip key node) c =
       omega (
         arith,
@@ -120,6 +126,7 @@ module _ (f : List Todo → Gathered → ℕ) (worth : ℕ → ℕ) where
         submission_zero (limit_of x) (copies scene.setup lists bio.bio key 0),
         submission_zero (limit_of x) (record { doing = Drives bio (ToMaster slip); lists = lists }),
       )
+  -- links of legs: the node of the leg is no top
   staged scene s (moves.Legged place x bio lists master leg hand key node) c =
       omega (
         arith,
@@ -127,8 +134,10 @@ module _ (f : List Todo → Gathered → ℕ) (worth : ℕ → ℕ) where
         submission_zero (limit_of x) (copies scene.setup (submitted (leg_at bio hand leg key (tree_at scene.setup bio.dev)) lists) bio master (leg + 1)),
         submission_zero (limit_of x) (record { doing = Copies bio master leg (Links hand); lists = lists }),
       )
+  -- drops that leave a node open: what the completer brought is of no top
   staged scene s (moves.Told place disk carried writer key status part node) c =
       omega (arith, delta scene w s (moves.Told place disk carried writer key status part node) c, carried_child place carried writer key status part c.2)
+  -- drops that close a node: what a top is worth is carried on
   staged scene s (moves.Closes place disk carried writer key status part node) c =
       omega (
         arith,
@@ -136,8 +145,11 @@ module _ (f : List Todo → Gathered → ℕ) (worth : ℕ → ℕ) where
         carried_child place carried writer key status part c.2,
         ap (λ n. n * worth node.write) (same_top node.role),
       )
+  -- gives: the closed node is carried on
   staged scene s (moves.Gives place disk writer number closed held) c = omega (arith, delta scene w s (moves.Gives place disk writer number closed held) c)
+  -- ends of writes: the write is told done, and leaves the sum
   staged scene s (moves.Ends place disk writer closed) c =
       omega (arith, delta scene w s (moves.Ends place disk writer closed) c, ap (λ parent. tops_left parent * worth closed.write) c.3)
+  -- resizes and rounds: by the keeper, which is worth nothing
   staged scene s (moves.Resized place pool min later duties) c = omega (arith, delta scene w s (moves.Resized place pool min later duties) c)
   staged scene s (moves.Started place round later duties) c = omega (arith, delta scene w s (moves.Started place round later duties) c)
