@@ -14,7 +14,7 @@ use Rattle.run_machine.specs.Scenario.{scenario_of}
 use Rattle.run_machine.specs.Runs.{State, Happens, IsRun, unfinished, HasFree, HasEnded}
 use Rattle.block_core.specs.Bounded.{most_steps}
 use Rattle.block_core.specs.Breaks.{GoesUnrefused}
-use Rattle.block_core.specs.DoneWrites.{IsCompleted, IsGiven, HasGivenStatuses}
+use Rattle.block_core.specs.DoneWrites.{HasAllFragments, WriteMayEnd, HasGivenStatuses}
 use Rattle.block_core.specs.Dones.{DoneOrUnfinished, StatusesAreTold, AllAreDone}
 use Rattle.block_core.specs.Exact.{NoneMissed, exact_steps}
 use Rattle.block_core.specs.Fragments.{completed}
@@ -37,9 +37,9 @@ pub record IsAsClaimed (s : Scenario) (ledger : ℕ → LedgerId) (events : List
   -- where an event that comes next tells it done, each of its fragments was completed, exactly once and no other, and its status is one that they
   -- give
   pub done : (event : Event) (new : State) → Happens (scene s ledger) state event new → (write : ℕ) (status : Status) → event.what ≡ what.Done write status
-      → IsCompleted s write (completed (scene s ledger) (start s) events state run)
+      → HasAllFragments s write (completed (scene s ledger) (start s) events state run)
   pub given : (event : Event) (new : State) → Happens (scene s ledger) state event new → (write : ℕ) (status : Status) → event.what ≡ what.Done write status
-      → IsGiven s write status
+      → WriteMayEnd s write status
   -- no task waits for a bio of a set of which it has one in its lists, and none meets a refusal
   pub waits : NoneWaitsForItself (scene s ledger) state
   pub unrefused : GoesUnrefused (scene s ledger) state

@@ -13,7 +13,7 @@ use Rattle.block_core.specs.Scenarios.{IsScenario, IsNaming}
 use Rattle.block_core.specs.Fragments.{completed, fragment_count, IsOfScenario}
 
 -- each fragment of the write with this number is among these, exactly once, and no other with its number
-pub record IsCompleted (s : Scenario) (write : ℕ) (fragments : List Fragment) : Type 0 where
+pub record HasAllFragments (s : Scenario) (write : ℕ) (fragments : List Fragment) : Type 0 where
   pub each : (f : Fragment) → f.write ≡ write → IsOfScenario s f → fragment_count f fragments ≡ 1
   pub only : (f : Fragment) → f.write ≡ write → 0 < fragment_count f fragments → IsOfScenario s f
 
@@ -21,22 +21,22 @@ pub record IsCompleted (s : Scenario) (write : ℕ) (fragments : List Fragment) 
 abbrev pub DoneIsCompleted : Type 0
 DoneIsCompleted = (s : Scenario) (ledger : ℕ → LedgerId) (events : List Event) (state : State) → IsScenario s → IsNaming ledger
     → (run : IsRun (scene s ledger) (start s) events state) (event : Event) (new : State) → Happens (scene s ledger) state event new
-    → (write : ℕ) (status : Status) → event.what ≡ what.Done write status → IsCompleted s write (completed (scene s ledger) (start s) events state run)
+    → (write : ℕ) (status : Status) → event.what ≡ what.Done write status → HasAllFragments s write (completed (scene s ledger) (start s) events state run)
 
 -- the write with this number may end so, as its fragments end on their disks
-abbrev pub IsGiven : Scenario → ℕ → Status → Type 0
-IsGiven s number status = (write : Write) × (slice_get s.writes number ≡ Some write) × MayEnd s.stack write number status
+abbrev pub WriteMayEnd : Scenario → ℕ → Status → Type 0
+WriteMayEnd s number status = (write : Write) × (slice_get s.writes number ≡ Some write) × MayEnd s.stack write number status
 
 -- and the status that the event tells is one with which the write may end
 abbrev pub StatusesAreGiven : Type 0
 StatusesAreGiven = (s : Scenario) (ledger : ℕ → LedgerId) (events : List Event) (state : State) → IsScenario s → IsNaming ledger
     → IsRun (scene s ledger) (start s) events state → (event : Event) (new : State) → Happens (scene s ledger) state event new
-    → (write : ℕ) (status : Status) → event.what ≡ what.Done write status → IsGiven s write status
+    → (write : ℕ) (status : Status) → event.what ≡ what.Done write status → WriteMayEnd s write status
 
 -- so where a run has ended, the tally has such a status for each write, and no other
 pub record HasGivenStatuses (s : Scenario) (statuses : List Status) : Type 0 where
   pub all : length statuses ≡ length s.writes
-  pub each : (number : ℕ) → number < length s.writes → (status : Status) × (slice_get statuses number ≡ Some status) × IsGiven s number status
+  pub each : (number : ℕ) → number < length s.writes → (status : Status) × (slice_get statuses number ≡ Some status) × WriteMayEnd s number status
 
 abbrev pub EndedStatusesAreGiven : Type 0
 EndedStatusesAreGiven = (s : Scenario) (ledger : ℕ → LedgerId) (events : List Event) (state : State) → IsScenario s → IsNaming ledger

@@ -21,7 +21,7 @@ use Rattle.run_machine.specs.Tasks.{Todo, Gathered, Carries, Writer, Completer}
 use Rattle.run_machine.specs.Opened.{Scenario, scene, start}
 use Rattle.run_machine.specs.Runs.{State, IsRun}
 use Rattle.block_core.specs.AtWork.{SubmissionOf, IsBrought, IsInDisk, IsAtWork}
-use Rattle.block_core.specs.DoneWrites.{IsGiven}
+use Rattle.block_core.specs.DoneWrites.{WriteMayEnd}
 use Rattle.block_core.specs.Fragments.{offset_of, fragment_of}
 use Rattle.block_core.specs.NodeBios.{node_bios, no_bios}
 use Rattle.block_core.specs.Scenarios.{IsScenario, IsNaming}
@@ -96,7 +96,7 @@ pub record NodeIsValued (s : Scenario) (scene : Scene) (bios : ℕ → ℕ → B
   pub alone : (end : Status) → (end ≢ Ok) → NodeMayEnd s scene bios w k end → NodeMayEnd s scene bios w k Ok → ⊥
   pub copied : is_master node.role ≡ true → NodeMayEnd s scene bios w k Ok ⊎ NodeMayEnd s scene bios w k Io
   -- the run of a top node may end only as its write
-  pub top : node.role ≡ role.Top → (end : Status) → NodeMayEnd s scene bios w k end → IsGiven s node.write end
+  pub top : node.role ≡ role.Top → (end : Status) → NodeMayEnd s scene bios w k end → WriteMayEnd s node.write end
 
 -- a bio that a disk has, or is done with, ends as its fragment
 abbrev pub EndsAsItsFragment : Setup → (Fragment → Status) → Item Pad → Type 0
@@ -109,9 +109,9 @@ pub record IsValued (s : Scenario) (scene : Scene) (bios : ℕ → ℕ → Bio) 
   pub pending : (item : Item Pad) → IsInDisk scene state item → EndsAsItsFragment scene.setup (fault_of s.stack) item
   -- what is left of a top node has an end of its write, and a write that is to begin may end only so
   pub carried : (place : ℕ) (disk : DevId) (writer : ℕ) (closed : Closed) → place < scene.tasks → state.task place ≡ Completer disk (Carries writer closed)
-      → closed.parent ≡ None → IsGiven s closed.write closed.status
+      → closed.parent ≡ None → WriteMayEnd s closed.write closed.status
   pub begins : (place writer : ℕ) (todos : List Todo) (taken : Gathered) (submission : Submission) → place < scene.tasks → state.task place ≡ Writer writer todos taken submission
-      → All (λ (todo : Todo). (end : Status) → TodoMayEnd scene.setup (fault_of s.stack) todo end → IsGiven s todo.number end) todos
+      → All (λ (todo : Todo). (end : Status) → TodoMayEnd scene.setup (fault_of s.stack) todo end → WriteMayEnd s todo.number end) todos
 
 -- after every event of every run of every scenario
 abbrev pub NodesAreValued : Type 0

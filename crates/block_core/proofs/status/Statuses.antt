@@ -39,7 +39,7 @@ use Rattle.block_core.proofs.status.Marks.{is, may, bio_may, todo_may, write_may
 use Rattle.block_core.specs.Touches.{touch_of}
 use Rattle.block_core.specs.NodeBios.{bios_after, node_bios, no_bios}
 use Rattle.block_core.specs.Values.{NodesAreValued}
-use Rattle.block_core.specs.DoneWrites.{IsGiven, StatusesAreGiven, HasGivenStatuses, EndedStatusesAreGiven}
+use Rattle.block_core.specs.DoneWrites.{WriteMayEnd, StatusesAreGiven, HasGivenStatuses, EndedStatusesAreGiven}
 use Rattle.block_core.proofs.moves.Sums.{one-same, one-other, same_or_not}
 use Rattle.block_core.proofs.moves.Moves.{Move, place_of, touch_by, Can, after, with_submission, HasSubmission}
 use Rattle.block_core.proofs.moves.Moves as moves
@@ -117,11 +117,11 @@ pub record HasStatuses (s : Scenario) (ledger : ℕ → LedgerId) (bios : ℕ �
   -- a write is unfinished, or its status is one that it may have
   pub all : length st.objects.tally.statuses ≡ length s.writes
   pub tallied : (number : ℕ) → number < length s.writes
-      → (1 ≤ total (scene s ledger) (stage number) st) ⊎ ((end : Status) × (slice_get st.objects.tally.statuses number ≡ Some end) × IsGiven s number end)
+      → (1 ≤ total (scene s ledger) (stage number) st) ⊎ ((end : Status) × (slice_get st.objects.tally.statuses number ≡ Some end) × WriteMayEnd s number end)
 
 -- what is left of a top node ends as its write may
 ends_given : (s : Scenario) (ledger : ℕ → LedgerId) (bios : ℕ → ℕ → Bio) (st : State) → HasStatuses s ledger bios st → (place : ℕ) (disk : DevId) (writer : ℕ) (closed : Closed)
-    → Can (scene s ledger) st (moves.Ends place disk writer closed) → IsGiven s closed.write closed.status
+    → Can (scene s ledger) st (moves.Ends place disk writer closed) → WriteMayEnd s closed.write closed.status
 ends_given s ledger bios st t place disk writer closed c =
     let w = unallowed (setup_in s) (fault_of s.stack) (write_may s) t.mark closed.status in
     let off : is closed.status closed.status - write_may s closed.write closed.status ≡ 0 =
@@ -147,7 +147,7 @@ module _ (s : Scenario) (ledger : ℕ → LedgerId) (f : Fair (scene s ledger)) 
   module _ (bios : ℕ → ℕ → Bio) (st : State) (i : Whole sc st) (t : HasStatuses s ledger bios st) where
     Tallied : Move → ℕ → Type 0
     Tallied m number =
-        (1 ≤ total sc (stage number) (after sc st m)) ⊎ ((end : Status) × (slice_get (after sc st m).objects.tally.statuses number ≡ Some end) × IsGiven s number end)
+        (1 ≤ total sc (stage number) (after sc st m)) ⊎ ((end : Status) × (slice_get (after sc st m).objects.tally.statuses number ≡ Some end) × WriteMayEnd s number end)
 
     same_tallied : (m : Move) → Can sc st m → (number : ℕ) → number < length s.writes → done_by number m ≡ 0 → (after sc st m).objects.tally.statuses ≡ st.objects.tally.statuses → Tallied m number
     unfolding Tallied
@@ -160,7 +160,7 @@ module _ (s : Scenario) (ledger : ℕ → LedgerId) (f : Fair (scene s ledger)) 
         → Tallied (moves.Ends place disk writer closed) number
     unfolding Tallied
     ends_tallied place disk writer closed c number lt = elim (same_or_not number closed.write) [
-      | inl e ↦ let P : ℕ → Type 0 = λ n. (end : Status) × (slice_get (slice_set st.objects.tally.statuses closed.write closed.status) n ≡ Some end) × IsGiven s n end in
+      | inl e ↦ let P : ℕ → Type 0 = λ n. (end : Status) × (slice_get (slice_set st.objects.tally.statuses closed.write closed.status) n ≡ Some end) × WriteMayEnd s n end in
           let long = t.all in
           inr (subst P (sym e) (closed.status, set_get st.objects.tally.statuses closed.write closed.status (omega (arith, lt, long, e)), ends_given s ledger bios st t place disk writer closed c))
       | inr ne ↦ elim (t.tallied number lt) [
@@ -329,13 +329,13 @@ done_told w end writer closed _ told = absurd cc
 
 module _ (s : Scenario) (ledger : ℕ → LedgerId) (bios : ℕ → ℕ → Bio) (st : State) (t : HasStatuses s ledger bios st) where
   ends_by : (m : Move) → Can (scene s ledger) st m → (w : ℕ) (end : Status) (reply : Reply) → done_by w m ≡ 1
-      → what_of (request (setup_in s) (st.task (place_of m))) reply ≡ Some (what.Done w end) → IsGiven s w end
+      → what_of (request (setup_in s) (st.task (place_of m))) reply ≡ Some (what.Done w end) → WriteMayEnd s w end
   ends_by (moves.Ends place disk writer closed) c w end reply done told =
       let asks : request (setup_in s) (st.task place) ≡ requests.Done closed.write closed.status =
       ap (request (setup_in s)) c.1 ∙ ap (λ (held : Holding). closed_request writer closed held.vector held.bio held.slip closed.parent) c.2
       ∙ ap (closed_request writer closed None None None) c.3 in
       let same = done_told w end writer closed reply (ap (λ r. what_of r reply) (sym asks) ∙ told) in
-      subst (λ n. IsGiven s n end) same.0 (subst (IsGiven s closed.write) same.1 (ends_given s ledger bios st t place disk writer closed c))
+      subst (λ n. WriteMayEnd s n end) same.0 (subst (WriteMayEnd s closed.write) same.1 (ends_given s ledger bios st t place disk writer closed c))
   ends_by _ c w end reply done told = absurd (omega (arith, done))
 
 module _ (s : Scenario) (ledger : ℕ → LedgerId) (events : List Event) (state : State) (good : IsScenario s) (naming : IsNaming ledger) (run : IsRun (scene s ledger) (start s) events state) where
@@ -345,7 +345,7 @@ module _ (s : Scenario) (ledger : ℕ → LedgerId) (events : List Event) (state
       runs_told s ledger (record { named = naming }) (ground s.stack good.stack places) (endings_by_parts s.stack good.stack places (fault_of s.stack)) (start s) events state no_bios
       (start_whole s ledger good naming) (start_told s good ledger) run
 
-  happens_given : (event : Event) (new : State) → Happens (scene s ledger) state event new → (w : ℕ) (end : Status) → event.what ≡ what.Done w end → IsGiven s w end
+  happens_given : (event : Event) (new : State) → Happens (scene s ledger) state event new → (w : ℕ) (end : Status) → event.what ≡ what.Done w end → WriteMayEnd s w end
   happens_given event new (place, steps) w end tells =
       let f : Fair (scene s ledger) = record { named = naming } in
       let i = runs_whole (scene s ledger) f (ground s.stack good.stack (setup_in s).places) (start s) events state (start_whole s ledger good naming) run in

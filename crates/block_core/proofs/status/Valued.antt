@@ -24,7 +24,7 @@ use Rattle.run_machine.specs.Submissions.{Copies, Submission}
 use Rattle.run_machine.specs.Tasks.{Todo, Gathered, Writer, Completer, Carries}
 use Rattle.run_machine.specs.Opened.{Scenario}
 use Rattle.run_machine.specs.Runs.{State}
-use Rattle.block_core.specs.DoneWrites.{IsGiven}
+use Rattle.block_core.specs.DoneWrites.{WriteMayEnd}
 use Rattle.block_core.specs.Fragments.{fragment_of}
 use Rattle.block_core.specs.Touches.{is_master}
 use Rattle.block_core.specs.AtWork.{IsBrought, IsInDisk}
@@ -49,11 +49,11 @@ as_one true is = refl
 as_one false is = absurd (let e = is in cc)
 
 -- such an end of a write
-pub may_given : (s : Scenario) (number : ℕ) (end : Status) → 1 ≤ write_may s number end → IsGiven s number end
+pub may_given : (s : Scenario) (number : ℕ) (end : Status) → 1 ≤ write_may s number end → WriteMayEnd s number end
 may_given s number end may_come = by_write (slice_get s.writes number) refl may_come
   where
     by_write : (found : Option Write) → slice_get s.writes number ≡ found
-        → 1 ≤ option_map_or (λ (write : Write). may (fault_of s.stack) (plan (tree s.stack write.dev.0) number 0 write.start write.count) end) found 0 → IsGiven s number end
+        → 1 ≤ option_map_or (λ (write : Write). may (fault_of s.stack) (plan (tree s.stack write.dev.0) number 0 write.start write.count) end) found 0 → WriteMayEnd s number end
     by_write None at le = absurd (omega (arith, le))
     by_write (Some write) at le = (write, at, so (may_end (fault_of s.stack) (plan (tree s.stack write.dev.0) number 0 write.start write.count) end) le)
 
@@ -143,7 +143,7 @@ module _ (s : Scenario) (scene : Scene) (bios : ℕ → ℕ → Bio) (state : St
 
   -- a carried top, and writes that are to begin
   carried_top : (place : ℕ) (disk : DevId) (writer : ℕ) (closed : Closed) → place < scene.tasks → state.task place ≡ Completer disk (Carries writer closed)
-      → closed.parent ≡ None → IsGiven s closed.write closed.status
+      → closed.parent ≡ None → WriteMayEnd s closed.write closed.status
   carried_top place disk writer closed lt at none =
       let is_off : is closed.status closed.status - write_may s closed.write closed.status ≡ 0 =
       ap (above (write_may s) mark closed.status (is closed.status closed.status) writer closed.write) (sym none)
@@ -151,7 +151,7 @@ module _ (s : Scenario) (scene : Scene) (bios : ℕ → ℕ → Bio) (state : St
       may_given s closed.write closed.status (omega (arith, is_off, is_itself closed.status))
 
   abbrev Begins : Todo → Type 0
-  Begins todo = (end : Status) → TodoMayEnd setup ends todo end → IsGiven s todo.number end
+  Begins todo = (end : Status) → TodoMayEnd setup ends todo end → WriteMayEnd s todo.number end
 
   todos_begin : (todos : List Todo) → ((end : Status) → sum_by (λ todo. todo_may setup ends todo end - write_may s todo.number end) todos ≡ 0) → All Begins todos
   todos_begin [] none = All-nil Begins
@@ -331,7 +331,7 @@ module _ (s : Scenario) (scene : Scene) (bios : ℕ → ℕ → Bio) (state : St
           | inl none ↦ inr (bio_so (bios w k) Io (omega (arith, some, none)))
         ]
 
-    top_given : node.role ≡ role.Top → (end : Status) → MayEnd (bios w k) end → IsGiven s node.write end
+    top_given : node.role ≡ role.Top → (end : Status) → MayEnd (bios w k) end → WriteMayEnd s node.write end
     top_given is_top end may_come =
         let up : above (write_may s) mark end ((mark w k).ends end) w node.write (parent_of node.role) ≡ (mark w k).ends end - write_may s node.write end =
         ap (λ r. above (write_may s) mark end ((mark w k).ends end) w node.write (parent_of r)) is_top in
