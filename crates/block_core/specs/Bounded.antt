@@ -27,8 +27,3 @@ OpenedRankIsBounded = (s : Scenario) (ledger : ℕ → LedgerId) → IsScenario 
 abbrev pub RunsAreBounded : Type 0
 RunsAreBounded = (s : Scenario) (ledger : ℕ → LedgerId) (events : List Event) (state : State) → IsScenario s → IsNaming ledger
     → IsRun (scene s ledger) (start s) events state → length events ≤ most_steps s
-
--- nor more elements of any pool out
-abbrev pub OutsAreBounded : Type 0
-OutsAreBounded = (s : Scenario) (ledger : ℕ → LedgerId) (events : List Event) (state : State) → IsScenario s → IsNaming ledger
-    → IsRun (scene s ledger) (start s) events state → (number : ℕ) → (state.objects.pool number).facts.out ≤ most_steps s

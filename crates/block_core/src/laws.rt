@@ -1,5 +1,5 @@
 //! What holds of every run, as functions that do nothing.
-ghost use Rattle.block_core.specs.Bounded.{OpenedRankIsBounded, OutsAreBounded, RunsAreBounded};
+ghost use Rattle.block_core.specs.Bounded.{OpenedRankIsBounded, RunsAreBounded};
 ghost use Rattle.block_core.specs.Breaks.{NoTaskBreaks};
 ghost use Rattle.block_core.specs.Charges.{EventsLowerRank};
 ghost use Rattle.block_core.specs.Claim.{AcceptedTextsRunAsClaimed, EveryRunIsAsClaimed};
@@ -75,13 +75,12 @@ pub fn no_state_is_stuck()
 {}
 
 /// Every event of every run lowers the rank of the state, which is all that can still come of it. So no run of any scenario has more than
-/// 8 E + 2 G + Z events, nor a pool more elements out: for the elements E and the fragments G of all its writes, and for its script entries,
-/// rounds behind the first and changes of reserves, Z together.
+/// 8 E + 2 G + Z events: for the elements E and the fragments G of all its writes, and for its script entries, rounds behind the first and
+/// changes of reserves, Z together.
 pub fn runs_are_bounded()
     ensures lowers { EventsLowerRank }
     ensures opened { OpenedRankIsBounded }
     ensures bounded { RunsAreBounded }
-    ensures outs { OutsAreBounded }
 {}
 
 /// However the kinds of event are priced, the events of no run of any scenario cost more than all that pays for them, by the table of what each bio,

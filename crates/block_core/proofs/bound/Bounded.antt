@@ -1,10 +1,7 @@
 -- Every event of every run lowers what is charged by its price, so no run has more events than the rank at its start.
-use Rattle.std.proofs.Common.{◌≡◌, ◌+◌, ◌*◌, ◌≤◌, ℕ, Bool, true, false, List, [], ◌∷◌, length, Option, None, Some, inl, inr, refl, sym, ◌∙◌, ap, subst, arith}
+use Rattle.std.proofs.Common.{◌≡◌, ◌+◌, ◌≤◌, ℕ, Bool, true, false, List, [], ◌∷◌, length, Option, None, Some, refl, sym, ◌∙◌, ap, arith}
 use Rattle.elem_ledger.specs.Ledger.{LedgerId}
 use Rattle.run_machine.specs.declared.event.Event.{Event}
-use Rattle.mempool_core.specs.Move.{PoolState, PoolMove, after_move, misses, gives, resizes}
-use Rattle.stack_base.specs.PoolId.{pool_number}
-use Rattle.run_machine.specs.Maps.{upd}
 use Rattle.run_machine.specs.Scene.{Scene}
 use Rattle.run_machine.specs.Opened.{Scenario, scene, start, setup as setup_in}
 use Rattle.run_machine.specs.Runs.{State, Steps, IsRun}
@@ -13,15 +10,12 @@ use Rattle.block_core.specs.Scenarios.{IsScenario, IsNaming}
 use Rattle.block_core.specs.Payers.{Paid, unit_price}
 use Rattle.block_core.specs.Touches.{touch_of, masters_after, were_masters, none_was}
 use Rattle.block_core.specs.Paying.{end_told, paid_as, costs, all_costs, CostsAreCharged, EventsUseUpCharges, NoMoreIsSpent}
-use Rattle.block_core.specs.Bounded.{most_steps, OpenedRankIsBounded, OutsAreBounded, RunsAreBounded}
-use Rattle.block_core.proofs.sound.Counters.{one_out}
-use Rattle.block_core.proofs.moves.Moves.{Move, touch_by, after}
+use Rattle.block_core.specs.Bounded.{most_steps, OpenedRankIsBounded, RunsAreBounded}
+use Rattle.block_core.proofs.moves.Moves.{touch_by}
 use Rattle.block_core.proofs.moves.PaidKinds.{kind_of}
 use Rattle.block_core.proofs.sound.Misplaced.{was_after}
 use Rattle.block_core.proofs.sound.Splitting.{total_like}
 use Rattle.block_core.proofs.sound.StoodFor.{closed_so}
-use Rattle.block_core.proofs.moves.Moves as moves
-use Rattle.block_core.proofs.moves.Sums.{upd-same, upd-other, same_or_not}
 use Rattle.block_core.proofs.sound.Facts.{Fair}
 use Rattle.block_core.proofs.sound.Orders.{Ground}
 use Rattle.block_core.proofs.moves.Devices.{ground}
@@ -32,35 +26,6 @@ use Rattle.block_core.proofs.bound.SpentCharges.{covers}
 use Rattle.block_core.proofs.bound.ChargesAtStart.{start_charge, start_spent}
 use Rattle.block_core.proofs.bound.PayerCounts.{few_costs}
 use Rattle.block_core.proofs.sound.EveryRun.{Whole, runs_whole, start_whole}
-
-pool_out : (pools : ℕ → PoolState) (p : ℕ) (move : PoolMove) (q : ℕ) → (upd pools p (after_move (pools p) move) q).facts.out ≤ (pools q).facts.out + 1
-pool_out pools p move q = elim (same_or_not q p) [
-  | inl e ↦ subst (λ (k : ℕ). (upd pools p (after_move (pools p) move) k).facts.out ≤ (pools k).facts.out + 1) (sym e)
-      (let same = ap (λ (y : PoolState). y.facts.out) (upd-same pools p (after_move (pools p) move)) in omega (arith, same, one_out (pools p) move))
-  | inr ne ↦ let same = ap (λ (y : PoolState). y.facts.out) (upd-other pools p (after_move (pools p) move) q ne) in omega (arith, same)
-]
-
-event_out : (scene : Scene) (s : State) (m : Move) (q : ℕ) → ((after scene s m).objects.pool q).facts.out ≤ (s.objects.pool q).facts.out + 1
-event_out scene s (moves.TakesFirst place writer todo later move) q = pool_out s.objects.pool 65 move q
-event_out scene s (moves.TakesVector place writer todo later item move) q = pool_out s.objects.pool 64 move q
-event_out scene s (moves.TakesSub place x doing lists dev waits move) q = pool_out s.objects.pool (2 * dev.0) move q
-event_out scene s (moves.TakesSlip place x bio lists move) q = pool_out s.objects.pool (2 * bio.bio.dev.0 + 1) move q
-event_out scene s (moves.MissesOne place x number used) q = pool_out s.objects.pool number (misses used) q
-event_out scene s (moves.MissesTry place x doing lists dev used) q = pool_out s.objects.pool (2 * dev.0) (misses used) q
-event_out scene s (moves.Gives place disk writer number closed held) q = pool_out s.objects.pool number gives q
-event_out scene s (moves.Resized place pool min later duties) q = pool_out s.objects.pool (pool_number pool) (resizes min) q
-event_out scene s (moves.Punts place x doing lists dev) q = omega arith
-event_out scene s (moves.Pops place dev bio bios) q = omega arith
-event_out scene s (moves.Pushes place x bio lists) q = omega arith
-event_out scene s (moves.Completed place disk index bio status new) q = omega arith
-event_out scene s (moves.Begins place writer todo later item vector key) q = omega arith
-event_out scene s (moves.Chained place x bio lists hand number kind sizes members key node) q = omega arith
-event_out scene s (moves.Mastered place x bio lists slip key node) q = omega arith
-event_out scene s (moves.Legged place x bio lists master leg hand key node) q = omega arith
-event_out scene s (moves.Told place disk carried writer key status part node) q = omega arith
-event_out scene s (moves.Closes place disk carried writer key status part node) q = omega arith
-event_out scene s (moves.Ends place disk writer closed) q = omega arith
-event_out scene s (moves.Started place round later duties) q = omega arith
 
 -- where each event costs one, they cost as much as there are
 costs_length : (scene : Scene) (was_master : ℕ → Bool) (s : State) (events : List Event) (new : State) (run : IsRun scene s events new)
@@ -128,15 +93,6 @@ module _ (scene : Scene) (f : Fair scene) (g : Ground scene.setup) (p : (price :
         covers price was_master scene s (p price) i.kept i.placed,
       )
 
-  pub runs_out : (q : ℕ) (s : State) (events : List Event) (new : State) → Whole scene s → IsRun scene s events new
-      → (new.objects.pool q).facts.out ≤ (s.objects.pool q).facts.out + length events
-  runs_out q s [] new i run = let same = ap (λ (x : State). (x.objects.pool q).facts.out) run in omega (arith, same)
-  runs_out q s (event ∷ events) new i (next, (place, steps), run) =
-      let j = runs_whole scene f g s (event ∷ []) next i (next, (place, steps), refl) in
-      let moved = step_is_move scene s f i.kept place event next steps in
-      let is = ap (λ (x : State). (x.objects.pool q).facts.out) moved.is in
-      omega (arith, is, event_out scene s moved.move q, runs_out q next events new j run)
-
 module _ (s : Scenario) (ledger : ℕ → LedgerId) (good : IsScenario s) (naming : IsNaming ledger) where
   fair : Fair (scene s ledger)
   fair = record { named = naming }
@@ -188,13 +144,6 @@ module _ (s : Scenario) (ledger : ℕ → LedgerId) (good : IsScenario s) (namin
         start_spent s good ledger price,
       )
 
-  run_out : (events : List Event) (state : State) → IsRun (scene s ledger) (start s) events state → (q : ℕ) → (state.objects.pool q).facts.out ≤ most_steps s
-  run_out events state run q =
-      let i = start_whole s ledger good naming in
-      let g = ground s.stack good.stack (setup_in s).places in
-      let p : (price : Paid → ℕ) → Priced price (setup_in s) = λ price. priced price s.stack good.stack (setup_in s).places in
-      omega (arith, runs_out (scene s ledger) fair g p q (start s) events state i run, run_bounded events state run)
-
 pub events_lower_rank : EventsLowerRank
 events_lower_rank s ledger before later old new good naming first second = run_lowers s ledger good naming before later old new first second
 
@@ -203,9 +152,6 @@ runs_are_bounded s ledger events state good naming run = run_bounded s ledger go
 
 pub opened_rank_is_bounded : OpenedRankIsBounded
 opened_rank_is_bounded s ledger good naming = omega (arith, start_charge s good ledger unit_price, few_costs s)
-
-pub outs_are_bounded : OutsAreBounded
-outs_are_bounded s ledger events state good naming run number = run_out s ledger good naming events state run number
 
 pub no_more_is_spent : NoMoreIsSpent
 no_more_is_spent s ledger events state good naming run price =

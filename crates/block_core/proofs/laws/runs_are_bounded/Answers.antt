@@ -1,4 +1,4 @@
-use Rattle.block_core.proofs.bound.Bounded.{events_lower_rank, opened_rank_is_bounded, runs_are_bounded, outs_are_bounded}
+use Rattle.block_core.proofs.bound.Bounded.{events_lower_rank, opened_rank_is_bounded, runs_are_bounded}
 use Rattle.block_core.proofs.laws.runs_are_bounded.Goals as goal
 
 -- src/laws.rt
@@ -10,6 +10,3 @@ returns-clause-opened c = opened_rank_is_bounded
 
 pub returns-clause-bounded : goal.returns-clause-bounded
 returns-clause-bounded c = runs_are_bounded
-
-pub returns-clause-outs : goal.returns-clause-outs
-returns-clause-outs c = outs_are_bounded
