@@ -1,6 +1,6 @@
 -- What is so of the writes of all top nodes is so of those of all open nodes, and of all bios.
 use Rattle.std.proofs.Common.{◌≡◌, ◌+◌, ◌*◌, ◌<◌, ◌≤◌, ℕ, zero, suc, List, length, Option, None, Some, refl, sym, ◌∙◌, ap, subst, arith}
-use Rattle.std.specs.Prelude.{sum_by, Contains}
+use Rattle.std.specs.Prelude.{sum_by, All, Contains}
 use Rattle.std.proofs.lemmas.List.Elements.{All-contains_itself}
 use Rattle.stack_base.specs.declared.ids.DevId.{DevId}
 use Rattle.bio_records.specs.declared.bio.Bio.{Bio}
@@ -17,7 +17,8 @@ use Rattle.run_machine.specs.Runs.{State}
 use Rattle.block_core.specs.Weights.{Weight, Lined, Rescued, Pending, total, sum_at, one, submission_weight, refs, names_node, under, legs_left}
 use Rattle.block_core.specs.Weights.{apart}
 use Rattle.block_core.proofs.sound.Strays.{bio_strays, parent_strays, strays}
-use Rattle.block_core.specs.Present.{AreSuch, DoingIs, SubmissionIs, CarriedIs, TaskIs, AllAtWork}
+use Rattle.block_core.specs.EachBio.{DoingHas, SubmissionHas, CarriedHas, TaskHas, DoingCopies, TaskCopies}
+use Rattle.block_core.specs.Present.{AllAtWork}
 use Rattle.block_core.proofs.moves.Moves.{HasSubmission, limit_of}
 use Rattle.block_core.proofs.moves.Sums.{one-same, within_book}
 use Rattle.block_core.proofs.sound.Facts.{DoingFits, TaskFits, Kept}
@@ -71,11 +72,14 @@ module _ (scene : Scene) (s : State) (i : Kept scene s) (level : ℕ → ℕ →
       let same : up.0.write ≡ item.bio.write = omega (arith, own, none, node_write scene s i write_of none item.bio.writer item.bio.node up.0 up.1) in
       subst P same (of_node item.bio.writer item.bio.node up.0 up.1)
 
+  abbrev IsSuch : Item Pad → Type 0
+  IsSuch item = P item.bio.write
+
   -- in a disk,
-  pub of_pending : (dev : ℕ) → dev < scene.setup.count → AreSuch P (s.objects.disk dev).pending
+  pub of_pending : (dev : ℕ) → dev < scene.setup.count → All IsSuch (s.objects.disk dev).pending
   of_pending dev lt =
       let items = (s.objects.disk dev).pending in
-      all_map (Contains items) (λ (item : Item Pad). P item.bio.write)
+      all_map (Contains items) IsSuch
       (λ item inside.
       let r = refs scene.setup item.bio.writer item.bio.node in
       let w = strays write_of in
@@ -85,10 +89,10 @@ module _ (scene : Scene) (s : State) (i : Kept scene s) (level : ℕ → ℕ →
       items (All-contains_itself items)
 
   -- in a rescue list,
-  pub of_rescued : (dev : ℕ) → dev < scene.setup.count → AreSuch P (s.objects.rescue dev)
+  pub of_rescued : (dev : ℕ) → dev < scene.setup.count → All IsSuch (s.objects.rescue dev)
   of_rescued dev lt =
       let items = s.objects.rescue dev in
-      all_map (Contains items) (λ (item : Item Pad). P item.bio.write)
+      all_map (Contains items) IsSuch
       (λ item inside.
       let r = refs scene.setup item.bio.writer item.bio.node in
       let w = strays write_of in
@@ -116,17 +120,23 @@ module _ (scene : Scene) (s : State) (i : Kept scene s) (level : ℕ → ℕ →
         (omega (arith, refers, lt, task_part scene r s place x here is, submission_part r place x (Copies bio master leg want) lists h)) in
         subst P (copied_of_write scene s i write_of none place x bio master leg want lists up.0 here is h up.1) (of_node bio.writer master up.0 up.1)
 
-    of_doing : (doing : Doing) (lists : TaskLists) → HasSubmission x doing lists → DoingFits scene.setup doing lists → DoingIs P doing
-    of_doing Rests lists h fits = tt
-    of_doing (Drives bio ask) lists h fits = of_driven bio ask lists h
-    of_doing (Copies bio master leg want) lists h fits = of_copied bio master leg want lists h fits
-    of_doing (Breaks breach kept) lists h fits = tt
+    of_doing : (doing : Doing) (lists : TaskLists) → HasSubmission x doing lists → DoingHas IsSuch doing
+    of_doing Rests lists h = tt
+    of_doing (Drives bio ask) lists h = of_driven bio ask lists h
+    of_doing (Copies bio master leg want) lists h = tt
+    of_doing (Breaks breach kept) lists h = tt
+
+    pub of_copying : (doing : Doing) (lists : TaskLists) → HasSubmission x doing lists → DoingFits scene.setup doing lists → DoingCopies (λ bio master. P bio.write) doing
+    of_copying Rests lists h fits = tt
+    of_copying (Drives bio ask) lists h fits = tt
+    of_copying (Copies bio master leg want) lists h fits = of_copied bio master leg want lists h fits
+    of_copying (Breaks breach kept) lists h fits = tt
 
     -- or in a list
     of_list : (doing : Doing) (lists : TaskLists) (items : List (Item Pad)) → HasSubmission x doing lists
-        → ((w : Weight) → sum_by (w.bio (Lined (limit_of x))) items ≤ submission_weight w (limit_of x) (record { doing = doing; lists = lists })) → AreSuch P items
+        → ((w : Weight) → sum_by (w.bio (Lined (limit_of x))) items ≤ submission_weight w (limit_of x) (record { doing = doing; lists = lists })) → All IsSuch items
     of_list doing lists items h within =
-        all_map (Contains items) (λ (item : Item Pad). P item.bio.write)
+        all_map (Contains items) IsSuch
         (λ item inside.
         let r = refs scene.setup item.bio.writer item.bio.node in
         let w = strays write_of in
@@ -136,22 +146,39 @@ module _ (scene : Scene) (s : State) (i : Kept scene s) (level : ℕ → ℕ →
         (omega (arith, term_in (w.bio spot) items item inside, within w, submission_part w place x doing lists h, task_part scene w s place x here is)))
         items (All-contains_itself items)
 
-    pub of_submission : (doing : Doing) (lists : TaskLists) → HasSubmission x doing lists → DoingFits scene.setup doing lists → SubmissionIs P (record { doing = doing; lists = lists })
-    of_submission doing lists h fits = (
-      of_doing doing lists h fits,
+    pub of_submission : (doing : Doing) (lists : TaskLists) → HasSubmission x doing lists → SubmissionHas IsSuch (record { doing = doing; lists = lists })
+    of_submission doing lists h = (
+      of_doing doing lists h,
       of_list doing lists lists.list0 h (λ w. omega arith),
       of_list doing lists lists.list1 h (λ w. omega arith),
     )
 
-  -- in a completer's hand, where closed top nodes that are carried are of such writes too
+  -- in a completer's hand,
+  of_brought : (place : ℕ) (disk : DevId) (carried : Carried) → place < scene.tasks → s.task place ≡ Completer disk carried → CarriedHas IsSuch carried
+  of_brought place disk Empty here is = tt
+  of_brought place disk (Brings bio status) here is =
+      of_named bio (task_part scene (refs scene.setup bio.bio.writer bio.bio.node) s place (Completer disk (Brings bio status)) here is)
+      (task_part scene (strays write_of) s place (Completer disk (Brings bio status)) here is)
+  of_brought place disk (Carries writer closed) here is = tt
+  of_brought place disk (Fails breach kept) here is = tt
+
+  of_task : (place : ℕ) (x : TaskState) → place < scene.tasks → s.task place ≡ x → TaskHas IsSuch x
+  of_task place (Writer number todo taken submission) here is = of_submission place (Writer number todo taken submission) here is submission.doing submission.lists refl
+  of_task place (Rescuer dev submission) here is = of_submission place (Rescuer dev submission) here is submission.doing submission.lists refl
+  of_task place (Completer disk carried) here is = of_brought place disk carried here is
+  of_task place (Keeper keeping) here is = tt
+
+  of_copier : (place : ℕ) (x : TaskState) → place < scene.tasks → s.task place ≡ x → TaskFits scene x → TaskCopies (λ bio master. P bio.write) x
+  of_copier place (Writer number todo taken submission) here is fits = of_copying place (Writer number todo taken submission) here is submission.doing submission.lists refl fits.1
+  of_copier place (Rescuer dev submission) here is fits = of_copying place (Rescuer dev submission) here is submission.doing submission.lists refl fits.1
+  of_copier place (Completer disk carried) here is fits = tt
+  of_copier place (Keeper keeping) here is fits = tt
+
+  -- and what is carried of a closed node, where this is so of closed top nodes
   module _ (tops_carried : (place : ℕ) (disk : DevId) (writer : ℕ) (closed : Closed) → place < scene.tasks → s.task place ≡ Completer disk (Carries writer closed) → closed.parent ≡ None
       → P closed.write) where
-    of_carried : (place : ℕ) (disk : DevId) (carried : Carried) → place < scene.tasks → s.task place ≡ Completer disk carried → CarriedIs P carried
-    of_carried place disk Empty here is = tt
-    of_carried place disk (Brings bio status) here is =
-        of_named bio (task_part scene (refs scene.setup bio.bio.writer bio.bio.node) s place (Completer disk (Brings bio status)) here is)
-        (task_part scene (strays write_of) s place (Completer disk (Brings bio status)) here is)
-    of_carried place disk (Carries writer closed) here is = by_parent closed.parent refl
+    of_closed : (place : ℕ) (disk : DevId) (writer : ℕ) (closed : Closed) → place < scene.tasks → s.task place ≡ Completer disk (Carries writer closed) → P closed.write
+    of_closed place disk writer closed here is = by_parent closed.parent refl
       where
         by_parent : (parent : Option ℕ) → closed.parent ≡ parent → P closed.write
         by_parent None same = tops_carried place disk writer closed here is same
@@ -170,19 +197,12 @@ module _ (scene : Scene) (s : State) (i : Kept scene s) (level : ℕ → ℕ →
               task_part scene (strays write_of) s place (Completer disk (Carries writer closed)) here is,
             ) in
             subst P write (of_node writer parent up.0 up.1)
-    of_carried place disk (Fails breach kept) here is = tt
-
-    of_task : (place : ℕ) (x : TaskState) → place < scene.tasks → s.task place ≡ x → TaskFits scene x → TaskIs P x
-    of_task place (Writer number todo taken submission) here is fits = of_submission place (Writer number todo taken submission) here is submission.doing submission.lists refl fits.1
-    of_task place (Rescuer dev submission) here is fits = of_submission place (Rescuer dev submission) here is submission.doing submission.lists refl fits.1
-    of_task place (Completer disk carried) here is fits = of_carried place disk carried here is
-    of_task place (Keeper keeping) here is fits = tt
 
     -- so all that is at work is of such writes
     pub all_at_work : AllAtWork P scene s
     all_at_work = record {
       nodes = of_node;
-      tasks = λ place lt. of_task place (s.task place) lt refl (i.tasks place);
-      rescued = of_rescued;
-      pending = of_pending;
+      carried = of_closed;
+      bios = record { tasks = λ place lt. of_task place (s.task place) lt refl; rescued = of_rescued; pending = of_pending };
+      copied = λ place lt. of_copier place (s.task place) lt refl (i.tasks place);
     }

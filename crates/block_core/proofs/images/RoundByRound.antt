@@ -16,7 +16,7 @@ use Rattle.run_machine.specs.Opened.{Scenario, scene, start, setup as setup_in}
 use Rattle.run_machine.specs.Runs.{State, IsRun}
 use Rattle.block_core.specs.Fragments.{fragment_of, completed_by, completed}
 use Rattle.block_core.specs.Images.{round_at, RoundsComeInOrder}
-use Rattle.block_core.specs.Present.{AreSuch, IsOfPresent}
+use Rattle.block_core.specs.Present.{IsOfPresent}
 use Rattle.block_core.proofs.moves.Moves.{Move, Can, after}
 use Rattle.block_core.proofs.moves.Moves as moves
 use Rattle.block_core.proofs.sound.Facts.{Fair}
@@ -64,7 +64,7 @@ module _ (s : Scenario) (ledger : ℕ → LedgerId) (f : Fair (scene s ledger)) 
 
   -- what waits in disks is of the present round
   abbrev IsPresent : State → Type 0
-  IsPresent st = (dev : ℕ) → dev < here.setup.count → AreSuch (IsOfPresent s st) (st.objects.disk dev).pending
+  IsPresent st = (dev : ℕ) → dev < here.setup.count → All (λ (item : Item Pad). IsOfPresent s st item.bio.write) (st.objects.disk dev).pending
 
   abbrev Below : Fragment → Fragment → Type 0
   Below a b = round_at s a ≤ round_at s b
@@ -108,5 +108,5 @@ rounds_come_in_order s ledger events state good naming run disk at =
     let f : Fair (scene s ledger) = record { named = naming } in
     let g = ground s.stack good.stack (setup_in s).places in
     let rise = runs_rise s ledger f g (start s) events state (start_whole s ledger good naming) run
-    (λ before between r. (work_is_present s ledger before between good naming r).pending) in
+    (λ before between r. (work_is_present s ledger before between good naming r).bios.pending) in
     λ i j d lt within w v. rise.1 i j d lt within
