@@ -10,6 +10,7 @@ use Rattle.bio_books.specs.Drops.{Closed}
 use Rattle.run_machine.specs.Scene.{Setup, Scene}
 use Rattle.run_machine.specs.Tasks.{Completer, Carries}
 use Rattle.run_machine.specs.Runs.{State}
+use Rattle.block_core.specs.EachBio.{EachBio, EachCopied}
 use Rattle.block_core.specs.Touches.{is_master}
 use Rattle.block_core.specs.Weights.{Weight, total, one, names_node, under, legs_left, no_weight}
 
@@ -53,7 +54,7 @@ abbrev pub WaitsForParts : (is_master : Bool) → Option (Item Pad) → (count b
 WaitsForParts true part count bios masters children legs = (bios ≡ 0) × (masters ≡ 0) × (count ≡ children + legs)
 WaitsForParts false part count bios masters children legs = IsInOnePlace part bios masters × (legs ≡ 0) × (count ≡ children + bios + masters)
 
--- the node that another one is under is open, and is a master where the other is a leg, and none where it is not
+-- the node at this place is open, and is a master where what refers to it is a leg or is copied for legs, and none where it is not
 abbrev pub IsUnderOpen : State → (writer parent : ℕ) → (leg : Bool) → Type 0
 IsUnderOpen state writer parent leg = (above : Node) × (node_at (state.objects.book writer) parent ≡ Some above) × (is_master above.role ≡ leg)
 
@@ -63,7 +64,11 @@ pub record HasRoles (scene : Scene) (was_master : ℕ → Bool) (state : State) 
   pub waits : (writer place : ℕ) (node : Node) → node_at (state.objects.book writer) place ≡ Some node
       → WaitsForParts (is_master node.role) node.held.bio node.count (total scene (named writer place) state) (total scene (masters was_master writer place) state)
       (total scene (children was_master writer place) state) (total scene (legs_to_make scene.setup writer place) state)
-  -- children and masters are under nodes that are no masters, and legs under masters
+  -- Nothing refers to a place at which no node is open: each bio at work names an open node that is no master, and the node under which a mirror
+  -- copies a bio is an open master;
+  pub bios : EachBio (λ item. IsUnderOpen state item.bio.writer item.bio.node false) scene state
+  pub copied : EachCopied (λ bio master. IsUnderOpen state bio.writer master true) scene state
+  -- children and masters are under open nodes that are no masters, and legs under open masters
   pub parents : (writer place : ℕ) (node : Node) (parent : ℕ) → node_at (state.objects.book writer) place ≡ Some node → parent_of node.role ≡ Some parent
       → IsUnderOpen state writer parent (is_leg node.role)
   -- the parent of a closed node that is carried is open, and no master where the closed one was a master

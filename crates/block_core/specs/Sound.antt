@@ -13,7 +13,7 @@ use Rattle.run_machine.specs.declared.event.Event.{Event}
 use Rattle.run_machine.specs.Opened.{Scenario, scene, start, setup}
 use Rattle.run_machine.specs.Runs.{State, IsRun}
 use Rattle.block_core.specs.Scenarios.{IsScenario, IsNaming}
-use Rattle.block_core.specs.Weights.{total, elements_of_pool, refs, count_of}
+use Rattle.block_core.specs.Weights.{total, elements_of_pool}
 use Rattle.block_core.specs.EachBio.{EachBio, EachCopied}
 use Rattle.block_core.specs.Fragments.{completed, to_come, is_it, fragment_count, IsOfScenario}
 use Rattle.block_core.specs.Hands.{HandsAreRight}
@@ -37,12 +37,11 @@ pub record IsSound (s : Scenario) (ledger : ℕ → LedgerId) (events : List Eve
   pub positions : (number : ℕ) → (state.objects.pool number).facts.pos ≤ entries_of (state.objects.pool number).script
   -- what is out of each pool is in the tasks' hands, lists and bios at work, in rescue lists, in disks and in nodes, and nowhere else
   pub outs : (number : ℕ) → (state.objects.pool number).facts.out ≡ total (scene s ledger) (elements_of_pool number) state
-  -- a node waits for as many ends as refer to it, and nothing refers to a node that is not open
-  pub counts : (writer place : ℕ) → count_of (node_at (state.objects.book writer) place) ≡ total (scene s ledger) (refs (setup s) writer place) state
   -- an open node waits for at least one end, so the last of them closes it
   pub alive : (writer place : ℕ) (node : Node) → node_at (state.objects.book writer) place ≡ Some node → 1 ≤ node.count
-  -- these are by its role its children or legs, the legs that are still to be made, and its own part, which was dropped or is in one place; and what
-  -- tasks carry of closed nodes is left of masters exactly where the events that closed them closed masters
+  -- these are by its role its children or legs, the legs that are still to be made, and its own part, which was dropped or is in one place; nothing
+  -- refers to a place at which no node is open; and what tasks carry of closed nodes is left of masters exactly where the events that closed them
+  -- closed masters
   pub roles : HasRoles (scene s ledger) (were_masters (scene s ledger) (start s) events state run none_was) state
   -- a node keeps what the run told it since it was opened, and only what it may by the run of the bio that it was opened for; so do the ends that are
   -- still to come to it, and where that run is decided, it keeps what decides it, or that still comes

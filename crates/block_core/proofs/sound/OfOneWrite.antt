@@ -5,21 +5,20 @@ use Rattle.elem_ledger.specs.Ledger.{LedgerId}
 use Rattle.stack_base.specs.Tree.{Tree, Leaf, Split, Mirrored}
 use Rattle.bio_records.specs.declared.bio.Bio.{Bio}
 use Rattle.bio_records.specs.declared.bio.Pad.{Pad}
-use Rattle.bio_records.specs.declared.tasks.TaskLists.{TaskLists}
 use Rattle.bio_records.specs.Items.{Item}
 use Rattle.bio_lists.specs.Submission.{submitted}
 use Rattle.bio_books.specs.Books.{Node, VectorItem, node_at, parent_of}
 use Rattle.bio_books.specs.Links.{IsVacant}
 use Rattle.run_machine.specs.declared.event.Event.{Event}
 use Rattle.run_machine.specs.Scene.{Scene, tree_at}
-use Rattle.run_machine.specs.Submissions.{Want, Driving, Links, ToCut, ToMaster, Drives, Copies, first_length, legs_of, leg_at}
-use Rattle.run_machine.specs.Tasks.{TaskState, Todo, Completer, Carries}
+use Rattle.run_machine.specs.Submissions.{Links, ToCut, ToMaster, Drives, Copies, first_length, legs_of, leg_at}
+use Rattle.run_machine.specs.Tasks.{Todo, Completer, Carries}
 use Rattle.run_machine.specs.Opened.{Scenario, scene, start, setup as setup_in}
 use Rattle.run_machine.specs.Runs.{State, IsRun}
 use Rattle.block_core.specs.Weights.{total, under}
-use Rattle.block_core.specs.Weights.{apart}
 use Rattle.block_core.specs.Scenarios.{IsScenario, IsNaming}
 use Rattle.block_core.specs.OfOneWrite.{AreOfOneWrite, AllAreOfOneWrite}
+use Rattle.block_core.specs.Weights.{apart}
 use Rattle.block_core.proofs.moves.Moves.{Move, Can, after, lost, gained, limit_of, HasSubmission, filled_of, cut_lists}
 use Rattle.block_core.proofs.moves.Moves as moves
 use Rattle.block_core.proofs.sound.Facts.{TaskFits, Fair, Kept}
@@ -192,19 +191,7 @@ module _ (scene : Scene) (s : State) (i : Kept scene s) (write_of : ℕ → ℕ 
   stays_of_one_write (moves.Resized place pool min later duties) c = same (moves.Resized place pool min later duties) c (omega arith)
   stays_of_one_write (moves.Started place round later duties) c = same (moves.Started place round later duties) c (omega arith)
 
-  -- Of what a task has at hand: the bio that it drives is of the write of the open node that it names, and so is one that it copies of the
-  -- write of its master;
-  pub driven_of_write : (place : ℕ) (x : TaskState) (bio : Item Pad) (ask : Driving) (lists : TaskLists) (node : Node) → place < scene.tasks → s.task place ≡ x → HasSubmission x (Drives bio ask) lists
-      → node_at (s.objects.book bio.bio.writer) bio.bio.node ≡ Some node → node.write ≡ bio.bio.write
-  driven_of_write place x bio ask lists node here is h at =
-      omega (arith, none, node_write bio.bio.writer bio.bio.node node at, submission_part scene (strays write_of) s place x (Drives bio ask) lists here is h)
-
-  pub copied_of_write : (place : ℕ) (x : TaskState) (bio : Bio) (master leg : ℕ) (want : Want) (lists : TaskLists) (node : Node) → place < scene.tasks → s.task place ≡ x
-      → HasSubmission x (Copies bio master leg want) lists → node_at (s.objects.book bio.writer) master ≡ Some node → node.write ≡ bio.write
-  copied_of_write place x bio master leg want lists node here is h at =
-      omega (arith, none, node_write bio.writer master node at, submission_part scene (strays write_of) s place x (Copies bio master leg want) lists here is h)
-
-  -- and a node is of the write of the one that it is under
+  -- a node is of the write of the one that it is under
   pub child_of_write : (writer key parent : ℕ) (child node : Node) → node_at (s.objects.book writer) key ≡ Some child → parent_of child.role ≡ Some parent
       → node_at (s.objects.book writer) parent ≡ Some node → child.write ≡ node.write
   child_of_write writer key parent child node at under_it up =
@@ -218,7 +205,7 @@ module _ (scene : Scene) (s : State) (i : Kept scene s) (write_of : ℕ → ℕ 
     write_of = write_of;
     opened = node_write scene s i write_of none;
     named = each_bio (λ item. write_of item.bio.writer item.bio.node ≡ item.bio.write) (strays write_of) (λ spot item zero. omega (arith, zero)) scene s none;
-    copied = each_copied (λ bio master. write_of bio.writer master ≡ bio.write) (strays write_of) (λ bio master leg zero. omega (arith, zero)) scene s none;
+    copied = each_copied (λ bio master. write_of bio.writer master ≡ bio.write) (strays write_of) (λ bio master leg zero. omega (arith, zero)) scene s i none;
     under = λ writer place node parent at is.
         let here : parent_strays write_of writer (parent_of node.role) node.write ≡ apart (write_of writer parent) node.write =
         ap (λ p. parent_strays write_of writer p node.write) is in

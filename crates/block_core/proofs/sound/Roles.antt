@@ -11,8 +11,9 @@ use Rattle.run_machine.specs.Scene.{Scene}
 use Rattle.run_machine.specs.Tasks.{Completer, Carries}
 use Rattle.run_machine.specs.Runs.{State}
 use Rattle.block_core.specs.Weights.{Weight, total, one, refs, under, legs_left, count_of}
+use Rattle.block_core.specs.EachBio.{EachBio, EachCopied}
 use Rattle.block_core.specs.Touches.{is_master}
-use Rattle.block_core.specs.Roles.{is_leg, named, masters, children, legs_to_make, WaitsForParts, HasRoles}
+use Rattle.block_core.specs.Roles.{is_leg, named, masters, children, legs_to_make, WaitsForParts, IsUnderOpen, HasRoles}
 use Rattle.block_core.proofs.status.Marks.{yes, mismatch, kind_is}
 use Rattle.block_core.proofs.moves.Sums.{same_or_not, one-same, one-other}
 use Rattle.block_core.proofs.sound.Facts.{own_part, own_of, Kept}
@@ -23,6 +24,8 @@ use Rattle.block_core.proofs.moves.Totals.{task_part}
 use Rattle.block_core.proofs.stuck.Idle.{open_at, node_part}
 use Rattle.block_core.proofs.moves.SumsCompared.{under_in_all}
 use Rattle.block_core.proofs.sound.StoodFor.{refs_are, Stands}
+use Rattle.block_core.proofs.sound.EachBio.{each_part, each_copied_part}
+use Rattle.block_core.proofs.images.Ancestors.{names_one, copied_times}
 
 is_false : (b : Bool) → yes b ≡ 0 → b ≡ false
 is_false true none = absurd (omega (arith, none))
@@ -168,5 +171,19 @@ module _ (scene : Scene) (s : State) (was_master : ℕ → Bool) (i : Kept scene
       let right : wrong_above (mark writer) (was_master place) closed.parent ≡ 0 = omega (arith, t.right.1, task_part scene off s place (Completer disk (Carries writer closed)) here is) in
       (up.0, up.1, λ same. kind writer parent up.0 up.1 ∙ above_kind (mark writer) (was_master place) closed.parent parent right found same)
 
+  named_open : EachBio (λ item. IsUnderOpen s item.bio.writer item.bio.node false) scene s
+  named_open =
+      each_part scene s (λ item. IsUnderOpen s item.bio.writer item.bio.node false)
+      (λ spot item part.
+      let up = open_at scene s i item.bio.writer item.bio.node (omega (arith, names_one item, part (refs scene.setup item.bio.writer item.bio.node))) in
+      (up.0, up.1, kind item.bio.writer item.bio.node up.0 up.1 ∙ is_false (mark item.bio.writer item.bio.node) (omega (arith, t.right.1, part off))))
+
+  copied_open : EachCopied (λ bio master. IsUnderOpen s bio.writer master true) scene s
+  copied_open =
+      each_copied_part scene s i (λ bio master. IsUnderOpen s bio.writer master true)
+      (λ bio master leg lt part.
+      let up = open_at scene s i bio.writer master (omega (arith, copied_times scene.setup bio master leg, lt, part (refs scene.setup bio.writer master))) in
+      (up.0, up.1, kind bio.writer master up.0 up.1 ∙ is_true (mark bio.writer master) (omega (arith, t.right.1, part off))))
+
   pub has_roles : HasRoles scene was_master s
-  has_roles = record { waits = waits; parents = parents; carried = carried }
+  has_roles = record { waits = waits; bios = named_open; copied = copied_open; parents = parents; carried = carried }

@@ -62,7 +62,7 @@ module _ (scene : Scene) (s : State) (i : Kept scene s) (level : ℕ → ℕ →
               omega (arith, none, up),
         );
     masters =
-        each_copied (λ bio master. level bio.writer master ≡ 2 * bio.dev.0 + 1) (off_levels level) (λ bio master leg none. omega (arith, none)) scene s off;
+        each_copied (λ bio master. level bio.writer master ≡ 2 * bio.dev.0 + 1) (off_levels level) (λ bio master leg none. omega (arith, none)) scene s i off;
   }
 
 -- a task that did nothing yet copies no bio
@@ -107,7 +107,6 @@ every_run_is_sound s ledger events state good naming run =
       positions =
           runs_keep sc f g (λ st. (p : ℕ) → IsWithin (st.objects.pool p)) (λ old m before after can within. stays_within sc old within m) (start s) events state first (λ p. omega arith) run;
       outs = i.kept.outs;
-      counts = i.kept.counts;
       alive = λ writer place node at. subst IsAlive at (i.alive writer place);
       roles =
           has_roles sc state (were_masters sc (start s) events state run none_was) i.kept (runs_stand sc f g (start s) events state none_was first (opened_stands sc (start s) o) run);
@@ -119,7 +118,7 @@ every_run_is_sound s ledger events state good naming run =
       fragments = λ fragment is. all (is_it fragment) ∙ is_planned s good ledger fragment is;
       others = λ fragment some. planned_is s good ledger fragment (omega (arith, some, all (is_it fragment)));
       words = each_bio (λ item. HasItsWord s item.bio) (misfits (unfit s)) (λ spot item none. tied s item.bio (omega (arith, none))) sc state fits;
-      copied = each_copied (λ bio master. HasItsWord s bio) (misfits (unfit s)) (λ bio master leg none. tied s bio (omega (arith, none))) sc state fits;
+      copied = each_copied (λ bio master. HasItsWord s bio) (misfits (unfit s)) (λ bio master leg none. tied s bio (omega (arith, none))) sc state i.kept fits;
       images = λ disk at lt. images_are_of_completed s ledger events state good naming run disk at lt;
       tally = run_tallied s ledger good naming events state run;
       places = run_roomy s ledger good naming events state run;
