@@ -15,10 +15,6 @@ use Rattle.run_machine.specs.Runs.{State}
 unfoldable pub one : ℕ → ℕ → ℕ
 one i j = if i == j then 1 else 0
 
--- how far two numbers are apart
-abbrev pub apart : ℕ → ℕ → ℕ
-apart i j = (i - j) + (j - i)
-
 -- the sum of the weights of the places below n
 unfoldable pub sum_at : {X : Type 0} → (ℕ → X → ℕ) → ℕ → (ℕ → X) → ℕ
 sum_at w zero f = 0

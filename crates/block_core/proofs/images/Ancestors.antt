@@ -10,12 +10,12 @@ use Rattle.run_machine.specs.Scene.{Setup, Scene, tree_at}
 use Rattle.run_machine.specs.Submissions.{legs_of}
 use Rattle.run_machine.specs.Tasks.{Completer, Carries}
 use Rattle.run_machine.specs.Runs.{State}
-use Rattle.block_core.specs.Weights.{apart, total, sum_at, one, refs, names_node, under, legs_left}
+use Rattle.block_core.specs.Weights.{total, sum_at, one, refs, names_node, under, legs_left}
 use Rattle.block_core.proofs.sound.EachBio.{each_part, each_copied_part}
 use Rattle.block_core.proofs.moves.SumsCompared.{IsPart}
 use Rattle.block_core.proofs.sound.Strays.{bio_strays, parent_strays, strays}
 use Rattle.block_core.specs.Present.{AllAtWork}
-use Rattle.block_core.proofs.moves.Sums.{one-same, within_book}
+use Rattle.block_core.proofs.moves.Sums.{apart, one-same, within_book}
 use Rattle.block_core.proofs.sound.Facts.{Kept}
 use Rattle.block_core.proofs.moves.Totals.{part_of, task_part}
 use Rattle.block_core.proofs.stuck.Idle.{GoesDown, open_in_books, open_at, node_part}

@@ -1,10 +1,14 @@
 -- Sums over maps and books when one place changes.
-use Rattle.std.proofs.Common.{◌≡◌, ◌≢◌, ◌+◌, ◌*◌, ◌<◌, ◌≤◌, ◌⊎◌, ℕ, zero, suc, length, Option, None, Some, inl, inr, refl, sym, ◌∙◌, ap, subst, arith}
+use Rattle.std.proofs.Common.{◌≡◌, ◌≢◌, ◌+◌, ◌-◌, ◌*◌, ◌<◌, ◌≤◌, ◌⊎◌, ℕ, zero, suc, length, Option, None, Some, inl, inr, refl, sym, ◌∙◌, ap, subst, arith}
 use Rattle.std.proofs.lemmas.Bool.{eq-eqb, ne_eqb}
 use Rattle.std.proofs.lemmas.List.{length-set, get_or-set_same, get_or-set_other, get_or_past}
 use Rattle.bio_books.specs.Books.{Node, BookState, node_at, with_node}
 use Rattle.run_machine.specs.Maps.{upd}
 use Rattle.block_core.specs.Weights.{Weight, sum_at, one, weigh_option, book_weight}
+
+-- how far two numbers are apart
+abbrev pub apart : ℕ → ℕ → ℕ
+apart i j = (i - j) + (j - i)
 
 pub upd-same : {X : Type 0} (f : ℕ → X) (i : ℕ) (v : X) → upd f i v i ≡ v
 unfolding upd

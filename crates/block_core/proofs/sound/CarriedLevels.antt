@@ -12,7 +12,8 @@ use Rattle.run_machine.specs.Submissions.{Doing, Submission}
 use Rattle.run_machine.specs.Tasks.{Carried, Empty, Brings, Carries, Fails, TaskState, Writer, Rescuer, Completer, Keeper}
 use Rattle.run_machine.specs.Runs.{State}
 use Rattle.block_core.specs.Levels.{HoldsLevel, HoldsOneLevel}
-use Rattle.block_core.specs.Weights.{apart, total, weigh_option, task_weight, carried_weight}
+use Rattle.block_core.specs.Weights.{total, weigh_option, task_weight, carried_weight}
+use Rattle.block_core.proofs.moves.Sums.{apart}
 use Rattle.block_core.proofs.moves.Moves.{Move, Can, after, HasSubmission, with_submission, Hands}
 use Rattle.block_core.proofs.moves.Moves as moves
 use Rattle.block_core.proofs.sound.Facts.{Kept}

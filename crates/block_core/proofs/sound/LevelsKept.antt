@@ -16,6 +16,7 @@ use Rattle.run_machine.specs.Submissions.{Links, ToCut, ToMaster, Drives, Copies
 use Rattle.run_machine.specs.Tasks.{Completer, Todo, Carried, Empty, Brings, Carries, Fails}
 use Rattle.run_machine.specs.Runs.{State}
 use Rattle.block_core.specs.Weights.{total, weigh_option, task_weight, carried_weight}
+use Rattle.block_core.proofs.moves.Sums.{apart}
 use Rattle.block_core.proofs.moves.Moves.{Move, Can, after, lost, gained, limit_of, gathered_of, filled_of, vector_of, cut_lists, TellsNode, Hands, piece}
 use Rattle.block_core.proofs.moves.Moves as moves
 use Rattle.block_core.proofs.sound.Facts.{TaskFits, Kept}
@@ -27,7 +28,6 @@ use Rattle.block_core.proofs.moves.Deltas.{other_place, delta}
 use Rattle.block_core.proofs.sound.SumParts.{copies_weight, unless, unless_none, cut_weight, submission_part}
 use Rattle.block_core.proofs.moves.Totals.{part_of}
 use Rattle.block_core.proofs.moves.SubmissionWeights.{IsBlind, landed_same, first_weight, goes_weight}
-use Rattle.block_core.specs.Weights.{apart}
 use Rattle.block_core.proofs.sound.OffLevels.{bio_off, parent_off, held_off, first_level, held_level, below_off, closed_off, off_levels, AreLeveled}
 use Rattle.block_core.proofs.moves.VacantMarks.{with_mark, mark_here, mark_other}
 use Rattle.block_core.proofs.sound.Levels.{total_null}

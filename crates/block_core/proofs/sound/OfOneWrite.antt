@@ -18,7 +18,7 @@ use Rattle.run_machine.specs.Runs.{State, IsRun}
 use Rattle.block_core.specs.Weights.{total, under}
 use Rattle.block_core.specs.Scenarios.{IsScenario, IsNaming}
 use Rattle.block_core.specs.OfOneWrite.{AreOfOneWrite, AllAreOfOneWrite}
-use Rattle.block_core.specs.Weights.{apart}
+use Rattle.block_core.proofs.moves.Sums.{apart}
 use Rattle.block_core.proofs.moves.Moves.{Move, Can, after, lost, gained, limit_of, HasSubmission, filled_of, cut_lists}
 use Rattle.block_core.proofs.moves.Moves as moves
 use Rattle.block_core.proofs.sound.Facts.{TaskFits, Fair, Kept}

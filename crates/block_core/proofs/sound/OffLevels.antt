@@ -6,7 +6,8 @@ use Rattle.bio_books.specs.Books.{VectorItem, SlipItem, Holding, parent_of}
 use Rattle.bio_books.specs.Drops.{Closed}
 use Rattle.run_machine.specs.Scene.{Scene}
 use Rattle.run_machine.specs.Runs.{State}
-use Rattle.block_core.specs.Weights.{Weight, apart, total, weigh_option, no_weight}
+use Rattle.block_core.specs.Weights.{Weight, total, weigh_option, no_weight}
+use Rattle.block_core.proofs.moves.Sums.{apart}
 
 -- a bio that names a node is of the pool of the node's level; the two pools of writes are one level, 64
 abbrev pub bio_off : (ℕ → ℕ → ℕ) → Item Pad → ℕ

@@ -5,7 +5,8 @@ use Rattle.bio_records.specs.Items.{Item}
 use Rattle.bio_books.specs.Books.{parent_of}
 use Rattle.run_machine.specs.Scene.{Scene}
 use Rattle.run_machine.specs.Runs.{State}
-use Rattle.block_core.specs.Weights.{Weight, apart, total, no_weight}
+use Rattle.block_core.specs.Weights.{Weight, total, no_weight}
+use Rattle.block_core.proofs.moves.Sums.{apart}
 
 -- a bio that names a node is of the node's write
 abbrev pub bio_strays : (ℕ → ℕ → ℕ) → Item Pad → ℕ

@@ -21,8 +21,8 @@ use Rattle.run_machine.specs.Opened.{Scenario}
 use Rattle.run_machine.specs.Runs.{State}
 use Rattle.block_core.specs.Touches.{is_master}
 use Rattle.block_core.specs.Weights.{Weight, Spot, Lined, Rescued, Pending, Brought, total, one, names_node, under, legs_left}
-use Rattle.block_core.specs.Weights.{apart}
 use Rattle.block_core.specs.Fragments.{offset_of, fragment_of}
+use Rattle.block_core.proofs.moves.Sums.{apart}
 
 abbrev pub yes : Bool → ℕ
 yes b = if b then 1 else 0

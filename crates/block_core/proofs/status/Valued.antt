@@ -29,7 +29,8 @@ use Rattle.block_core.specs.Fragments.{fragment_of}
 use Rattle.block_core.specs.Touches.{is_master}
 use Rattle.block_core.specs.AtWork.{IsBrought, IsInDisk}
 use Rattle.block_core.specs.Values.{BioMayEnd, LegMayEnd, TodoMayEnd, IsAllowed, Decides, BioComes, LegComes, NodeComes, ClosedComes, Comes, NodeIsValued, EndsAsItsFragment, IsValued}
-use Rattle.block_core.specs.Weights.{Weight, apart, one, names_node, under, legs_left, doing_weight, total}
+use Rattle.block_core.specs.Weights.{Weight, one, names_node, under, legs_left, doing_weight, total}
+use Rattle.block_core.proofs.moves.Sums.{apart}
 use Rattle.block_core.proofs.moves.Totals.{task_part}
 use Rattle.block_core.proofs.sound.Facts.{Kept}
 use Rattle.block_core.proofs.stuck.Idle.{node_part}

@@ -14,13 +14,13 @@ use Rattle.run_machine.specs.Submissions.{Doing, Rests, Drives, Copies, Breaks, 
 use Rattle.run_machine.specs.Tasks.{TaskState, Writer, Rescuer, Completer, Keeper, Todo, Gathered, NoBio, HasBio, HasBoth, Empty, Brings, Carries, Fails}
 use Rattle.run_machine.specs.Runs.{State}
 use Rattle.block_core.specs.Weights.{Weight, Pending, Rescued, Lined, total, sum_at, one, weigh_option, doing_weight, task_weight, submission_weight, book_weight, elements_of_pool, holding_elements, refs, names_node, under, legs_left, count_of}
+use Rattle.block_core.proofs.moves.Sums.{apart}
 use Rattle.block_core.proofs.sound.Facts.{DoingFits, SubmissionFits, TaskFits, Kept}
 use Rattle.block_core.proofs.sound.TaskSubmissions.{IsBusy}
 use Rattle.block_core.proofs.sound.Orders.{IsOwn, DoingPlaced, TaskPlaced, Placed, Ground}
 use Rattle.std.specs.Prelude.{min}
 use Rattle.block_core.proofs.sound.Alive.{IsAlive}
 use Rattle.block_core.proofs.moves.Totals.{part_of}
-use Rattle.block_core.specs.Weights.{apart}
 use Rattle.block_core.proofs.sound.OffLevels.{bio_off, parent_off, held_off, off_levels}
 use Rattle.block_core.proofs.stuck.Waits.{DoingWaits, TaskWaits, Waits}
 use Rattle.block_core.proofs.stuck.NothingWaits.{IsPool, spares, StillDoing, StillWriter, StillRescuer, IsStill, AllStill, Below, lower, zero_or, some_place, some_one, one-eq, both, Found, submission_found, submission_below}
