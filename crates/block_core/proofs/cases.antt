@@ -4,3 +4,4 @@ pub mod ValueCases
 pub mod HandCases
 pub mod LevelCases
 pub mod RoleCases
+pub mod SumCases

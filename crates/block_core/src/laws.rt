@@ -26,9 +26,9 @@ ghost use Rattle.block_core.specs.Values.{NodesAreValued};
 
 /// After every event of every run of every scenario the state is sound: each pool adds up, is not past the entries of its script, and has as many
 /// elements out as there are in tasks' hands and lists, in rescue lists, disks and nodes. Each open node waits for at least one end, and for just its
-/// children or legs and its own part, which was dropped or is in one place. It keeps what the run told it of how these ended, and only what it may by
-/// the run of the bio that it was opened for; what is still to come to it ends so too, and where that run is decided, it keeps what decides it, or that
-/// still comes. What nodes hold, and what is left of closed ones, is of pools whose numbers rise from each node to its parent. Bios stand in lists in
+/// children or legs and its own part, which was dropped or is in one place; nothing refers to a place at which no node is open. A node keeps what the
+/// run told it of how these ended, and only what it may by the run of the bio that it was opened for; what is still to come to it ends so too, and
+/// where that run is decided, it keeps what decides it, or that still comes. What nodes hold, and what is left of closed ones, is of pools whose numbers rise from each node to its parent. Bios stand in lists in
 /// the order of their sets and devices; where each mirror of two members or more has a rescuer, no task waits for a bio of a set of which it has one
 /// in its lists, and bios wait for rescuers only where there are some. Each fragment was completed or is still to come, once; bios have the data of
 /// their places, those that mirrors copy too, and disks that of the completed fragments. The tally has the number of unfinished writes of each round,
