@@ -32,7 +32,8 @@ use Rattle.bio_workers.specs.Gates.{showing}
 use Rattle.run_merge.specs.Outcomes.{IsOutcomeOf, shared_ledger, state_in}
 use Rattle.run_merge.specs.declared.outcome.Outcome.{Outcome}
 use Rattle.biostack_top.specs.Scene.{TextSays}
-use Rattle.biostack_top.specs.Running.{ByNumber, ByThreads, EveryRunOfTextIsAsClaimed, HasOutcome, HasRun, IsShownOf, IsRunTold, Maker, sectors, stream_of}
+use Rattle.work_text.specs.Generated.{generator}
+use Rattle.biostack_top.specs.Running.{ByNumber, ByThreads, EveryRunOfTextIsAsClaimed, HasOutcome, HasRun, IsShownOf, IsRunTold, Maker, sectors}
 
 module _ (text : List ℕ) (accepted : Accepted) (work : Work) (says : TextSays text accepted work) where
   pub read_behind : IsReadBehind accepted work
@@ -93,7 +94,7 @@ few_sectors text accepted work says =
 
 -- what a run by one thread is, whatever its events are handed to
 pub has_run : {V : Type 0} (happens : V → Event → V → Type 0) (opened : Opened) (number : ℕ) (stream : Lcg) (before : V) (after : Lcg) (now : V) (ended : Ended)
-    → IsOpened opened → stream ≡ stream_of number → (ran : IsSerialRun happens opened stream before after now ended)
+    → IsOpened opened → stream ≡ generator number → (ran : IsSerialRun happens opened stream before after now ended)
     → HasRun (scenario_in opened) (ByNumber number) ran.events ended
 has_run happens opened number stream before after now ended is same ran =
     let ledger = (stage_of opened.objects).ledger in
@@ -103,7 +104,7 @@ has_run happens opened number stream before after now ended is same ran =
       ledger = ledger;
       naming = is.one.holds.numbered;
       state = ran.state;
-      run = turns_are_a_run (scene s ledger) (start s) (stream_of number) ran.events ran.state after follows;
+      run = turns_are_a_run (scene s ledger) (start s) (generator number) ran.events ran.state after follows;
       made = ((after, follows), ran.fits);
       ends = ran.ends;
       left = ran.left;

@@ -2,9 +2,7 @@
 use Rattle.std.specs.Prelude.{◌≡◌, ◌≤◌, All, Bool, true, List, ℕ, length, sum_by, Option, Some, Result, Ok, Err}
 use Rattle.outside_io.specs.declared.source.Failed.{Failed}
 use Rattle.outside_io.specs.Saying.{Writes}
-use Rattle.rand_core.specs.Pcg32Seed.{pcg32_seed}
 use Rattle.rand_pcg.specs.Lcg.{Lcg}
-use Rattle.rand_pcg.specs.Pcg.{pcg32_of_seed}
 use Rattle.elem_ledger.specs.Ledger.{LedgerId}
 use Rattle.layout_model.specs.declared.write.Write.{Write}
 use Rattle.decl_text.specs.declared.accepted.Accepted.{Accepted}
@@ -25,16 +23,13 @@ use Rattle.bio_workers.specs.Gates.{IsOfClosed, Showing}
 use Rattle.run_merge.specs.Entries.{Entry, entries_in}
 use Rattle.run_merge.specs.Merging.{all_of, without_tickets, sorted_by_ticket}
 use Rattle.run_merge.specs.SharedObjects.{entry_histories}
+use Rattle.work_text.specs.Generated.{generator}
 use Rattle.run_merge.specs.declared.outcome.Outcome.{Outcome}
 use Rattle.report_text.specs.CheckText.{steps_bound}
 use Rattle.report_text.specs.Report.{Reported}
 use Rattle.report_text.specs.Views.{told_by}
 use Rattle.biostack_top.specs.Streams.{SinkStream}
 use Rattle.biostack_top.specs.Tracing.{IsTraceOf}
-
--- the words that order the run of a number
-abbrev pub stream_of : ℕ → Lcg
-stream_of number = pcg32_of_seed (pcg32_seed 16 number)
 
 -- What makes a run: the schedule of a number, or threads, behind which a gate was shown this.
 pub data Maker : Type 0 where
@@ -60,7 +55,7 @@ merged_in shown = without_tickets (sorted_by_ticket (all_of (entry_histories sho
 abbrev pub Makes : Maker → (s : Scenario) (ledger : ℕ → LedgerId) (events : List Event) (state : State)
     → IsRun (scene s ledger) (start s) events state → Type 0
 Makes (ByNumber number) s ledger events state run =
-    ((after : Lcg) × FollowsSchedule (scene s ledger) (start s) (stream_of number) events state after) × All FitsEvent events
+    ((after : Lcg) × FollowsSchedule (scene s ledger) (start s) (generator number) events state after) × All FitsEvent events
 Makes (ByThreads shown) s ledger events state run =
     IsShownOf s shown × (ledger ≡ ledger_in shown) × (entries_in (scene s ledger) (start s) events state run ≡ merged_in shown)
 
