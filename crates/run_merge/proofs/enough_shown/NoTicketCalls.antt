@@ -18,12 +18,52 @@ use Rattle.object_things.specs.Lists.{ListServes, ListLooks}
 use Rattle.object_things.specs.Pools.{PoolServes, PoolLooks}
 use Rattle.object_things.specs.Stamps.{ThingState, StepOf, is_spent}
 use Rattle.object_things.specs.Tallies.{TallyServes, TallyLooks}
-use Rattle.object_things.proofs.Spent.{pool_keeps, list_keeps, disk_keeps, book_keeps, tally_keeps}
 use Rattle.shared_objects.specs.Kinds.{ThingAt, serves_at, looks_at, answers_at}
 use Rattle.shared_objects.specs.Logs.{is_stop}
 use Rattle.shared_objects.proofs.tickets.CallOwners.{first_there}
 
 -- a look that is not told that there was no ticket leaves the object marked or unmarked
+pool_keeps : (old new : ThingState LedgerPool) (asked : Request) (reply : Reply) → PoolLooks old asked reply new → is_spent reply ≡ false → new.spent ≡ old.spent
+-- a miss that drew no ticket leaves as many
+pool_keeps old new (TakeBio set waits) (Missed used) looks not_none = looks.3
+pool_keeps old new TakeVec (Missed used) looks not_none = looks.3
+pool_keeps old new (TakeSlip dev) (Missed used) looks not_none = looks.3
+-- who is told that there was no ticket is left out
+pool_keeps old new (TakeBio set waits) Spent looks not_none = absurd (true≢false not_none)
+pool_keeps old new TakeVec Spent looks not_none = absurd (true≢false not_none)
+pool_keeps old new (TakeSlip dev) Spent looks not_none = absurd (true≢false not_none)
+pool_keeps old new (GiveBio bio) Spent looks not_none = absurd (true≢false not_none)
+pool_keeps old new (GiveVec vector) Spent looks not_none = absurd (true≢false not_none)
+pool_keeps old new (GiveSlip slip) Spent looks not_none = absurd (true≢false not_none)
+pool_keeps old new (Resize pool min) Spent looks not_none = absurd (true≢false not_none)
+-- a look at a pool is nothing else
+pool_keeps old new asked reply looks not_none = absurd looks
+
+list_keeps : (old new : ThingState Rescue) (asked : Request) (reply : Reply) → ListLooks old asked reply new → is_spent reply ≡ false → new.spent ≡ old.spent
+list_keeps old new (Pop dev) Nothing looks not_none = looks.1.1
+list_keeps old new (Punt dev moved) Spent looks not_none = absurd (true≢false not_none)
+list_keeps old new (Pop dev) Spent looks not_none = absurd (true≢false not_none)
+list_keeps old new asked reply looks not_none = absurd looks
+
+disk_keeps : (old new : ThingState DiskState) (asked : Request) (reply : Reply) → DiskLooks old asked reply new → is_spent reply ≡ false → new.spent ≡ old.spent
+disk_keeps old new (Complete disk) (LeftOver count) looks not_none = looks.1.1
+disk_keeps old new (Complete disk) Nothing looks not_none = looks.1.1
+disk_keeps old new (Push bio) Spent looks not_none = absurd (true≢false not_none)
+disk_keeps old new (Complete disk) Spent looks not_none = absurd (true≢false not_none)
+disk_keeps old new asked reply looks not_none = absurd looks
+
+book_keeps : (old new : ThingState BookState) (asked : Request) (reply : Reply) → BookLooks old asked reply new → is_spent reply ≡ false → new.spent ≡ old.spent
+book_keeps old new (Link writer opening) Spent looks not_none = absurd (true≢false not_none)
+book_keeps old new (Drop writer node status part) Spent looks not_none = absurd (true≢false not_none)
+book_keeps old new asked reply looks not_none = absurd looks
+
+tally_keeps : (old new : ThingState TallyState) (asked : Request) (reply : Reply) → TallyLooks old asked reply new → is_spent reply ≡ false → new.spent ≡ old.spent
+tally_keeps old new LookRound (Present round) looks not_none = looks.1.1
+tally_keeps old new LookLeft (LeftOver count) looks not_none = looks.1.1
+tally_keeps old new (Done write status) Spent looks not_none = absurd (true≢false not_none)
+tally_keeps old new (NextRound round) Spent looks not_none = absurd (true≢false not_none)
+tally_keeps old new asked reply looks not_none = absurd looks
+
 look_keeps : (name : Object) (old new : ThingState (ThingAt name)) (asked : Request) (reply : Reply) → looks_at name old asked reply new → is_spent reply ≡ false → new.spent ≡ old.spent
 look_keeps (OfPool number) old new asked reply looks not_none = pool_keeps old new asked reply looks not_none
 look_keeps (OfRescuer dev) old new asked reply looks not_none = list_keeps old new asked reply looks not_none
