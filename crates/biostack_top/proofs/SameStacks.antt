@@ -14,8 +14,9 @@ use Rattle.stack_base.specs.declared.stack.Kind.TheVariants.{Disk, Linear, Strip
 use Rattle.stack_base.specs.declared.stack.Device.{Device}
 use Rattle.stack_base.specs.declared.stack.Stack.{Stack}
 use Rattle.stack_base.specs.Tree.{Tree, Leaf, built, over, tree, tree_below}
-use Rattle.layout_model.specs.May.{bads_of, kind_bads}
-use Rattle.decl_text.specs.Accepting.{Means, bad_of, bad_ranges, shown, what_of_kind}
+use Rattle.stack_base.specs.Fault.{bads_of_kind}
+use Rattle.layout_model.specs.May.{bads_of}
+use Rattle.decl_text.specs.Accepting.{Means, bad_ranges, shown, what_of_kind}
 use Rattle.decl_text.specs.Known.{Declared, Known, device_tree}
 use Rattle.decl_text.specs.declared.item.What.{What}
 use Rattle.decl_text.specs.declared.item.What.TheVariants as what
@@ -55,23 +56,15 @@ records_are (Zoned chunk) = refl
 records_are (Limit longest chunk) = refl
 records_are (Mirror records) = refl
 
-bads_are : (kind : Kind) → kind_bads kind ≡ bad_of kind
-bads_are (Disk sectors bad) = refl
-bads_are Linear = refl
-bads_are (Stripe chunk) = refl
-bads_are (Zoned chunk) = refl
-bads_are (Limit longest chunk) = refl
-bads_are (Mirror records) = refl
-
 -- the bad ranges of a device are those of its lines
 bads_told : (known : Known) (stack : Stack) (scripts : List (PoolId × Answers)) → Means known stack scripts → (number : ℕ)
     → bads_of stack number ≡ option_map_or (λ (d : Device). bad_ranges known number) (slice_get stack.devices.items number) []
 bads_told known stack scripts means number = by (slice_get stack.devices.items number) refl
   where
     by : (found : Option Device) → slice_get stack.devices.items number ≡ found
-        → option_map_or (λ (d : Device). kind_bads d.kind) found [] ≡ option_map_or (λ (d : Device). bad_ranges known number) found []
+        → option_map_or (λ (d : Device). bads_of_kind d.kind) found [] ≡ option_map_or (λ (d : Device). bad_ranges known number) found []
     by None is = refl
-    by (Some d) is = bads_are d.kind ∙ means.bad number d is
+    by (Some d) is = means.bad number d is
 
 module _ (known : Known) (one other : Stack) (one_scripts other_scripts : List (PoolId × Answers)) (a : Means known one one_scripts) (b : Means known other other_scripts) where
   declared_at : (number : ℕ) → option_map shown (slice_get one.devices.items number) ≡ option_map shown (slice_get other.devices.items number)

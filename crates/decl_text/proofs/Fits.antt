@@ -22,7 +22,7 @@ use Rattle.decl_text.specs.Items.{said}
 use Rattle.decl_text.specs.Read.{IsFormed}
 use Rattle.decl_text.specs.Known.{Known, Declared, BadOf, nothing, after_line, declared, device_of, device_tree, declares_disk, number_in, sectors_of, tree_of, tree_over}
 use Rattle.decl_text.specs.Checks.{bad_shape, is_disk_device, is_one_too_many, name_taken, past_end, reserve_zero, reserves, too_large}
-use Rattle.decl_text.specs.Accepting.{IsDeclaredSo, Means, bad_of, loose_checks, reserves_or_two, shown, what_of_kind}
+use Rattle.decl_text.specs.Accepting.{IsDeclaredSo, Means, loose_checks, reserves_or_two, shown, what_of_kind}
 use Rattle.decl_text.specs.Fit.{HasReserves, IsFitBad, IsFitDevice, IsFitStack, IsReserve}
 use Rattle.decl_text.specs.Refusals.{check, first_found, known_after, line_reason, refusal, said_reason}
 use Rattle.decl_text.specs.declared.accepted.Accepted.{Accepted}
@@ -36,6 +36,7 @@ use Rattle.decl_text.proofs.SplitLemmas.{none_found}
 use Rattle.decl_text.specs.Reading.{NonePass, is_work_line}
 use Rattle.fail_script.specs.Script.{Answers}
 use Rattle.stack_base.specs.declared.ids.PoolId.{PoolId}
+use Rattle.stack_base.specs.Fault.{bads_of_kind}
 use Rattle.stack_base.proofs.ListLemmas.{any_not}
 use Rattle.decl_text.proofs.Fronts.{IsFront, front_declares, line_front, nothing_front}
 use Rattle.decl_text.proofs.Unrefused.{finds_nothing, kept_in_front, line_passes}
@@ -288,7 +289,8 @@ module _ (known : Known) (fit : IsFit known) (stack : Stack) (scripts : List (Po
   shown_at number device found =
       ap (λ (ds : List Declared). slice_get ds number) (sym means.devices) ∙ slice_get-map shown stack.devices.items number ∙ ap (option_map shown) found
 
-  bads_fit : (number : ℕ) (device : Device) (bad : Bad) → slice_get stack.devices.items number ≡ Some device → Contains (bad_of device.kind) bad → IsFitBad (sectors_of (what_of_kind device.kind)) bad
+  bads_fit : (number : ℕ) (device : Device) (bad : Bad) → slice_get stack.devices.items number ≡ Some device
+      → Contains (bads_of_kind device.kind) bad → IsFitBad (sectors_of (what_of_kind device.kind)) bad
   bads_fit number device bad found there =
       let test : BadOf → Bool = λ of. of.disk == number in
       let sectors = sectors_of (what_of_kind device.kind) in
@@ -305,7 +307,7 @@ module _ (known : Known) (fit : IsFit known) (stack : Stack) (scripts : List (Po
         within = omega (arith, one.within, ap (sectors_at known.devices) place, size_is);
         kind = one.kind;
       } in
-      All-contains (IsFitBad sectors) (bad_of device.kind) bad
+      All-contains (IsFitBad sectors) (bads_of_kind device.kind) bad
       (subst (All (IsFitBad sectors)) (sym (means.bad number device found)) (All-map (IsFitBad sectors) (λ (of : BadOf). of.bad) (filter test known.bad) here)) there
 
   stack_fit : IsFitStack stack

@@ -15,6 +15,7 @@ use Rattle.stack_base.specs.declared.stack.Device.{Device}
 use Rattle.stack_base.specs.declared.stack.Stack.{Stack}
 use Rattle.decl_text.specs.Known.{Known, Declared, Reserves, nothing}
 use Rattle.stack_base.specs.Stack.{HasShape, IsStack}
+use Rattle.stack_base.specs.Fault.{bads_of_kind}
 use Rattle.decl_text.specs.Reasons.{number_of_reason}
 use Rattle.decl_text.specs.Checks.{is_of_pool}
 use Rattle.decl_text.specs.Refusals.{Check, item_checks, refusal, known_after}
@@ -30,14 +31,6 @@ what_of_kind (kind.Stripe chunk) = what.Stripe chunk
 what_of_kind (kind.Zoned chunk) = what.Zoned chunk
 what_of_kind (kind.Limit longest chunk) = what.Limit longest chunk
 what_of_kind (kind.Mirror records) = what.Mirror records
-
-abbrev pub bad_of : Kind → List Bad
-bad_of (kind.Disk sectors bad) = bad.items
-bad_of kind.Linear = []
-bad_of (kind.Stripe chunk) = []
-bad_of (kind.Zoned chunk) = []
-bad_of (kind.Limit longest chunk) = []
-bad_of (kind.Mirror records) = []
 
 -- a device of a stack as it was declared
 abbrev pub shown : Device → Declared
@@ -84,7 +77,8 @@ scripts_of known = map (λ pool. (pool, script_of known pool)) (pools known.devi
 -- the stack and the scripts that these declarations mean
 pub record Means (known : Known) (stack : Stack) (pool_scripts : List (PoolId × Answers)) : Type 0 where
   pub devices : shown_devices stack ≡ known.devices
-  pub bad : (number : ℕ) (device : Device) → slice_get stack.devices.items number ≡ Some device → bad_of device.kind ≡ bad_ranges known number
+  pub bad : (number : ℕ) (device : Device) → slice_get stack.devices.items number ≡ Some device
+      → bads_of_kind device.kind ≡ bad_ranges known number
   pub fs_bios : stack.fs_bios ≡ (reserves_or_two known.fs).bios
   pub fs_vecs : stack.fs_vecs ≡ (reserves_or_two known.fs).vecs
   pub scripts : pool_scripts ≡ scripts_of known

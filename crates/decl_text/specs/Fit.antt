@@ -4,9 +4,10 @@ use Rattle.stack_base.specs.declared.ids.Bad.{Bad}
 use Rattle.stack_base.specs.declared.ids.Status.TheVariants as status
 use Rattle.stack_base.specs.declared.stack.Device.{Device}
 use Rattle.stack_base.specs.declared.stack.Stack.{Stack}
+use Rattle.stack_base.specs.Fault.{bads_of_kind}
 use Rattle.decl_text.specs.Text.{is_name}
 use Rattle.decl_text.specs.Known.{Declared, sectors_of}
-use Rattle.decl_text.specs.Accepting.{bad_of, shown, what_of_kind}
+use Rattle.decl_text.specs.Accepting.{shown, what_of_kind}
 use Rattle.decl_text.specs.declared.item.What.{What}
 use Rattle.decl_text.specs.declared.item.What.TheVariants as what
 
@@ -41,5 +42,5 @@ pub record IsFitStack (stack : Stack) : Type 0 where
   -- no two devices have one name
   pub names : (i j : ℕ) (one other : Device) → slice_get stack.devices.items i ≡ Some one → slice_get stack.devices.items j ≡ Some other
       → one.name.bytes ≡ other.name.bytes → i ≡ j
-  pub bad : (number : ℕ) (device : Device) (bad : Bad) → slice_get stack.devices.items number ≡ Some device → Contains (bad_of device.kind) bad
+  pub bad : (number : ℕ) (device : Device) (bad : Bad) → slice_get stack.devices.items number ≡ Some device → Contains (bads_of_kind device.kind) bad
       → IsFitBad (sectors_of (what_of_kind device.kind)) bad

@@ -4,11 +4,9 @@ use Rattle.std.specs.Option.{option_map_or}
 use Rattle.stack_base.specs.declared.ids.Bad.{Bad}
 use Rattle.stack_base.specs.declared.ids.Status.{Status}
 use Rattle.stack_base.specs.declared.ids.Status.TheVariants as status
-use Rattle.stack_base.specs.declared.stack.Kind.{Kind}
-use Rattle.stack_base.specs.declared.stack.Kind.TheVariants.{Disk, Linear, Stripe, Zoned, Limit, Mirror}
 use Rattle.stack_base.specs.declared.stack.Device.{Device}
 use Rattle.stack_base.specs.declared.stack.Stack.{Stack}
-use Rattle.stack_base.specs.Fault.{status_eq, fault}
+use Rattle.stack_base.specs.Fault.{bads_of_kind, fault, status_eq}
 use Rattle.stack_base.specs.Tree.{tree}
 use Rattle.layout_model.specs.declared.fragment.Fragment.{Fragment}
 use Rattle.layout_model.specs.declared.write.Write.{Write}
@@ -33,18 +31,9 @@ unfoldable mutual
   some_may_end ends none end = false
   some_may_end ends (also first others) end = may_end ends first end || some_may_end ends others end
 
--- the bad ranges of a disk; no other device has any
-abbrev pub kind_bads : Kind → List Bad
-kind_bads (Disk sectors bad) = bad.items
-kind_bads Linear = []
-kind_bads (Stripe chunk) = []
-kind_bads (Zoned chunk) = []
-kind_bads (Limit longest chunk) = []
-kind_bads (Mirror records) = []
-
 -- the bad ranges of the device with this number
 abbrev pub bads_of : Stack → ℕ → List Bad
-bads_of stack number = option_map_or (λ (device : Device). kind_bads device.kind) (slice_get stack.devices.items number) []
+bads_of stack number = option_map_or (λ (device : Device). bads_of_kind device.kind) (slice_get stack.devices.items number) []
 
 -- how a fragment ends on its disk
 abbrev pub fault_of : Stack → Fragment → Status

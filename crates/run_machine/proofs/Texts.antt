@@ -8,8 +8,9 @@ use Rattle.stack_base.specs.declared.stack.Kind.{Kind}
 use Rattle.stack_base.specs.declared.stack.Kind.TheVariants.{Disk}
 use Rattle.stack_base.specs.declared.stack.Device.{Device}
 use Rattle.stack_base.specs.declared.stack.Stack.{Stack}
+use Rattle.stack_base.specs.Fault.{bads_of_kind}
 use Rattle.decl_text.specs.Known.{Resized}
-use Rattle.decl_text.specs.Accepting.{Means, bad_of}
+use Rattle.decl_text.specs.Accepting.{Means}
 use Rattle.work_text.specs.Work.{written, last_round, kept_resizes}
 use Rattle.work_text.specs.Whole.{text_refusal, known_of_text}
 use Rattle.run_machine.specs.Opened.{Change, Scenario, at}
@@ -68,10 +69,10 @@ pub record SaysScenario (text : List ℕ) (s : Scenario) : Type 0 where
 -- devices without bad ranges
 abbrev pub AreSound : List Device → Type 0
 AreSound [] = Unit {0}
-AreSound (device ∷ devices) = (bad_of device.kind ≡ []) × AreSound devices
+AreSound (device ∷ devices) = (bads_of_kind device.kind ≡ []) × AreSound devices
 
 pub sound_at : (devices : List Device) → AreSound devices → (number : ℕ) (device : Device) → slice_get devices number ≡ Some device
-    → bad_of device.kind ≡ []
+    → bads_of_kind device.kind ≡ []
 sound_at [] are number device is = absurd (none-some device is)
-sound_at (first ∷ devices) are zero device is = subst (λ d. bad_of d.kind ≡ []) (same_Some first device is) are.0
+sound_at (first ∷ devices) are zero device is = subst (λ d. bads_of_kind d.kind ≡ []) (same_Some first device is) are.0
 sound_at (first ∷ devices) are (suc number) device is = sound_at devices are.1 number device is

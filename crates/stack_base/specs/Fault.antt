@@ -1,10 +1,12 @@
 -- How a run ends on a disk: what decides it are the bad ranges of the disk, in the order in which they are declared.
-use Rattle.std.specs.Prelude.{◌≡◌, ◌⊎◌, ◌+◌, ◌<◌, ◌≤◌, ◌&&◌, if◌then◌else◌, nat_lt, fold, max, min, slice_get, ℕ, Bool, true, false, IsTrue, List, Option, None, Some}
+use Rattle.std.specs.Prelude.{◌≡◌, ◌⊎◌, ◌+◌, ◌<◌, ◌≤◌, ◌&&◌, if◌then◌else◌, nat_lt, fold, max, min, slice_get, ℕ, Bool, true, false, IsTrue, List, [], Option, None, Some}
 use Rattle.std.specs.Option.{option_map_or}
 use Rattle.stack_base.specs.declared.ids.Range.{Range}
 use Rattle.stack_base.specs.declared.ids.Bad.{Bad}
 use Rattle.stack_base.specs.declared.ids.Status.{Status}
 use Rattle.stack_base.specs.declared.ids.Status.TheVariants as status
+use Rattle.stack_base.specs.declared.stack.Kind.{Kind}
+use Rattle.stack_base.specs.declared.stack.Kind.TheVariants.{Disk, Linear, Stripe, Zoned, Limit, Mirror}
 
 abbrev pub status_eq : Status → Status → Bool
 status_eq status.Ok status.Ok = true
@@ -12,6 +14,15 @@ status_eq status.Io status.Io = true
 status_eq status.Medium status.Medium = true
 status_eq status.NoSpace status.NoSpace = true
 status_eq one other = false
+
+-- the bad ranges of a disk; no other device has any
+abbrev pub bads_of_kind : Kind → List Bad
+bads_of_kind (Disk sectors bad) = bad.items
+bads_of_kind Linear = []
+bads_of_kind (Stripe chunk) = []
+bads_of_kind (Zoned chunk) = []
+bads_of_kind (Limit longest chunk) = []
+bads_of_kind (Mirror records) = []
 
 -- whether two ranges share a sector: the later start is before the earlier end. A range of no sectors shares none
 abbrev pub touches : Range → Range → Bool

@@ -5,9 +5,10 @@ use Rattle.std.proofs.lemmas.Bool.{ne_eqb, true≢false}
 use Rattle.std.proofs.lemmas.List.{append_assoc, length-map, map_push}
 use Rattle.std.proofs.lemmas.List.Elements.{All-head, All-tail}
 use Rattle.stack_base.specs.declared.stack.Device.{Device}
+use Rattle.stack_base.specs.Fault.{bads_of_kind}
 use Rattle.decl_text.specs.Known.{BadOf, Declared, declares_disk}
 use Rattle.decl_text.specs.Checks.{is_disk_device}
-use Rattle.decl_text.specs.Accepting.{bad_of, shown}
+use Rattle.decl_text.specs.Accepting.{shown}
 use Rattle.stack_check.specs.Sound.{AreOfDisks}
 use Rattle.stack_check.specs.Finish.{ranges_of}
 use Rattle.stack_check.proofs.Passing.{push_cases}
@@ -49,10 +50,10 @@ clean_ranges all n device (b ∷ bad) found other disks =
 -- the ranges of those built stay
 pub ranges_more :
     (bad : List BadOf) (built : List Device) (device : Device) (more : List Device) → more ≡ built ++ device ∷ []
-    → ((number : ℕ) (d : Device) → slice_get built number ≡ Some d → bad_of d.kind ≡ ranges_of bad number)
-    → bad_of device.kind ≡ ranges_of bad (length built)
-    → (number : ℕ) (d : Device) → slice_get more number ≡ Some d → bad_of d.kind ≡ ranges_of bad number
+    → ((number : ℕ) (d : Device) → slice_get built number ≡ Some d → bads_of_kind d.kind ≡ ranges_of bad number)
+    → bads_of_kind device.kind ≡ ranges_of bad (length built)
+    → (number : ℕ) (d : Device) → slice_get more number ≡ Some d → bads_of_kind d.kind ≡ ranges_of bad number
 ranges_more bad built device more is before here number d found = elim (push_cases built device d number (ap (λ ds. slice_get ds number) (sym is) ∙ found)) [
   | inl within ↦ before number d within.1
-  | inr last ↦ ap (λ (x : Device). bad_of x.kind) (sym last.1) ∙ here ∙ ap (ranges_of bad) (sym last.0)
+  | inr last ↦ ap (λ (x : Device). bads_of_kind x.kind) (sym last.1) ∙ here ∙ ap (ranges_of bad) (sym last.0)
 ]

@@ -5,8 +5,9 @@ use Rattle.fail_script.specs.Script.{Answers, only_tail}
 use Rattle.stack_base.specs.declared.ids.Bad.{Bad}
 use Rattle.stack_base.specs.declared.ids.PoolId.{PoolId}
 use Rattle.stack_base.specs.declared.stack.Device.{Device}
+use Rattle.stack_base.specs.Fault.{bads_of_kind}
 use Rattle.decl_text.specs.Known.{BadOf, Declared, Scripted}
-use Rattle.decl_text.specs.Accepting.{bad_of, shown}
+use Rattle.decl_text.specs.Accepting.{shown}
 use Rattle.decl_text.specs.Checks.{is_of_pool}
 
 -- the script of a pool: the one given to it, or one of this tail alone
@@ -20,4 +21,4 @@ ranges_of bad number = map (λ b. b.bad) (filter (λ b. b.disk == number) bad)
 -- these devices are those declared, with the bad ranges of their numbers
 pub record AreBuilt (devices : List Declared) (bad : List BadOf) (built : List Device) : Type 0 where
   pub shown : map shown built ≡ devices
-  pub ranges : (number : ℕ) (device : Device) → slice_get built number ≡ Some device → bad_of device.kind ≡ ranges_of bad number
+  pub ranges : (number : ℕ) (device : Device) → slice_get built number ≡ Some device → bads_of_kind device.kind ≡ ranges_of bad number

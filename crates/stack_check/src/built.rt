@@ -2,7 +2,8 @@
 ghost use Rattle.std.specs.Prelude.{◌≡◌, ◌<◌, ◌≤◌, [], IfOk, IsTrue, false, map};
 ghost use Rattle.decl_text.specs.Text.{is_name};
 ghost use Rattle.decl_text.specs.Known.{declares_disk};
-ghost use Rattle.decl_text.specs.Accepting.{bad_of, shown, what_of_kind};
+ghost use Rattle.decl_text.specs.Accepting.{shown, what_of_kind};
+ghost use Rattle.stack_base.specs.Fault.{bads_of_kind};
 ghost use Rattle.stack_check.specs.Finish.{AreBuilt, ranges_of};
 ghost use Rattle.stack_check.specs.Sound.{AreSound, AreOfDisks, IsFit, records_of_what};
 
@@ -41,7 +42,7 @@ fn device_of(
 ) -> Result<Device, AllocError>
     requires fit { IsFit placed }
     requires clean { declares_disk placed.what ≡ false → ranges_of bad.now number ≡ [] }
-    ensures { IfOk result (λ device. (shown device ≡ placed.entry) × (bad_of device.kind ≡ ranges_of bad.entry.now number)) }
+    ensures { IfOk result (λ device. (shown device ≡ placed.entry) × (bads_of_kind device.kind ≡ ranges_of bad.entry.now number)) }
 {
     let kind = kind_of(alloc, placed.what, number, bad)?;
     Ok(Device {
@@ -57,7 +58,7 @@ fn device_of(
 fn kind_of(alloc: Global, what: What, number: u32, bad: &[BadAt]) -> Result<Kind, AllocError>
     requires few { records_of_what what ≤ 1024 }
     requires clean { declares_disk what ≡ false → ranges_of bad.now number ≡ [] }
-    ensures { IfOk result (λ kind. (what_of_kind kind ≡ what) × (bad_of kind ≡ ranges_of bad.now number)) }
+    ensures { IfOk result (λ kind. (what_of_kind kind ≡ what) × (bads_of_kind kind ≡ ranges_of bad.now number)) }
 {
     match what {
         What::Disk { sectors } => {

@@ -13,12 +13,13 @@ use Rattle.stack_base.specs.declared.stack.Stack.{Stack}
 use Rattle.stack_base.specs.PoolId.{pool_number}
 use Rattle.stack_base.specs.Stack.{IsStack}
 use Rattle.stack_base.specs.Tree.{shape_of, size, tree}
+use Rattle.stack_base.specs.Fault.{bads_of_kind}
 use Rattle.layout_model.specs.declared.write.Write.{Write}
-use Rattle.layout_model.specs.May.{bads_of, kind_bads}
+use Rattle.layout_model.specs.May.{bads_of}
 use Rattle.layout_model.specs.NeedCounts.{elements, nodes}
 use Rattle.layout_model.specs.Writes.{IsWrite}
 use Rattle.model_disks.specs.Disks.{IsBadRange}
-use Rattle.decl_text.specs.Accepting.{bad_of, shown_devices, what_of_kind}
+use Rattle.decl_text.specs.Accepting.{shown_devices, what_of_kind}
 use Rattle.decl_text.specs.Fit.{IsFitBad, IsFitStack}
 use Rattle.decl_text.specs.Known.{sectors_of}
 use Rattle.decl_text.specs.declared.accepted.Accepted.{Accepted}
@@ -102,13 +103,13 @@ bads_are stack good fit dev = by_found (slice_get stack.devices.items dev) refl
   where
     by_found : (o : Option Device) → slice_get stack.devices.items dev ≡ o → All (IsBadRange (size (tree stack dev))) (bads_of stack dev)
     by_found None q =
-        subst (λ o. All (IsBadRange (size (tree stack dev))) (option_map_or (λ (d : Device). kind_bads d.kind) o [])) (sym q)
+        subst (λ o. All (IsBadRange (size (tree stack dev))) (option_map_or (λ (d : Device). bads_of_kind d.kind) o [])) (sym q)
         (All-nil (IsBadRange (size (tree stack dev))))
     by_found (Some device) q =
-        subst (λ o. All (IsBadRange (size (tree stack dev))) (option_map_or (λ (d : Device). kind_bads d.kind) o [])) (sym q)
+        subst (λ o. All (IsBadRange (size (tree stack dev))) (option_map_or (λ (d : Device). bads_of_kind d.kind) o [])) (sym q)
         (bads_by stack good dev device q device.kind refl
-        (All-weaker (Contains (bad_of device.kind)) (λ bad. IsFitBad (sectors_of (what_of_kind device.kind)) bad) (λ bad in_it. fit.bad dev device bad q in_it)
-        (bad_of device.kind) (All-contains_itself (bad_of device.kind))))
+        (All-weaker (Contains (bads_of_kind device.kind)) (λ bad. IsFitBad (sectors_of (what_of_kind device.kind)) bad) (λ bad in_it. fit.bad dev device bad q in_it)
+        (bads_of_kind device.kind) (All-contains_itself (bads_of_kind device.kind))))
 
 -- writes
 pub sum_le : {X : Type 0} (f g : X → ℕ) (xs : List X) → ((x : X) → f x ≤ g x) → sum_by f xs ≤ sum_by g xs

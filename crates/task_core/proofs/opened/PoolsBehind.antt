@@ -15,10 +15,10 @@ use Rattle.stack_base.specs.declared.stack.Stack.{Stack}
 use Rattle.stack_base.specs.PoolId.{IsOfStack, pool_number}
 use Rattle.stack_base.specs.Stack.{IsStack}
 use Rattle.stack_base.specs.Tree.{Shape, Keeps, Cuts, Copies, shape_of, size, tree}
-use Rattle.layout_model.specs.May.{kind_bads}
+use Rattle.stack_base.specs.Fault.{bads_of_kind}
 use Rattle.layout_model.proofs.ByShape.{cuts_is, copies_is, keeps_is}
 use Rattle.model_disks.specs.Disks.{IsBadRange}
-use Rattle.decl_text.specs.Accepting.{bad_of, shown, shown_devices, what_of_kind}
+use Rattle.decl_text.specs.Accepting.{shown, shown_devices, what_of_kind}
 use Rattle.decl_text.specs.Fit.{HasReserves, IsFitBad}
 use Rattle.decl_text.specs.Known.{Declared, bios_pool_of, pool_if, records_pool_of, sectors_of}
 use Rattle.decl_text.specs.declared.item.What.{What}
@@ -91,8 +91,8 @@ module _ (stack : Stack) (good : IsStack stack) (number : ℕ) (device : Device)
   mirror_by Cuts e = ap is_mirror (cuts_is stack good number device found e)
   mirror_by Copies e = ap is_mirror (copies_is stack good number device found e)
 
-  pub bads_by : (kind : Kind) → device.kind ≡ kind → All (λ bad. IsFitBad (sectors_of (what_of_kind kind)) bad) (bad_of kind)
-      → All (IsBadRange (size (tree stack number))) (kind_bads kind)
+  pub bads_by : (kind : Kind) → device.kind ≡ kind → All (λ bad. IsFitBad (sectors_of (what_of_kind kind)) bad) (bads_of_kind kind)
+      → All (IsBadRange (size (tree stack number))) (bads_of_kind kind)
   bads_by (Disk sectors bad) e all =
       let wide : size (tree stack number) ≡ sectors = ap size (keeps_is stack good number device found sectors (ap shape_of e)) in
       All-weaker (λ bad. IsFitBad sectors bad) (IsBadRange (size (tree stack number)))
