@@ -1,18 +1,13 @@
 -- What a scrub writes: for each mirror, by the number of its device, and for each of its members but the first, how many
 -- sectors are unlike and where.
-use Rattle.std.specs.Prelude.{◌==◌, Bool, List, [], ◌∷◌, ◌++◌, ℕ, length, slice_get, codes, decimal}
+use Rattle.std.specs.Prelude.{◌==◌, Bool, List, [], ◌∷◌, ◌++◌, ℕ, length, codes, decimal}
 use Rattle.std.specs.List.{flat_map, list_all, range_with_len}
-use Rattle.std.specs.Option.{option_map_or}
 use Rattle.stack_base.specs.Tree.{tree}
 use Rattle.stack_base.specs.declared.ids.Range.{Range}
-use Rattle.stack_base.specs.declared.stack.Device.{Device}
 use Rattle.stack_base.specs.declared.stack.Stack.{Stack}
+use Rattle.stack_base.specs.Names.{name_of_device}
 use Rattle.outside_io.specs.Saying.{joined_text}
 use Rattle.mirror_scrub.specs.Seen.{Images, compared, stretches_from, unlike_count}
-
--- the name of the device with a number, and nothing where there is none
-abbrev pub name_at : Stack → ℕ → List ℕ
-name_at stack number = option_map_or (λ (device : Device). device.name.bytes) (slice_get stack.devices.items number) []
 
 -- `scrub NAME leg K unlike C`
 abbrev pub leg_line : List ℕ → ℕ → ℕ → List ℕ
@@ -29,12 +24,12 @@ differ_lines name leg runs = flat_map (differ_line name leg) runs
 
 -- the lines of the stretches that are unlike on a member of the mirror with this number
 abbrev pub stretch_lines : Stack → Images → ℕ → ℕ → List ℕ
-stretch_lines stack images mirror leg = differ_lines (name_at stack mirror) leg (stretches_from images (tree stack mirror) leg 0)
+stretch_lines stack images mirror leg = differ_lines (name_of_device stack mirror) leg (stretches_from images (tree stack mirror) leg 0)
 
 -- the lines of a member of the mirror with this number
 abbrev pub leg_lines : Stack → Images → ℕ → ℕ → List ℕ
 leg_lines stack images mirror leg =
-    leg_line (name_at stack mirror) leg (unlike_count images (tree stack mirror) leg)
+    leg_line (name_of_device stack mirror) leg (unlike_count images (tree stack mirror) leg)
     ++ stretch_lines stack images mirror leg
 
 -- those of all its members but the first, and none for a device that is no mirror

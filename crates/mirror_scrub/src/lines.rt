@@ -2,9 +2,10 @@
 ghost use Rattle.std.specs.Prelude.{◌≡◌, ◌<◌, length};
 ghost use Rattle.stack_base.specs.Stack.{IsStack};
 ghost use Rattle.stack_base.specs.Tree.{tree};
+ghost use Rattle.stack_base.specs.Names.{name_of_device};
 ghost use Rattle.outside_io.specs.Saying.{Says, Writes};
 ghost use Rattle.mirror_scrub.specs.Seen.{AreDisksOf, held, legs};
-ghost use Rattle.mirror_scrub.specs.Text.{differ_line, leg_line, leg_lines, mirror_lines, name_at, scrub_text, stretch_lines};
+ghost use Rattle.mirror_scrub.specs.Text.{differ_line, leg_line, leg_lines, mirror_lines, scrub_text, stretch_lines};
 
 use crate::mirror::{legs, next_unlike, unlike};
 use itoa::Buffer;
@@ -45,7 +46,7 @@ fn differ_line<K: Sink>(pen: &mut Pen, out: &mut K, name: &[u8], leg: u32, run: 
 // The name of a device.
 fn name_of(stack: &Stack, dev: DevId) -> &[u8]
     requires { dev.0 < length stack.now.devices.items }
-    ensures { result.now ≡ name_at stack.now dev.0 }
+    ensures { result.now ≡ name_of_device stack.now dev.0 }
 {
     stack.devices[dev.0 as usize].name.as_str().as_bytes()
 }

@@ -2,9 +2,9 @@
 use Rattle.std.specs.Prelude.{◌<◌, List, [], ◌∷◌, ℕ, length, Contains, codes, decimal}
 use Rattle.std.specs.List.{flat_map}
 use Rattle.stack_base.specs.declared.stack.Stack.{Stack}
+use Rattle.stack_base.specs.Names.{name_of_device}
 use Rattle.layout_model.specs.declared.fragment.Fragment.{Fragment}
 use Rattle.outside_io.specs.Saying.{joined_text}
-use Rattle.report_text.specs.Pools.{name_of_device}
 
 -- `fragment W OFFSET LEN DISK AT`
 abbrev pub fragment_line : Stack → Fragment → List ℕ

@@ -1,10 +1,10 @@
 -- The disks and the pools of a stack, and their names.
-use Rattle.std.specs.Prelude.{◌+◌, ◌<◌, ◌==◌, ◌++◌, Bool, true, false, List, [], ◌∷◌, ℕ, length, slice_get, codes}
-use Rattle.std.specs.Option.{option_map_or}
+use Rattle.std.specs.Prelude.{◌+◌, ◌<◌, ◌==◌, ◌++◌, Bool, true, false, List, [], ◌∷◌, ℕ, length, codes}
 use Rattle.stack_base.specs.declared.ids.PoolId.{PoolId}
 use Rattle.stack_base.specs.declared.ids.PoolId.TheVariants.{FsBios, FsVecs, Bios, Records}
 use Rattle.stack_base.specs.declared.stack.Device.{Device}
 use Rattle.stack_base.specs.declared.stack.Stack.{Stack}
+use Rattle.stack_base.specs.Names.{name_of_device}
 pub use Rattle.run_machine.specs.Opened.{at}
 pub use Rattle.task_core.specs.Leaving.{disk_at, pools_at, disks_of, falling_pools}
 unfoldable pub use Rattle.task_core.specs.Leaving.{disks_from, falling_from}
@@ -24,10 +24,6 @@ same_pool FsVecs FsVecs = true
 same_pool (Bios one) (Bios other) = one.0 == other.0
 same_pool (Records one) (Records other) = one.0 == other.0
 same_pool one other = false
-
--- the name of the device with a number, and nothing where there is none
-abbrev pub name_of_device : Stack → ℕ → List ℕ
-name_of_device stack number = option_map_or (λ (device : Device). device.name.bytes) (slice_get stack.devices.items number) []
 
 -- `fs.bios`, `fs.vecs`, `NAME.bios`, `NAME.records`
 abbrev pub pool_name : Stack → PoolId → List ℕ

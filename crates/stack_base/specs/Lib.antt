@@ -3,6 +3,7 @@ pub mod Words
 pub mod Mapping
 pub mod Tree
 pub mod Stack
+pub mod Names
 pub mod Piece
 pub mod Cutting
 pub mod Even

@@ -15,6 +15,7 @@ use Rattle.stack_base.specs.declared.ids.PoolId.TheVariants.{FsBios, FsVecs, Bio
 use Rattle.stack_base.specs.declared.ids.Status.{Status}
 use Rattle.stack_base.specs.declared.ids.Status.TheVariants as status
 use Rattle.stack_base.specs.declared.stack.Stack.{Stack}
+use Rattle.stack_base.specs.Names.{name_of_device}
 use Rattle.run_machine.specs.declared.event.TaskId.{TaskId}
 use Rattle.run_machine.specs.declared.event.TaskId.TheVariants as task
 use Rattle.run_machine.specs.declared.event.Got.{Got}
@@ -28,7 +29,7 @@ use Rattle.run_machine.specs.declared.event.What.TheVariants as what
 use Rattle.run_machine.specs.declared.event.Event.{Event}
 use Rattle.run_machine.specs.StatusWords.{status_word}
 use Rattle.trace_text.specs.Names.{HasDevice, HasPool, DevicesAreNamed, is_stacked_kind, is_any, is_disk_kind, is_mirror_kind}
-use Rattle.trace_text.specs.Lines.{FitsEvent, IsEventOf, end_word, got_word, how_word, line_of_event, device_name, pool_word, task_word, what_words, words_of}
+use Rattle.trace_text.specs.Lines.{FitsEvent, IsEventOf, end_word, got_word, how_word, line_of_event, pool_word, task_word, what_words, words_of}
 use Rattle.trace_text.specs.Reading.{at_end, read_both, event_of, field, made, fixed_word, task_of_word, what_in}
 use Rattle.trace_text.specs.Laws.{IsEventLine, IsEventRead, is_line_byte}
 use Rattle.trace_text.proofs.NameLemmas.{any_of}
@@ -49,7 +50,7 @@ digit_visible byte is = grind (arith, nat_tests)
 number_unbroken : (n : ℕ) → n < 2 ^ 64 → is_unbroken (decimal n) ≡ true
 number_unbroken n small = list_all_follows is_ascii_digit is_visible digit_visible (decimal n) (digits_decimal numerals n small)
 
-name_unbroken : (stack : Stack) (dev : DevId) → DevicesAreNamed stack → HasDevice is_any stack dev → is_unbroken (device_name stack dev) ≡ true
+name_unbroken : (stack : Stack) (dev : DevId) → DevicesAreNamed stack → HasDevice is_any stack dev → is_unbroken (name_of_device stack dev.0) ≡ true
 name_unbroken stack dev named has = (name_is_word stack dev named has).visible
 
 joined_unbroken : (a b : List ℕ) → is_unbroken a ≡ true → is_unbroken b ≡ true → is_unbroken (a ++ b) ≡ true
@@ -58,15 +59,15 @@ joined_unbroken a b first second = rw (list_all-append is_visible a b, first, se
 pool_unbroken : (stack : Stack) (pool : PoolId) → DevicesAreNamed stack → HasPool stack pool → is_unbroken (pool_word stack pool) ≡ true
 pool_unbroken stack FsBios named has = refl
 pool_unbroken stack FsVecs named has = refl
-pool_unbroken stack (Bios dev) named has = joined_unbroken (device_name stack dev) (codes ".bios") (name_unbroken stack dev named (any_of is_stacked_kind stack dev has)) refl
+pool_unbroken stack (Bios dev) named has = joined_unbroken (name_of_device stack dev.0) (codes ".bios") (name_unbroken stack dev named (any_of is_stacked_kind stack dev has)) refl
 pool_unbroken stack (Records dev) named has =
-    joined_unbroken (device_name stack dev) (codes ".records") (name_unbroken stack dev named (any_of is_mirror_kind stack dev has)) refl
+    joined_unbroken (name_of_device stack dev.0) (codes ".records") (name_unbroken stack dev named (any_of is_mirror_kind stack dev has)) refl
 
 task_unbroken : (stack : Stack) (one : TaskId) → DevicesAreNamed stack → IsTask stack one → is_unbroken (task_word stack one) ≡ true
 task_unbroken stack (task.Writer number) named is = joined_unbroken (codes "w") (decimal number) refl (number_unbroken number (omega (arith, is.1)))
-task_unbroken stack (task.Rescuer dev) named is = joined_unbroken (codes "r:") (device_name stack dev) refl (name_unbroken stack dev named is.0)
+task_unbroken stack (task.Rescuer dev) named is = joined_unbroken (codes "r:") (name_of_device stack dev.0) refl (name_unbroken stack dev named is.0)
 task_unbroken stack (task.Completer disk) named is =
-    joined_unbroken (codes "c:") (device_name stack disk) refl (name_unbroken stack disk named (any_of is_disk_kind stack disk is.0))
+    joined_unbroken (codes "c:") (name_of_device stack disk.0) refl (name_unbroken stack disk named (any_of is_disk_kind stack disk is.0))
 task_unbroken stack task.Keeper named is = refl
 
 got_unbroken : (one : Got) → is_unbroken (got_word one) ≡ true

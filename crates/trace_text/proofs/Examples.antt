@@ -5,6 +5,7 @@ use Rattle.std.proofs.lemmas.Fmt.{decimal_digit}
 use Rattle.stack_base.specs.declared.ids.PoolId.TheVariants.{FsBios, FsVecs, Bios, Records}
 use Rattle.stack_base.specs.declared.ids.Status.TheVariants as status
 use Rattle.stack_base.specs.declared.stack.Stack.{Stack}
+use Rattle.stack_base.specs.Names.{name_of_device}
 use Rattle.run_machine.specs.declared.event.TaskId.TheVariants as task
 use Rattle.run_machine.specs.declared.event.Got.TheVariants as got
 use Rattle.run_machine.specs.declared.event.How.TheVariants as how
@@ -12,13 +13,13 @@ use Rattle.run_machine.specs.declared.event.End.TheVariants as end
 use Rattle.run_machine.specs.declared.event.What.TheVariants as what
 use Rattle.run_machine.proofs.cases.OneDisk.{a}
 use Rattle.run_machine.proofs.cases.OneMirror.{b, m}
-use Rattle.trace_text.specs.Lines.{line_of_event, device_name}
+use Rattle.trace_text.specs.Lines.{line_of_event}
 use Rattle.trace_text.specs.Reading.{long_of, plain_number, short_of}
 
 record AreNamed (stack : Stack) : Type 0 where
-  first : device_name stack a ≡ codes "a"
-  second : device_name stack b ≡ codes "b"
-  third : device_name stack m ≡ codes "m"
+  first : name_of_device stack a.0 ≡ codes "a"
+  second : name_of_device stack b.0 ≡ codes "b"
+  third : name_of_device stack m.0 ≡ codes "m"
 
 digit_0 : decimal 0 ≡ codes "0"
 digit_0 = decimal_digit 0 (omega arith)

@@ -6,9 +6,9 @@ use Rattle.std.specs.Str.{bytes_eq}
 use Rattle.std.proofs.lemmas.Bool.Decides.{nat_tests}
 use Rattle.stack_base.specs.declared.ids.DevId.{DevId}
 use Rattle.stack_base.specs.declared.stack.Stack.{Stack}
+use Rattle.stack_base.specs.Names.{name_of_device}
 use Rattle.decl_text.specs.Text.{is_name, is_name_byte, begins_with_letter}
 use Rattle.trace_text.specs.Names.{DevicesAreNamed, HasDevice, is_any}
-use Rattle.trace_text.specs.Lines.{device_name}
 use Rattle.trace_text.specs.Reading.{is_dot}
 use Rattle.trace_text.proofs.NameLemmas.{there, name_at}
 
@@ -52,7 +52,7 @@ name_word name is =
     }
 
 -- so of each device that a stack has
-pub name_is_word : (stack : Stack) (dev : DevId) → DevicesAreNamed stack → HasDevice is_any stack dev → IsNameWord (device_name stack dev)
+pub name_is_word : (stack : Stack) (dev : DevId) → DevicesAreNamed stack → HasDevice is_any stack dev → IsNameWord (name_of_device stack dev.0)
 name_is_word stack dev named has =
     let at = there is_any stack dev has in
     subst IsNameWord (sym (name_at stack dev at.0 at.1)) (name_word at.0.name.bytes (named.named dev.0 at.0 at.1))

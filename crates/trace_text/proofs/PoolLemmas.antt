@@ -14,8 +14,9 @@ use Rattle.stack_base.specs.declared.ids.DevId.{DevId}
 use Rattle.stack_base.specs.declared.ids.PoolId.{PoolId}
 use Rattle.stack_base.specs.declared.ids.PoolId.TheVariants.{FsBios, FsVecs, Bios, Records}
 use Rattle.stack_base.specs.declared.stack.Stack.{Stack}
+use Rattle.stack_base.specs.Names.{name_of_device}
 use Rattle.trace_text.specs.Names.{DevicesAreNamed, HasDevice, HasPool, is_stacked_kind, is_mirror_kind}
-use Rattle.trace_text.specs.Lines.{device_name, pool_word}
+use Rattle.trace_text.specs.Lines.{pool_word}
 use Rattle.trace_text.specs.Reading.{device_bios, device_of, device_pool, fs_pool, if_suits, is_dot, pool_named, pool_of, device_records}
 use Rattle.trace_text.proofs.NameLemmas.{any_of, device_takes, mapped_some, suited_again, suits_some}
 use Rattle.trace_text.proofs.NameWords.{IsNameWord, name_is_word}
@@ -45,11 +46,11 @@ cut_named stack name kept is =
     ∙ ap (λ k. pool_named stack name k) cut.1
     ∙ ap (λ own. cond own (fs_pool kept) (device_pool stack name kept)) is.own
 
-bios_again : (stack : Stack) (dev : DevId) → DevicesAreNamed stack → HasDevice is_stacked_kind stack dev → device_bios stack (device_name stack dev) ≡ Some (Bios dev)
+bios_again : (stack : Stack) (dev : DevId) → DevicesAreNamed stack → HasDevice is_stacked_kind stack dev → device_bios stack (name_of_device stack dev.0) ≡ Some (Bios dev)
 unfolding device_bios
 bios_again stack dev named has = ap (option_map Bios) (suited_again is_stacked_kind stack dev named has)
 
-records_again : (stack : Stack) (dev : DevId) → DevicesAreNamed stack → HasDevice is_mirror_kind stack dev → device_records stack (device_name stack dev) ≡ Some (Records dev)
+records_again : (stack : Stack) (dev : DevId) → DevicesAreNamed stack → HasDevice is_mirror_kind stack dev → device_records stack (name_of_device stack dev.0) ≡ Some (Records dev)
 unfolding device_records
 records_again stack dev named has = ap (option_map Records) (suited_again is_mirror_kind stack dev named has)
 
@@ -58,10 +59,10 @@ unfolding pool_of
 pool_again stack FsBios named has = refl
 pool_again stack FsVecs named has = refl
 pool_again stack (Bios dev) named has =
-    cut_named stack (device_name stack dev) (codes "bios") (name_is_word stack dev named (any_of is_stacked_kind stack dev has))
+    cut_named stack (name_of_device stack dev.0) (codes "bios") (name_is_word stack dev named (any_of is_stacked_kind stack dev has))
     ∙ bios_again stack dev named has
 pool_again stack (Records dev) named has =
-    cut_named stack (device_name stack dev) (codes "records") (name_is_word stack dev named (any_of is_mirror_kind stack dev has))
+    cut_named stack (name_of_device stack dev.0) (codes "records") (name_is_word stack dev named (any_of is_mirror_kind stack dev has))
     ∙ records_again stack dev named has
 
 bios_takes : (stack : Stack) (name : List ℕ) (pool : PoolId) → device_bios stack name ≡ Some pool → HasPool stack pool × (name ++ codes ".bios" ≡ pool_word stack pool)

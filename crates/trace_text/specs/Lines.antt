@@ -1,12 +1,10 @@
 -- The line of an event.
-use Rattle.std.specs.Prelude.{◌++◌, ℕ, List, [], ◌∷◌, codes, decimal, slice_get}
+use Rattle.std.specs.Prelude.{◌++◌, ℕ, List, [], ◌∷◌, codes, decimal}
 use Rattle.std.specs.List.{join_with_byte}
-use Rattle.std.specs.Option.{option_map_or}
-use Rattle.stack_base.specs.declared.ids.DevId.{DevId}
 use Rattle.stack_base.specs.declared.ids.PoolId.{PoolId}
 use Rattle.stack_base.specs.declared.ids.PoolId.TheVariants.{FsBios, FsVecs, Bios, Records}
-use Rattle.stack_base.specs.declared.stack.Device.{Device}
 use Rattle.stack_base.specs.declared.stack.Stack.{Stack}
+use Rattle.stack_base.specs.Names.{name_of_device}
 use Rattle.run_machine.specs.declared.event.TaskId.{TaskId}
 use Rattle.run_machine.specs.declared.event.TaskId.TheVariants as task
 use Rattle.run_machine.specs.declared.event.Got.{Got}
@@ -37,20 +35,16 @@ end_word end.Left = codes "left"
 end_word end.Up = codes "up"
 end_word end.Top = codes "top"
 
--- the name of a device
-abbrev pub device_name : Stack → DevId → List ℕ
-device_name stack dev = option_map_or (λ (device : Device). device.name.bytes) (slice_get stack.devices.items dev.0) []
-
 abbrev pub pool_word : Stack → PoolId → List ℕ
 pool_word stack FsBios = codes "fs.bios"
 pool_word stack FsVecs = codes "fs.vecs"
-pool_word stack (Bios dev) = device_name stack dev ++ codes ".bios"
-pool_word stack (Records dev) = device_name stack dev ++ codes ".records"
+pool_word stack (Bios dev) = name_of_device stack dev.0 ++ codes ".bios"
+pool_word stack (Records dev) = name_of_device stack dev.0 ++ codes ".records"
 
 abbrev pub task_word : Stack → TaskId → List ℕ
 task_word stack (task.Writer number) = codes "w" ++ decimal number
-task_word stack (task.Rescuer dev) = codes "r:" ++ device_name stack dev
-task_word stack (task.Completer disk) = codes "c:" ++ device_name stack disk
+task_word stack (task.Rescuer dev) = codes "r:" ++ name_of_device stack dev.0
+task_word stack (task.Completer disk) = codes "c:" ++ name_of_device stack disk.0
 task_word stack task.Keeper = codes "k"
 
 -- what a task did, in words
@@ -58,11 +52,11 @@ abbrev pub what_words : Stack → What → List (List ℕ)
 what_words stack (what.Take pool got) = codes "take" ∷ pool_word stack pool ∷ got_word got ∷ []
 what_words stack (what.Try pool got) = codes "try" ∷ pool_word stack pool ∷ got_word got ∷ []
 what_words stack (what.Give pool) = codes "give" ∷ pool_word stack pool ∷ []
-what_words stack (what.Punt dev moved) = codes "punt" ∷ device_name stack dev ∷ decimal moved ∷ []
-what_words stack (what.Pop dev) = codes "pop" ∷ device_name stack dev ∷ []
+what_words stack (what.Punt dev moved) = codes "punt" ∷ name_of_device stack dev.0 ∷ decimal moved ∷ []
+what_words stack (what.Pop dev) = codes "pop" ∷ name_of_device stack dev.0 ∷ []
 what_words stack (what.Push disk at len leg) =
-    codes "push" ∷ device_name stack disk ∷ decimal at ∷ decimal len ∷ codes "leg" ∷ decimal leg ∷ []
-what_words stack (what.Complete disk index status) = codes "complete" ∷ device_name stack disk ∷ decimal index ∷ status_word status ∷ []
+    codes "push" ∷ name_of_device stack disk.0 ∷ decimal at ∷ decimal len ∷ codes "leg" ∷ decimal leg ∷ []
+what_words stack (what.Complete disk index status) = codes "complete" ∷ name_of_device stack disk.0 ∷ decimal index ∷ status_word status ∷ []
 what_words stack (what.Link writer how node) = codes "link" ∷ decimal writer ∷ how_word how ∷ decimal node ∷ []
 what_words stack (what.Drop writer node status end) =
     codes "drop" ∷ decimal writer ∷ decimal node ∷ status_word status ∷ end_word end ∷ []

@@ -1,6 +1,7 @@
 //! Writes events.
 ghost use Rattle.std.specs.Prelude.{◌≡◌, ◌+◌, ◌≤◌, ◌++◌, ◌∷◌, [], codes, decimal, length};
-ghost use Rattle.trace_text.specs.Lines.{end_word, how_word, line_of_event, device_name, pool_word, task_word, what_words};
+ghost use Rattle.trace_text.specs.Lines.{end_word, how_word, line_of_event, pool_word, task_word, what_words};
+ghost use Rattle.stack_base.specs.Names.{name_of_device};
 ghost use Rattle.trace_text.specs.Writing.{spaced};
 ghost use Rattle.run_machine.specs.declared.event.What.TheVariants as what;
 ghost use Rattle.run_machine.specs.StatusWords.{status_word};
@@ -46,7 +47,7 @@ fn put_number(into: &mut LineBytes, number: u64)
 
 // The name of a device, and nothing where there is no such device.
 fn device_name(stack: &Stack, dev: DevId) -> &[u8]
-    ensures name { result.now ≡ device_name stack.now dev }
+    ensures name { result.now ≡ name_of_device stack.now dev.0 }
     ensures short { length result.now ≤ 16 }
 {
     match stack.devices.get(dev.0 as usize) {
@@ -58,7 +59,7 @@ fn device_name(stack: &Stack, dev: DevId) -> &[u8]
 // A blank and the name of a device.
 fn put_device(into: &mut LineBytes, stack: &Stack, dev: DevId)
     requires { length into.old.items ≤ 111 }
-    ensures items { into.new.items ≡ into.old.items ++ 32 ∷ device_name stack.now dev }
+    ensures items { into.new.items ≡ into.old.items ++ 32 ∷ name_of_device stack.now dev.0 }
     ensures len { length into.new.items ≤ length into.old.items + 17 }
 {
     put(into, device_name(stack, dev));

@@ -3,8 +3,8 @@ use Rattle.std.proofs.Common.{ℕ, List, ◌∙◌, ap, subst}
 use Rattle.outside_io.specs.Saying.{Says}
 use Rattle.outside_io.proofs.SaysLemmas.{says_then}
 use Rattle.stack_base.specs.declared.ids.DevId.{DevId}
+use Rattle.stack_base.specs.Names.{name_of_device}
 use Rattle.model_disks.specs.Runs.{written_runs}
-use Rattle.report_text.specs.Pools.{name_of_device}
 use Rattle.report_text.specs.Report.{disk_line, run_lines}
 use Rattle.report_text.proofs.images.disk_lines.Goals as goal
 
