@@ -54,13 +54,13 @@ drop_outcome_of (dropped.Up node) = ended.Up (closed_node_of node)
 drop_outcome_of (dropped.Top node) = ended.Top (closed_node_of node)
 drop_outcome_of (dropped.Stray part) = ended.Stray (bio_of part)
 
--- each bio that is handed out is in no list
+-- each bio that came back of a call that opens a node is in no list; where the node was made, nothing came back
 abbrev pub IsLinkAlone : Link → Type 0
 IsLinkAlone (link.Made place) = Unit {0}
 IsLinkAlone (link.NoRoom back) = IsAlonePart back.bio
 IsLinkAlone (link.Stray back) = IsAlonePart back.bio
 
--- what came back of a drop has a bio that stands in no list
+-- each bio that came back of a drop, alone or in what a closed node held, is in no list; of `Left` nothing came back
 abbrev pub IsDroppedAlone : Dropped → Type 0
 IsDroppedAlone dropped.Left = Unit {0}
 IsDroppedAlone (dropped.Up node) = IsAlonePart node.held.bio
