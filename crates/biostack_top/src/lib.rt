@@ -51,8 +51,9 @@ fn end<E: Sink>(ending: Ending, errors: &mut E) -> Exit
 /// The status is 0 where the whole text was written, 1 where it was but some write that `Run` ran did not end well,
 /// `Scrub` found a sector that is unlike or `Replay` a bad line, 3 where the scenario is refused, 4 where the source
 /// failed, 5 where the output did, and 6 where there was no memory for reading, for the text of a number, for the
-/// fragments of a layout, for opening the scenario or for a replay. With 3, 4 and 6 nothing was written, and behind a fault of the output nothing more was. `errors`
-/// gets the line of the status. A fault of `errors` changes nothing else: it has a front of the line then.
+/// fragments of a layout, for opening the scenario or for a replay. With 3, 4 and 6 nothing was written, and behind a
+/// fault of the output nothing more was. `errors` gets the line of the status. A fault of `errors` changes nothing
+/// else: it has a front of the line then.
 pub fn serve_alone<S: Source, K: Sink, E: Sink>(
     alloc: Global,
     order: &Order,

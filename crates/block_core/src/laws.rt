@@ -24,17 +24,20 @@ ghost use Rattle.block_core.specs.Sound.{EveryRunIsSound};
 ghost use Rattle.block_core.specs.Stuck.{EachRunGoesOnOrHasEnded, NoAllowedStateIsStuck};
 ghost use Rattle.block_core.specs.Values.{NodesAreValued};
 
-/// After every event of every run of every scenario the state is sound: each pool adds up, is not past the entries of its script, and has as many
-/// elements out as there are in tasks' hands and lists, in rescue lists, disks and nodes. Each open node waits for at least one end, and for just its
-/// children or legs and its own part, which was dropped or is in one place; nothing refers to a place at which no node is open. A node keeps what the
-/// run told it of how these ended, and only what it may by the run of the bio that it was opened for; what is still to come to it ends so too, and
-/// where that run is decided, it keeps what decides it, or that still comes. What nodes hold, and what is left of closed ones, is of pools whose numbers rise from each node to its parent. Bios stand in lists in
-/// the order of their sets and devices; where each mirror of two members or more has a rescuer, no task waits for a bio of a set of which it has one
-/// in its lists, and bios wait for rescuers only where there are some. Each fragment was completed or is still to come, once; bios have the data of
-/// their places, those that mirrors copy too, and disks that of the completed fragments. The tally has the number of unfinished writes of each round,
-/// none of an earlier round is unfinished, and nothing is begun of a later one. Each book has a place for every node that is open there or that its
-/// writer's writes still open. What tasks have in hand is of the pools that they asked, and a bio that a completer brings is of its disk and has the
-/// end of its fragment.
+/// After every event of every run of every scenario the state is sound: each pool adds up, is not past the entries of
+/// its script, and has as many elements out as there are in tasks' hands and lists, in rescue lists, disks and nodes.
+/// Each open node waits for at least one end, and for just its children or legs and its own part, which was dropped or
+/// is in one place; nothing refers to a place at which no node is open. A node keeps what the run told it of how these
+/// ended, and only what it may by the run of the bio that it was opened for; what is still to come to it ends so too,
+/// and where that run is decided, it keeps what decides it, or that still comes. What nodes hold, and what is left of
+/// closed ones, is of pools whose numbers rise from each node to its parent. Bios stand in lists in the order of their
+/// sets and devices; where each mirror of two members or more has a rescuer, no task waits for a bio of a set of which
+/// it has one in its lists, and bios wait for rescuers only where there are some. Each fragment was completed or is
+/// still to come, once; bios have the data of their places, those that mirrors copy too, and disks that of the
+/// completed fragments. The tally has the number of unfinished writes of each round, none of an earlier round is
+/// unfinished, and nothing is begun of a later one. Each book has a place for every node that is open there or that its
+/// writer's writes still open. What tasks have in hand is of the pools that they asked, and a bio that a completer
+/// brings is of its disk and has the end of its fragment.
 pub fn every_run_is_sound()
     ensures { EveryRunIsSound }
 {}
@@ -92,8 +95,9 @@ pub fn events_have_charges()
     ensures later { EventsUseUpCharges }
 {}
 
-/// How many things pay for events the layout tells: of the elements that all writes need, their own bios, their vectors, the records of mirrors, and the
-/// bios of first pieces and of legs; and the fragments. So of each kind of event no run of any scenario has more than there are of what pays for it.
+/// How many things pay for events the layout tells: of the elements that all writes need, their own bios, their
+/// vectors, the records of mirrors, and the bios of first pieces and of legs; and the fragments. So of each kind of
+/// event no run of any scenario has more than there are of what pays for it.
 pub fn each_kind_is_within_its_payers()
     ensures counted { PayersAreCounted }
     ensures kinds { EachKindIsWithinItsPayers }

@@ -5,8 +5,8 @@ ghost use Rattle.decl_text.specs.Places.{IsNextLine, IsNextOfFront, StaysAtEnd};
 
 use std::marker::Model;
 
-/// The lines of a text from a place on, which is the first byte of a line, or the end. A line is cut by a small function, and not by std's `split`: its
-/// clause says what one cut leaves, where std's says what a whole run yields.
+/// The lines of a text from a place on, which is the first byte of a line, or the end. A line is cut by a small
+/// function, and not by std's `split`: its clause says what one cut leaves, where std's says what a whole run yields.
 #[derive(Drop)]
 pub struct Lines<'a> {
     text: &'a [u8],

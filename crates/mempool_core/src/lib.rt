@@ -84,8 +84,8 @@ struct Counts {
 /// A pool of elements with bodies of one type. It keeps the allocator that it was made with, so a take is handed none, and a refusal by real memory
 /// is a spare or a miss, never an error.
 ///
-/// What is out of it is the total of its ledger, whoever has the elements. Contracts see it as its ledger, its state and the most that its reserve may
-/// be; the state is plain data without the others, for a larger machine.
+/// What is out of it is the total of its ledger, whoever has the elements. Contracts see it as its ledger, its state
+/// and the most that its reserve may be; the state is plain data without the others, for a larger machine.
 pub struct Pool<P: Fresh + Drop> {
     alloc: Global,
     ledger: Ledger,

@@ -90,8 +90,8 @@ impl<'d> Pair<'d> {
         self.size
     }
 
-    // The first sector at or behind `from` that they show with the same words, or the size where there is none. `from` is in the stretch, which begins at
-    // `at`, or right behind it.
+    // The first sector at or behind `from` that they show with the same words, or the size where there is none. `from`
+    // is in the stretch, which begins at `at`, or right behind it.
     #[inline(always)]
     fn end(&self, at: u64, stretch: &Stretch, from: u64) -> u64
         requires pair { IsPair self.now }

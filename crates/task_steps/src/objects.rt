@@ -81,11 +81,12 @@ pub enum Unmade {
 /// may need a ticket that it cannot get: it changes nothing then, but for a take, whose element goes back, and hands back what it was handed. Plain
 /// objects always answer.
 ///
-/// What they tell of a call (`serves`) and what they owe for it are two clauses: the first is theirs to define, as the machine's relation or a seat's
-/// history. The second is one definition for all: a reply that answers the request, with elements that are at home in them. Which bio a disk completes is told by the chooser's own relation and by theirs (`chooses`,
-/// `picks`), so that a run by a stream of words can say which index each word gave. How many bios wait, of which the chooser is told, is what the
-/// first look of a completion found (`finds`). They may also tell that none was left when the disk was asked again, for disks that others use; the
-/// objects of one thread never do.
+/// What they tell of a call (`serves`) and what they owe for it are two clauses: the first is theirs to define, as the
+/// machine's relation or a seat's history. The second is one definition for all: a reply that answers the request, with
+/// elements that are at home in them. Which bio a disk completes is told by the chooser's own relation and by theirs
+/// (`chooses`, `picks`), so that a run by a stream of words can say which index each word gave. How many bios wait, of
+/// which the chooser is told, is what the first look of a completion found (`finds`). They may also tell that none was
+/// left when the disk was asked again, for disks that others use; the objects of one thread never do.
 pub trait Objects {
     /// Which objects there are, and which ledger each pool has.
     ghost stage: { Self → Stage };
