@@ -1,3 +1,4 @@
+pub mod References
 pub mod Moves
 pub mod PaidKinds
 pub mod Sums

@@ -21,7 +21,7 @@ use Rattle.run_machine.specs.Opened.{Scenario, scene, start}
 use Rattle.run_machine.specs.Runs.{State, IsRun}
 use Rattle.block_core.specs.Payers.{Payer, WriteBio, WriteVector, Record, PieceBio, Fragment, ScriptEntry, LaterRound, ReserveChange, payer_at, Paid, MissesAtOnce, IsPunted, IsTaken, IsLinked, IsPopped, IsCompleted, EndsItself, EndsForParent, IsGiven, IsDone, cost, unit_price}
 use Rattle.block_core.specs.Touches.{is_master, none_was}
-use Rattle.block_core.specs.Weights.{Weight, Spot, Lined, Rescued, Pending, Brought, sum_at, total, weigh_option, legs_left, no_weight}
+use Rattle.block_core.specs.Weights.{Weight, Spot, Lined, Rescued, Pending, Brought, sum_at, total_weight, weigh_option, legs_left, no_weight}
 use Rattle.block_core.specs.Scenarios.{IsScenario, IsNaming}
 
 -- what begins at sector s of a run that starts at r, here and below: at a disk a fragment is pushed and completed, where the run starts;
@@ -169,7 +169,7 @@ pool_number_bound = 66
 
 abbrev pub charged : (Paid → ℕ) → (ℕ → Bool) → Scene → State → ℕ
 charged price was_master scene s =
-    total scene (charge price was_master scene.setup) s + cost price ScriptEntry * sum_at (λ number pool. entries_left pool) pool_number_bound s.objects.pool
+    total_weight scene (charge price was_master scene.setup) s + cost price ScriptEntry * sum_at (λ number pool. entries_left pool) pool_number_bound s.objects.pool
     + sum_at (λ place task. task_charge price task) scene.tasks s.task
 
 abbrev pub spent_charges : (Paid → ℕ) → Scene → State → ℕ

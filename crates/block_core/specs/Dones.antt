@@ -9,7 +9,7 @@ use Rattle.run_machine.specs.Opened.{Scenario, scene, start}
 use Rattle.run_machine.specs.Runs.{State, Happens, IsRun, unfinished}
 use Rattle.block_core.specs.Scenarios.{IsScenario, IsNaming}
 use Rattle.block_core.specs.Rounds.{round_of, unfinished_of}
-use Rattle.block_core.specs.Weights.{Weight, total, one}
+use Rattle.block_core.specs.Weights.{Weight, total_weight, one}
 
 -- how often events tell a write done
 abbrev pub done_in : ℕ → What → ℕ
@@ -31,7 +31,7 @@ unfinished_write write = unfinished_of (λ number. one number write)
 
 -- a write is unfinished until it is told done: it is the one or was the other, once
 abbrev pub DoneOrUnfinished : Scenario → (ℕ → LedgerId) → List Event → State → Type 0
-DoneOrUnfinished s ledger events state = (write : ℕ) → write < length s.writes → times_done write events + total (scene s ledger) (unfinished_write write) state ≡ 1
+DoneOrUnfinished s ledger events state = (write : ℕ) → write < length s.writes → times_done write events + total_weight (scene s ledger) (unfinished_write write) state ≡ 1
 
 -- the tally has the status with which each was told done
 abbrev pub StatusesAreTold : List Event → State → Type 0

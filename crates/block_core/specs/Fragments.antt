@@ -17,7 +17,7 @@ use Rattle.run_machine.specs.Submissions.{rests}
 use Rattle.run_machine.specs.Tasks.{Todo, TaskState, Writer, Rescuer, Completer, Keeper}
 use Rattle.run_machine.specs.Opened.{Scenario, scene, start, setup, todos}
 use Rattle.run_machine.specs.Runs.{State, IsRun, HasEnded}
-use Rattle.block_core.specs.Weights.{Weight, Spot, Lined, Rescued, Pending, Brought, total, legs_left, no_weight}
+use Rattle.block_core.specs.Weights.{Weight, Spot, Lined, Rescued, Pending, Brought, total_weight, legs_left, no_weight}
 use Rattle.block_core.specs.Scenarios.{IsScenario, IsNaming}
 
 -- the place of a bio's first sector in its write
@@ -78,7 +78,7 @@ planned s = flat_map (todo_fragments (setup s)) (todos s)
 abbrev pub FragmentsAddUp : Type 0
 FragmentsAddUp = (s : Scenario) (ledger : ℕ → LedgerId) (events : List Event) (state : State) → IsScenario s → IsNaming ledger
     → (run : IsRun (scene s ledger) (start s) events state) (value : Fragment → ℕ)
-    → sum_by value (completed (scene s ledger) (start s) events state run) + total (scene s ledger) (to_come (setup s) value) state
+    → sum_by value (completed (scene s ledger) (start s) events state run) + total_weight (scene s ledger) (to_come (setup s) value) state
     ≡ sum_by value (planned s)
 
 -- how often a fragment is among these

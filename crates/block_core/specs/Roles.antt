@@ -12,7 +12,7 @@ use Rattle.run_machine.specs.Tasks.{Completer, Carries}
 use Rattle.run_machine.specs.Runs.{State}
 use Rattle.block_core.specs.EachBio.{EachBio, EachCopied}
 use Rattle.block_core.specs.Touches.{is_master}
-use Rattle.block_core.specs.Weights.{Weight, total, one, names_node, under, legs_left, no_weight}
+use Rattle.block_core.specs.Weights.{Weight, total_weight, one, names_node, under, legs_left, no_weight}
 
 abbrev pub is_leg : Role → Bool
 is_leg role.Top = false
@@ -62,8 +62,8 @@ IsUnderOpen state writer parent leg = (above : Node) × (node_at (state.objects.
 pub record HasRoles (scene : Scene) (was_master : ℕ → Bool) (state : State) : Type 0 where
   -- each open node waits for just its parts, and its own part is in one place or was dropped
   pub waits : (writer place : ℕ) (node : Node) → node_at (state.objects.book writer) place ≡ Some node
-      → WaitsForParts (is_master node.role) node.held.bio node.count (total scene (named writer place) state) (total scene (masters was_master writer place) state)
-      (total scene (children was_master writer place) state) (total scene (legs_to_make scene.setup writer place) state)
+      → WaitsForParts (is_master node.role) node.held.bio node.count (total_weight scene (named writer place) state) (total_weight scene (masters was_master writer place) state)
+      (total_weight scene (children was_master writer place) state) (total_weight scene (legs_to_make scene.setup writer place) state)
   -- Nothing refers to a place at which no node is open: each bio at work names an open node that is no master, and the node under which a mirror
   -- copies a bio is an open master;
   pub bios : EachBio (λ item. IsUnderOpen state item.bio.writer item.bio.node false) scene state

@@ -11,7 +11,7 @@ use Rattle.run_machine.specs.Scene.{Setup, Scene, tree_at}
 use Rattle.run_machine.specs.Tasks.{Todo}
 use Rattle.run_machine.specs.Opened.{Scenario, scene, start}
 use Rattle.run_machine.specs.Runs.{State, IsRun}
-use Rattle.block_core.specs.Weights.{Weight, Spot, Lined, Rescued, Pending, Brought, total, one, legs_left, no_weight}
+use Rattle.block_core.specs.Weights.{Weight, Spot, Lined, Rescued, Pending, Brought, total_weight, one, legs_left, no_weight}
 use Rattle.block_core.specs.Scenarios.{IsScenario, IsNaming}
 
 -- the nodes that a bio at its device still needs
@@ -51,7 +51,7 @@ pub record HasRoomInBooks (scene : Scene) (state : State) : Type 0 where
   -- a book has the places that it was made with
   pub places : (writer : ℕ) → length (state.objects.book writer).nodes ≡ scene.setup.places writer
   -- all that its writer's writes have open and have still to open find a place there
-  pub room : (writer : ℕ) → total scene (room scene.setup writer) state ≤ scene.setup.places writer
+  pub room : (writer : ℕ) → total_weight scene (room scene.setup writer) state ≤ scene.setup.places writer
 
 -- after every event of every run of every scenario
 abbrev pub BooksHaveRoom : Type 0

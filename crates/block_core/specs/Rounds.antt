@@ -5,7 +5,7 @@ use Rattle.bio_books.specs.declared.node.Role.TheVariants as role
 use Rattle.run_machine.specs.Scene.{Scene}
 use Rattle.run_machine.specs.Tasks.{Todo, Gathered, NoBio, HasBio, HasBoth}
 use Rattle.run_machine.specs.Runs.{State}
-use Rattle.block_core.specs.Weights.{Weight, total, one, no_weight}
+use Rattle.block_core.specs.Weights.{Weight, total_weight, one, no_weight}
 pub use Rattle.layout_model.specs.Laid.{round_of}
 
 -- 1 where a write is of this round
@@ -54,8 +54,8 @@ begun_of worth = by_stage (gathered_worth worth) worth
 
 pub record RoundsAreTallied (rounds : List ℕ) (scene : Scene) (state : State) : Type 0 where
   -- the tally has the number of unfinished writes of each round
-  pub left : (round : ℕ) → slice_index_or state.objects.tally.left round 0 ≡ total scene (unfinished_of (is_of_round rounds round)) state
+  pub left : (round : ℕ) → slice_index_or state.objects.tally.left round 0 ≡ total_weight scene (unfinished_of (is_of_round rounds round)) state
   -- no write of an earlier round than the present one is unfinished
   pub past : (round : ℕ) → round < state.objects.tally.round → slice_index_or state.objects.tally.left round 0 ≡ 0
   -- and nothing is begun of a later one
-  pub later : (round : ℕ) → state.objects.tally.round < round → total scene (begun_of (is_of_round rounds round)) state ≡ 0
+  pub later : (round : ℕ) → state.objects.tally.round < round → total_weight scene (begun_of (is_of_round rounds round)) state ≡ 0

@@ -13,7 +13,7 @@ use Rattle.run_machine.specs.declared.event.Event.{Event}
 use Rattle.run_machine.specs.Opened.{Scenario, scene, start, setup}
 use Rattle.run_machine.specs.Runs.{State, IsRun}
 use Rattle.block_core.specs.Scenarios.{IsScenario, IsNaming}
-use Rattle.block_core.specs.Weights.{total, elements_of_pool}
+use Rattle.block_core.specs.Weights.{total_weight, elements_of_pool}
 use Rattle.block_core.specs.EachBio.{EachBio, EachCopied}
 use Rattle.block_core.specs.Fragments.{completed, to_come, is_it, fragment_count, IsOfScenario}
 use Rattle.block_core.specs.Hands.{HandsAreRight}
@@ -36,7 +36,7 @@ pub record IsSound (s : Scenario) (ledger : ℕ → LedgerId) (events : List Eve
   pub pools : (number : ℕ) → AddsUp (state.objects.pool number).facts
   pub positions : (number : ℕ) → (state.objects.pool number).facts.pos ≤ entries_of (state.objects.pool number).script
   -- what is out of each pool is in the tasks' hands, lists and bios at work, in rescue lists, in disks and in nodes, and nowhere else
-  pub outs : (number : ℕ) → (state.objects.pool number).facts.out ≡ total (scene s ledger) (elements_of_pool number) state
+  pub outs : (number : ℕ) → (state.objects.pool number).facts.out ≡ total_weight (scene s ledger) (elements_of_pool number) state
   -- an open node waits for at least one end, so the last of them closes it
   pub alive : (writer place : ℕ) (node : Node) → node_at (state.objects.book writer) place ≡ Some node → 1 ≤ node.count
   -- these are by its role its children or legs, the legs that are still to be made, and its own part, which was dropped or is in one place; nothing
@@ -54,8 +54,8 @@ pub record IsSound (s : Scenario) (ledger : ℕ → LedgerId) (events : List Eve
   pub waits : HasRescuers s.stack → NoneWaitsForItself (scene s ledger) state
   -- each fragment of each write was completed or is still to come, once, and no other; and each bio has the data of its place, one that a mirror copies too
   pub fragments : (f : Fragment) → IsOfScenario s f
-      → fragment_count f (completed (scene s ledger) (start s) events state run) + total (scene s ledger) (to_come (setup s) (is_it f)) state ≡ 1
-  pub others : (f : Fragment) → 0 < fragment_count f (completed (scene s ledger) (start s) events state run) + total (scene s ledger) (to_come (setup s) (is_it f)) state
+      → fragment_count f (completed (scene s ledger) (start s) events state run) + total_weight (scene s ledger) (to_come (setup s) (is_it f)) state ≡ 1
+  pub others : (f : Fragment) → 0 < fragment_count f (completed (scene s ledger) (start s) events state run) + total_weight (scene s ledger) (to_come (setup s) (is_it f)) state
       → IsOfScenario s f
   pub words : EachBio (λ item. HasItsWord s item.bio) (scene s ledger) state
   pub copied : EachCopied (λ bio master. HasItsWord s bio) (scene s ledger) state

@@ -3,7 +3,7 @@ use Rattle.std.specs.Prelude.{◌+◌, ◌-◌, ◌*◌, ◌==◌, if◌then◌e
 use Rattle.bio_records.specs.declared.bio.Bio.{Bio}
 use Rattle.bio_records.specs.declared.bio.Pad.{Pad}
 use Rattle.bio_records.specs.Items.{Item}
-use Rattle.bio_books.specs.Books.{Node, BookState, VectorItem, SlipItem, Holding, node_at, parent_of}
+use Rattle.bio_books.specs.Books.{Node, BookState, VectorItem, SlipItem, Holding, node_at}
 use Rattle.bio_books.specs.Drops.{Closed}
 use Rattle.model_disks.specs.Disks.{DiskState}
 use Rattle.run_machine.specs.Scene.{Setup, Scene, tree_at}
@@ -100,8 +100,9 @@ task_weight w place (Keeper keeping) = 0
 abbrev pub book_weight : Weight → ℕ → BookState → ℕ
 book_weight w writer book = sum_at (λ place. weigh_option (w.node writer place)) (length book.nodes) (node_at book)
 
-abbrev pub total : Scene → Weight → State → ℕ
-total scene w s =
+-- the sum of the weights of all places of a state
+abbrev pub total_weight : Scene → Weight → State → ℕ
+total_weight scene w s =
     sum_at (task_weight w) scene.tasks s.task
     + sum_at (λ dev bios. sum_by (w.bio Rescued) bios) scene.setup.count s.objects.rescue
     + sum_at (λ dev (disk : DiskState). sum_by (w.bio Pending) disk.pending) scene.setup.count s.objects.disk
@@ -126,26 +127,15 @@ elements_of_pool p = record {
   closed = λ task writer closed. holding_elements p closed.held;
 }
 
--- the references to the node at place k of writer w's book: bios that name it, nodes right under it, and the legs that are still to be made
--- where it is a master
+-- 1 where the bio names the node at place k of writer w's book
 abbrev pub names_node : ℕ → ℕ → Item Pad → ℕ
 names_node w k bio = one bio.bio.writer w * one bio.bio.node k
 
+-- 1 where the node is the parent of one of this writer
 abbrev pub under : ℕ → ℕ → ℕ → Option ℕ → ℕ
 under w k writer None = 0
 under w k writer (Some parent) = one writer w * one parent k
 
+-- the legs of a bio's device that are still to be made, from this one on
 abbrev pub legs_left : Setup → Bio → ℕ → ℕ
 legs_left setup bio leg = legs_of (tree_at setup bio.dev) - leg
-
-abbrev pub refs : Setup → ℕ → ℕ → Weight
-refs setup w k = record no_weight {
-  bio = λ spot. names_node w k;
-  copy = λ bio master leg. one bio.writer w * one master k * legs_left setup bio leg;
-  node = λ writer place node. under w k writer (parent_of node.role);
-  closed = λ task writer closed. under w k writer closed.parent;
-}
-
-abbrev pub count_of : Option Node → ℕ
-count_of None = 0
-count_of (Some node) = node.count

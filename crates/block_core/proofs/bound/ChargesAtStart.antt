@@ -12,7 +12,7 @@ use Rattle.block_core.specs.Paying.{write_cost, all_costs}
 use Rattle.layout_model.proofs.RangeSums.{sum_next}
 use Rattle.run_machine.specs.Tasks.{Duty, Resizes, Starts, Keeps, Keeper, Todo, NoBio}
 use Rattle.block_core.specs.Touches.{none_was}
-use Rattle.block_core.specs.Weights.{total, sum_at}
+use Rattle.block_core.specs.Weights.{total_weight, sum_at}
 use Rattle.block_core.specs.Charges.{write_charge, todo_charge, charge, duty_charge, task_charge, task_spent, entries_left, charged, spent_charges}
 use Rattle.block_core.proofs.moves.Sums.{same_or_not}
 use Rattle.std.specs.Prelude.{zip, find}
@@ -122,7 +122,7 @@ module _ (s : Scenario) (good : IsScenario s) (ledger : ℕ → LedgerId) where
         grouped (λ (todo : Todo). todo.write.task) (write_charge price (setup_in s)) 8 (todos s) in
         omega (arith, a, b, c, d, todos_charge)
 
-    total_charge : total (scene s ledger) (charge price none_was (setup_in s)) (start s) ≤ sum_by (write_cost price s.stack) s.writes
+    total_charge : total_weight (scene s ledger) (charge price none_was (setup_in s)) (start s) ≤ sum_by (write_cost price s.stack) s.writes
     total_charge = omega (arith, worth_at_start s good ledger (charge price none_was (setup_in s)), writers_charge)
 
   -- the entries of all scripts

@@ -30,7 +30,8 @@ use Rattle.run_machine.specs.Submissions.{Submission}
 use Rattle.run_machine.specs.Tasks.{TaskState, Writer, Rescuer, Completer, Keeper, Todo, Gathered, NoBio, HasBio, HasBoth, Duty, Resizes, Starts, Empty, Brings, Carries, Fails}
 use Rattle.run_machine.specs.Opened.{Scenario, scene, start, todos, duties, keepers, setup as setup_in, writers}
 use Rattle.run_machine.specs.Runs.{State, IsRun}
-use Rattle.block_core.specs.Weights.{Weight, Rescued, Pending, total, one, weigh_option, task_weight, book_weight, gathered_weight, elements_of_pool, refs, under}
+use Rattle.block_core.specs.Weights.{Weight, Rescued, Pending, total_weight, one, weigh_option, task_weight, book_weight, gathered_weight, elements_of_pool, under}
+use Rattle.block_core.proofs.moves.References.{references}
 use Rattle.block_core.specs.Charges.{task_duties, duties_left}
 use Rattle.block_core.specs.Exact.{is_miss, NoneMissed, all_nodes, all_below, starts_round, StepsWithoutMisses}
 use Rattle.block_core.specs.Fragments.{todo_fragments, HasNone, NothingComes}
@@ -67,16 +68,16 @@ use Rattle.layout_model.proofs.RangeSums.{sum_of_zero, sum_of_one}
 -- all that a state is known to have
 pub record Exactly (scene : Scene) (s : State) : Type 0 where
   pub whole : Whole scene s
-  pub counted : total scene (misfits over) s ≡ 0
-  pub held : total scene odd s ≡ 0
+  pub counted : total_weight scene (misfits over) s ≡ 0
+  pub held : total_weight scene odd s ≡ 0
   pub none : NonePunts s
 
 module _ (scene : Scene) (f : Fair scene) (g : Ground scene.setup) (p : Needs scene.setup) (v : Divided scene.setup one_each) where
   pub runs_take : (s : State) (events : List Event) (new : State) → Exactly scene s → IsRun scene s events new → NoneMissed events
-      → length events + total scene (due scene.setup) new + total scene in_hand s + duties_left scene new
-      ≡ total scene (due scene.setup) s + total scene in_hand new + duties_left scene s
+      → length events + total_weight scene (due scene.setup) new + total_weight scene in_hand s + duties_left scene new
+      ≡ total_weight scene (due scene.setup) s + total_weight scene in_hand new + duties_left scene s
   runs_take s [] new e run all =
-      omega (arith, ap (total scene (due scene.setup)) run, ap (total scene in_hand) run, ap (duties_left scene) run)
+      omega (arith, ap (total_weight scene (due scene.setup)) run, ap (total_weight scene in_hand) run, ap (duties_left scene) run)
   runs_take s (event ∷ events) new e (next, (place, steps), run) all =
       let i = e.whole in
       let moved = step_is_move scene s f i.kept place event next steps in
@@ -85,15 +86,15 @@ module _ (scene : Scene) (f : Fair scene) (g : Ground scene.setup) (p : Needs sc
       let one_less = takes_one scene s f g p v i.kept i.placed e.counted e.held moved.move moved.can h in
       let after_is : Exactly scene next = record {
         whole = step_whole scene f g s place event next i steps;
-        counted = ap (total scene (misfits over)) moved.is ∙ no_misfits over over_follows scene s i.kept e.counted moved.move moved.can;
-        held = ap (total scene odd) moved.is ∙ none_odd scene s i.kept e.held moved.move moved.can;
+        counted = ap (total_weight scene (misfits over)) moved.is ∙ no_misfits over over_follows scene s i.kept e.counted moved.move moved.can;
+        held = ap (total_weight scene odd) moved.is ∙ none_odd scene s i.kept e.held moved.move moved.can;
         none = subst NonePunts (sym moved.is) (still_none scene s e.none moved.move moved.can h);
       } in
       omega (
         arith,
         one_less,
-        ap (total scene (due scene.setup)) moved.is,
-        ap (total scene in_hand) moved.is,
+        ap (total_weight scene (due scene.setup)) moved.is,
+        ap (total_weight scene in_hand) moved.is,
         ap (duties_left scene) moved.is,
         runs_take next events new after_is run (All-tail (λ (event : Event). is_miss event.what ≡ false) event events all),
       )
@@ -157,7 +158,7 @@ module _ (s : Scenario) (good : IsScenario s) (ledger : ℕ → LedgerId) where
         table ws,
       )
 
-  due_at_start : total (scene s ledger) (due (setup_in s)) (start s) ≡ sum_by write_parts s.writes
+  due_at_start : total_weight (scene s ledger) (due (setup_in s)) (start s) ≡ sum_by write_parts s.writes
   due_at_start =
       opened_total s good ledger (due (setup_in s)) (write_due (setup_in s)) (λ n ts. later ts)
       ∙ (all_sum (λ (todo : Todo). IsWrite s.stack todo.write) (write_due (setup_in s)) (λ todo. write_parts todo.write) (todos s) todo_is (todos_all s (IsWrite s.stack) good.writes)
@@ -185,9 +186,9 @@ module _ (s : Scenario) (good : IsScenario s) (ledger : ℕ → LedgerId) where
       }
 
 -- where a run has ended, nothing is due
-module _ (scene : Scene) (s : State) (i : Kept scene s) (held : total scene odd s ≡ 0) (out : (p : ℕ) → (s.objects.pool p).facts.out ≡ 0) (comes : NothingComes scene s)
-    (rounds : List ℕ) (left : (r : ℕ) → total scene (unfinished_of (is_of_round rounds r)) s ≡ 0) where
-  bare_none : total scene bare s ≡ 0
+module _ (scene : Scene) (s : State) (i : Kept scene s) (held : total_weight scene odd s ≡ 0) (out : (p : ℕ) → (s.objects.pool p).facts.out ≡ 0) (comes : NothingComes scene s)
+    (rounds : List ℕ) (left : (r : ℕ) → total_weight scene (unfinished_of (is_of_round rounds r)) s ≡ 0) where
+  bare_none : total_weight scene bare s ≡ 0
   bare_none =
       omega (
         arith,
@@ -221,7 +222,7 @@ module _ (scene : Scene) (s : State) (i : Kept scene s) (held : total scene odd 
   no_closed place disk writer closed lt is (Some parent) found =
       let refers : under writer parent writer closed.parent ≡ 1 =
       ap (under writer parent writer) found ∙ (ap (λ n. n * one parent parent) (one-same writer) ∙ ap (λ n. 1 * n) (one-same parent)) in
-      let up = open_at scene s i writer parent (omega (arith, refers, task_part scene (refs scene.setup writer parent) s place (Completer disk (Carries writer closed)) lt is)) in
+      let up = open_at scene s i writer parent (omega (arith, refers, task_part scene (references scene.setup writer parent) s place (Completer disk (Carries writer closed)) lt is)) in
       no_node writer parent up.0 up.1
   no_closed place disk writer closed lt is None found =
       let r : ℕ = round_of rounds closed.write in
@@ -250,7 +251,7 @@ module _ (scene : Scene) (s : State) (i : Kept scene s) (held : total scene odd 
   task_none place (Keeper keeping) lt is none = (refl, refl)
 
   -- so where no task has anything, the whole is nothing
-  whole_none : (w : Weight) → ((place : ℕ) → place < scene.tasks → task_weight w place (s.task place) ≡ 0) → total scene w s ≡ 0
+  whole_none : (w : Weight) → ((place : ℕ) → place < scene.tasks → task_weight w place (s.task place) ≡ 0) → total_weight scene w s ≡ 0
   whole_none w tasks =
       omega (
         arith,
@@ -265,7 +266,7 @@ module _ (scene : Scene) (s : State) (i : Kept scene s) (held : total scene odd 
       by_node writer place None at = refl
       by_node writer place (Some node) at = absurd (no_node writer place node at)
 
-  pub none_due : (total scene (due scene.setup) s ≡ 0) × (total scene in_hand s ≡ 0)
+  pub none_due : (total_weight scene (due scene.setup) s ≡ 0) × (total_weight scene in_hand s ≡ 0)
   none_due = (
     whole_none (due scene.setup) (λ place lt. (task_none place (s.task place) lt refl (comes.tasks place lt)).0),
     whole_none in_hand (λ place lt. (task_none place (s.task place) lt refl (comes.tasks place lt)).1),
@@ -295,5 +296,5 @@ steps_without_misses s ledger events state good naming run ended all =
       no_duties_left s good ledger naming events state run ended.writes,
     )
   where
-    runs_odd : (sc : Scene) → Fair sc → Ground sc.setup → (st : State) (events : List Event) (new : State) → Whole sc st → total sc odd st ≡ 0 → IsRun sc st events new → total sc odd new ≡ 0
-    runs_odd sc f g st events new i none run = runs_keep sc f g (λ x. total sc odd x ≡ 0) (λ old m before after can none. none_odd sc old before.kept none m can) st events new i none run
+    runs_odd : (sc : Scene) → Fair sc → Ground sc.setup → (st : State) (events : List Event) (new : State) → Whole sc st → total_weight sc odd st ≡ 0 → IsRun sc st events new → total_weight sc odd new ≡ 0
+    runs_odd sc f g st events new i none run = runs_keep sc f g (λ x. total_weight sc odd x ≡ 0) (λ old m before after can none. none_odd sc old before.kept none m can) st events new i none run

@@ -15,7 +15,7 @@ use Rattle.run_machine.specs.Tasks.{Carried, Empty, Brings, Carries, Fails}
 use Rattle.run_machine.specs.Runs.{State}
 use Rattle.block_core.specs.Charges.{there}
 use Rattle.block_core.specs.Roles.{named}
-use Rattle.block_core.specs.Weights.{Weight, total, no_weight}
+use Rattle.block_core.specs.Weights.{Weight, total_weight, no_weight}
 use Rattle.block_core.proofs.moves.Moves.{Move, Can, after, limit_of, filled_of, cut_lists, TellsNode}
 use Rattle.block_core.proofs.moves.Moves as moves
 use Rattle.block_core.proofs.moves.Deltas.{delta}
@@ -53,8 +53,8 @@ told_odd writer key status part (Carries of closed) node t none = ap (λ p. odd_
 told_odd writer key status part Empty node t none = absurd t
 told_odd writer key status part (Fails breach kept) node t none = absurd t
 
-module _ (scene : Scene) (s : State) (i : Kept scene s) (none : total scene odd s ≡ 0) where
-  pub none_odd : (m : Move) → Can scene s m → total scene odd (after scene s m) ≡ 0
+module _ (scene : Scene) (s : State) (i : Kept scene s) (none : total_weight scene odd s ≡ 0) where
+  pub none_odd : (m : Move) → Can scene s m → total_weight scene odd (after scene s m) ≡ 0
   -- takes, misses, punts, pops, pushes, completions and links of writes
   none_odd (moves.TakesFirst place writer todo later move) c = omega (arith, none, delta scene odd s (moves.TakesFirst place writer todo later move) c)
   none_odd (moves.TakesVector place writer todo later item move) c = omega (arith, none, delta scene odd s (moves.TakesVector place writer todo later item move) c)

@@ -15,7 +15,7 @@ use Rattle.run_machine.specs.Submissions.{Links, ToPush, ToCut, ToRecord, ToMast
 use Rattle.run_machine.specs.Tasks.{Writer, Completer, Keeper, Keeps, Resizes, Starts, NoBio, HasBio, HasBoth, Empty, Brings, Carries}
 use Rattle.run_machine.specs.Objects.{clear_bio, clear_vector, clear_slip}
 use Rattle.run_machine.specs.Runs.{State}
-use Rattle.block_core.specs.Weights.{Weight, Lined, total}
+use Rattle.block_core.specs.Weights.{Weight, Lined, total_weight}
 use Rattle.block_core.specs.Charges.{there, task_duties}
 use Rattle.block_core.specs.Fragments.{leg_fragments}
 use Rattle.block_core.proofs.moves.Moves.{Move, Can, after, limit_of, with_want, filled_of, cut_lists}
@@ -40,15 +40,15 @@ use Rattle.block_core.proofs.stuck.Idle.{node_part}
 use Rattle.block_core.proofs.bound.Dues.{one_each, bio_due, due, in_hand, IsHad, blind, bare_none, later_due, tells_due, carried_hand, closes_one, lands, copies_due}
 
 module _ (scene : Scene) (s : State) (f : Fair scene) (g : Ground scene.setup) (p : Needs scene.setup) (v : Divided scene.setup one_each) (i : Kept scene s) (a : Placed scene.setup s)
-    (counted : total scene (misfits over) s ≡ 0) (held : total scene odd s ≡ 0) where
+    (counted : total_weight scene (misfits over) s ≡ 0) (held : total_weight scene odd s ≡ 0) where
   abbrev w : Weight
   w = due scene.setup
 
   -- what an event does to the sums
   abbrev Lowers : Move → Type 0
   Lowers m =
-      total scene w (after scene s m) + total scene in_hand s + all_duties scene (after scene s m).task + 1
-      ≡ total scene w s + total scene in_hand (after scene s m) + all_duties scene s.task
+      total_weight scene w (after scene s m) + total_weight scene in_hand s + all_duties scene (after scene s m).task + 1
+      ≡ total_weight scene w s + total_weight scene in_hand (after scene s m) + all_duties scene s.task
 
   pub takes_one : (m : Move) → Can scene s m → IsHad m → Lowers m
   -- takes

@@ -17,7 +17,7 @@ use Rattle.run_machine.specs.Scene.{Scene}
 use Rattle.run_machine.specs.Runs.{State}
 use Rattle.run_machine.proofs.Turns.{Turn, behind}
 use Rattle.run_machine.proofs.cases.MirrorRun.{setup, todo, start, ledger, begun}
-use Rattle.block_core.specs.Weights.{sum_at, total}
+use Rattle.block_core.specs.Weights.{sum_at, total_weight}
 use Rattle.block_core.specs.Fragments.{todo_fragments, to_come, is_it, fragment_count}
 
 -- the write's one sector on a disk
@@ -38,8 +38,8 @@ module _ (some : LedgerId) where
   scene = record { setup = setup true; tasks = 4; books = 1; writes = 1; ledger = ledger some }
 
   abbrev left : (Fragment → ℕ) → State → List Turn → List ℕ
-  left value s [] = total scene (to_come (setup true) value) s ∷ []
-  left value s (turn ∷ turns) = total scene (to_come (setup true) value) s ∷ left value (behind scene.setup s turn) turns
+  left value s [] = total_weight scene (to_come (setup true) value) s ∷ []
+  left value s (turn ∷ turns) = total_weight scene (to_come (setup true) value) s ∷ left value (behind scene.setup s turn) turns
 
   -- both are to come all the time, in the writer's hand, in its submission, and then the first in the submission and the second in the legs that are left
   both_to_come : left (λ f. 1) start (begun some) ≡ 2 ∷ 2 ∷ 2 ∷ 2 ∷ 2 ∷ 2 ∷ 2 ∷ []

@@ -16,7 +16,8 @@ use Rattle.run_machine.specs.Maps.{upd}
 use Rattle.run_machine.specs.Scene.{Scene}
 use Rattle.run_machine.specs.Opened.{no_task}
 use Rattle.run_machine.specs.Runs.{State}
-use Rattle.block_core.specs.Weights.{sum_at, one, total, refs, count_of}
+use Rattle.block_core.specs.Weights.{sum_at, one, total_weight}
+use Rattle.block_core.proofs.moves.References.{references, awaited_ends}
 use Rattle.block_core.specs.Roles.{named, HasRoles}
 use Rattle.block_core.specs.Touches.{touch_of, masters_after, none_was}
 
@@ -63,11 +64,11 @@ module _ (ledger : ℕ → LedgerId) (share : LedgerId) where
   }
 
   -- the node waits for as many ends as refer to it
-  counts : count_of (node_at (state.objects.book 0) 0) ≡ total scene (refs scene.setup 0 0) state
+  counts : awaited_ends (node_at (state.objects.book 0) 0) ≡ total_weight scene (references scene.setup 0 0) state
   unfolding sum_at one
   counts = refl
 
-  twice : total scene (named 0 0) state ≡ 2
+  twice : total_weight scene (named 0 0) state ≡ 2
   unfolding sum_at one
   twice = refl
 

@@ -19,7 +19,8 @@ use Rattle.block_core.specs.EachBio.{DoingHas, SubmissionHas, CarriedHas, TaskHa
 use Rattle.block_core.specs.OfOneWrite.{AreOfOneWrite}
 use Rattle.block_core.specs.Roles.{named, masters, children, legs_to_make, WaitsForParts, IsUnderOpen, HasRoles}
 use Rattle.block_core.specs.Touches.{is_master}
-use Rattle.block_core.specs.Weights.{Weight, Spot, Lined, Rescued, Pending, Brought, total, one, weigh_option, want_weight, ask_weight, doing_weight, submission_weight, gathered_weight, carried_weight, task_weight, book_weight, refs, under, legs_left, count_of}
+use Rattle.block_core.specs.Weights.{Weight, Spot, Lined, Rescued, Pending, Brought, total_weight, one, weigh_option, want_weight, ask_weight, doing_weight, submission_weight, gathered_weight, carried_weight, task_weight, book_weight, under, legs_left}
+use Rattle.block_core.proofs.moves.References.{references, awaited_ends}
 use Rattle.block_core.proofs.moves.Sums.{same_or_not, one-other}
 use Rattle.block_core.proofs.sound.Splitting.{total_sum}
 use Rattle.block_core.proofs.sound.StoodFor.{refs_are}
@@ -92,7 +93,7 @@ module _ (scene : Scene) (s : State) (P : Item Pad → Type 0) (C : Bio → ℕ 
   node_nil writer place None at = refl
   node_nil writer place (Some node) at = nil.node writer place node at
 
-  total_nil : EachBio P scene s → EachCopied C scene s → total scene w s ≡ 0
+  total_nil : EachBio P scene s → EachCopied C scene s → total_weight scene w s ≡ 0
   total_nil bios copied =
       omega (
         arith,
@@ -143,9 +144,9 @@ module _ (scene : Scene) (s : State) (was_master : ℕ → Bool) (roles : HasRol
     ]
   ]
 
-  none_refers : node_at (s.objects.book w) k ≡ None → total scene (refs scene.setup w k) s ≡ 0
+  none_refers : node_at (s.objects.book w) k ≡ None → total_weight scene (references scene.setup w k) s ≡ 0
   none_refers none =
-      total_nil scene s (λ item. IsUnderOpen s item.bio.writer item.bio.node false) (λ bio master. IsUnderOpen s bio.writer master true) (refs scene.setup w k) (record {
+      total_nil scene s (λ item. IsUnderOpen s item.bio.writer item.bio.node false) (λ bio master. IsUnderOpen s bio.writer master true) (references scene.setup w k) (record {
         todo = λ writer todos taken. refl;
         bio = λ spot item open_there. elsewhere none item.bio.writer item.bio.node false open_there;
         copy = λ bio master leg open_there. ap (λ n. n * legs_left scene.setup bio leg) (elsewhere none bio.writer master true open_there) ∙ omega arith;
@@ -160,17 +161,17 @@ module _ (scene : Scene) (s : State) (was_master : ℕ → Bool) (roles : HasRol
       up writer None above = refl
       up writer (Some parent) above = let a = above parent refl in elsewhere none writer parent (is_master a.0.role) (a.0, a.1, refl)
 
-  refs_are_counted : count_of (node_at (s.objects.book w) k) ≡ total scene (refs scene.setup w k) s
+  refs_are_counted : awaited_ends (node_at (s.objects.book w) k) ≡ total_weight scene (references scene.setup w k) s
   refs_are_counted = by_node (node_at (s.objects.book w) k) refl
     where
-      by_node : (found : Option Node) → node_at (s.objects.book w) k ≡ found → count_of (node_at (s.objects.book w) k) ≡ total scene (refs scene.setup w k) s
-      by_node None at = ap count_of at ∙ sym (none_refers at)
+      by_node : (found : Option Node) → node_at (s.objects.book w) k ≡ found → awaited_ends (node_at (s.objects.book w) k) ≡ total_weight scene (references scene.setup w k) s
+      by_node None at = ap awaited_ends at ∙ sym (none_refers at)
       by_node (Some node) at =
-          let count : count_of (node_at (s.objects.book w) k) ≡ node.count = ap count_of at in
+          let count : awaited_ends (node_at (s.objects.book w) k) ≡ node.count = ap awaited_ends at in
           omega (
             arith,
             count,
-            total_sum (refs scene.setup w k) _ _ _ _ (refs_are scene.setup was_master w k) scene s,
-            all_parts (is_master node.role) node.held.bio node.count (total scene (named w k) s) (total scene (masters was_master w k) s) (total scene (children was_master w k) s)
-                (total scene (legs_to_make scene.setup w k) s) (roles.waits w k node at),
+            total_sum (references scene.setup w k) _ _ _ _ (refs_are scene.setup was_master w k) scene s,
+            all_parts (is_master node.role) node.held.bio node.count (total_weight scene (named w k) s) (total_weight scene (masters was_master w k) s) (total_weight scene (children was_master w k) s)
+                (total_weight scene (legs_to_make scene.setup w k) s) (roles.waits w k node at),
           )

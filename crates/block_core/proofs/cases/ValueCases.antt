@@ -17,7 +17,7 @@ use Rattle.run_machine.proofs.cases.MirrorRun.{setup, mirror, todo, start, ledge
 use Rattle.block_core.specs.Touches.{touch_of}
 use Rattle.block_core.specs.NodeBios.{bios_after, no_bios}
 use Rattle.block_core.specs.Values.{BioMayEnd, IsAllowed, Decides}
-use Rattle.block_core.specs.Weights.{Weight, sum_at, one, total}
+use Rattle.block_core.specs.Weights.{Weight, sum_at, one, total_weight}
 use Rattle.block_core.proofs.status.Marks.{leg_may, todo_may, Mark, unallowed, deciding}
 
 -- the first disk is bad, and the second ends so
@@ -70,8 +70,8 @@ module _ (some : LedgerId) where
   scene = record { setup = setup true; tasks = 4; books = 1; writes = 1; ledger = ledger some }
 
   abbrev totals : Weight → State → List Turn → List ℕ
-  totals w s [] = total scene w s ∷ []
-  totals w s (turn ∷ turns) = total scene w s ∷ totals w (behind scene.setup s turn) turns
+  totals w s [] = total_weight scene w s ∷ []
+  totals w s (turn ∷ turns) = total_weight scene w s ∷ totals w (behind scene.setup s turn) turns
 
   abbrev fits : Status → Status → List ℕ
   fits second end = totals (unallowed (setup true) (ends second) (λ number. todo_may (setup true) (ends second) todo) (mark second) end) start (begun some)

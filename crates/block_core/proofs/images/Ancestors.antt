@@ -10,7 +10,8 @@ use Rattle.run_machine.specs.Scene.{Setup, Scene, tree_at}
 use Rattle.run_machine.specs.Submissions.{legs_of}
 use Rattle.run_machine.specs.Tasks.{Completer, Carries}
 use Rattle.run_machine.specs.Runs.{State}
-use Rattle.block_core.specs.Weights.{total, sum_at, one, refs, names_node, under, legs_left}
+use Rattle.block_core.specs.Weights.{total_weight, sum_at, one, names_node, under, legs_left}
+use Rattle.block_core.proofs.moves.References.{references}
 use Rattle.block_core.proofs.sound.EachBio.{each_part, each_copied_part}
 use Rattle.block_core.proofs.moves.SumsCompared.{IsPart}
 use Rattle.block_core.proofs.sound.Strays.{bio_strays, parent_strays, strays}
@@ -30,7 +31,7 @@ pub copied_times : (setup : Setup) (bio : Bio) (master leg : ℕ) → one bio.wr
 copied_times setup bio master leg =
     ap (λ k. k * one master master * legs_left setup bio leg) (one-same bio.writer) ∙ (ap (λ k. 1 * k * legs_left setup bio leg) (one-same master) ∙ omega arith)
 
-module _ (scene : Scene) (s : State) (i : Kept scene s) (level : ℕ → ℕ → ℕ) (down : GoesDown s level) (write_of : ℕ → ℕ → ℕ) (none : total scene (strays write_of) s ≡ 0)
+module _ (scene : Scene) (s : State) (i : Kept scene s) (level : ℕ → ℕ → ℕ) (down : GoesDown s level) (write_of : ℕ → ℕ → ℕ) (none : total_weight scene (strays write_of) s ≡ 0)
     (P : ℕ → Type 0) (tops : (writer key : ℕ) (node : Node) → writer < scene.books → node_at (s.objects.book writer) key ≡ Some node → parent_of node.role ≡ None → P node.write) where
   -- the levels of all nodes of a book together
   abbrev all_levels : ℕ → ℕ
@@ -53,7 +54,7 @@ module _ (scene : Scene) (s : State) (i : Kept scene s) (level : ℕ → ℕ →
       by_parent on (Some parent) is =
           let refers : under writer parent writer (parent_of node.role) ≡ 1 =
           ap (under writer parent writer) is ∙ (ap (λ n. n * one parent parent) (one-same writer) ∙ ap (λ n. 1 * n) (one-same parent)) in
-          let up = open_at scene s i writer parent (omega (arith, refers, node_part scene s i (refs scene.setup writer parent) writer key node at)) in
+          let up = open_at scene s i writer parent (omega (arith, refers, node_part scene s i (references scene.setup writer parent) writer key node at)) in
           let above = down writer key node parent at is in
           let same : node.write ≡ up.0.write = child_of_write scene s i write_of none writer key parent node up.0 at is up.1 in
           subst P (sym same) (on parent up.0 up.1 (omega (arith, lt, above)))
@@ -63,7 +64,7 @@ module _ (scene : Scene) (s : State) (i : Kept scene s) (level : ℕ → ℕ →
   of_node writer key node at = way_up (all_levels writer + 1) writer key node at (omega arith)
 
   -- and of each bio that names one
-  pub of_named : (item : Item Pad) → names_node item.bio.writer item.bio.node item ≤ total scene (refs scene.setup item.bio.writer item.bio.node) s → bio_strays write_of item ≤ total scene (strays write_of) s
+  pub of_named : (item : Item Pad) → names_node item.bio.writer item.bio.node item ≤ total_weight scene (references scene.setup item.bio.writer item.bio.node) s → bio_strays write_of item ≤ total_weight scene (strays write_of) s
       → P item.bio.write
   of_named item part own =
       let up = open_at scene s i item.bio.writer item.bio.node (omega (arith, part, names_one item)) in
@@ -73,7 +74,7 @@ module _ (scene : Scene) (s : State) (i : Kept scene s) (level : ℕ → ℕ →
   -- of each bio that a mirror copies,
   of_copied : (bio : Bio) (master leg : ℕ) → leg < legs_of (tree_at scene.setup bio.dev) → IsPart scene s (λ w. w.copy bio master leg) → P bio.write
   of_copied bio master leg lt part =
-      let up = open_at scene s i bio.writer master (omega (arith, copied_times scene.setup bio master leg, lt, part (refs scene.setup bio.writer master))) in
+      let up = open_at scene s i bio.writer master (omega (arith, copied_times scene.setup bio master leg, lt, part (references scene.setup bio.writer master))) in
       let same : up.0.write ≡ bio.write = omega (arith, none, part (strays write_of), node_write scene s i write_of none bio.writer master up.0 up.1) in
       subst P same (of_node bio.writer master up.0 up.1)
 
@@ -89,7 +90,7 @@ module _ (scene : Scene) (s : State) (i : Kept scene s) (level : ℕ → ℕ →
             let refers : under writer parent writer closed.parent ≡ 1 =
             ap (under writer parent writer) same ∙ (ap (λ n. n * one parent parent) (one-same writer) ∙ ap (λ n. 1 * n) (one-same parent)) in
             let up = open_at scene s i writer parent
-            (omega (arith, refers, task_part scene (refs scene.setup writer parent) s place (Completer disk (Carries writer closed)) here is)) in
+            (omega (arith, refers, task_part scene (references scene.setup writer parent) s place (Completer disk (Carries writer closed)) here is)) in
             let own : parent_strays write_of writer closed.parent closed.write ≡ apart (write_of writer parent) closed.write = ap (λ p. parent_strays write_of writer p closed.write) same in
             let write : up.0.write ≡ closed.write =
             omega (
@@ -108,6 +109,6 @@ module _ (scene : Scene) (s : State) (i : Kept scene s) (level : ℕ → ℕ →
       carried = of_closed;
       bios =
           each_part scene s (λ item. P item.bio.write)
-          (λ spot item part. of_named item (part (refs scene.setup item.bio.writer item.bio.node)) (part (strays write_of)));
+          (λ spot item part. of_named item (part (references scene.setup item.bio.writer item.bio.node)) (part (strays write_of)));
       copied = each_copied_part scene s i (λ bio master. P bio.write) of_copied;
     }

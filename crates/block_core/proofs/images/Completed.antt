@@ -13,7 +13,7 @@ use Rattle.run_machine.specs.Scene.{Scene}
 use Rattle.run_machine.specs.Tasks.{Todo, first_bio}
 use Rattle.run_machine.specs.Opened.{Scenario, scene, start, todos, setup as setup_in}
 use Rattle.run_machine.specs.Runs.{State, IsRun}
-use Rattle.block_core.specs.Weights.{total}
+use Rattle.block_core.specs.Weights.{total_weight}
 use Rattle.block_core.specs.Scenarios.{IsScenario}
 use Rattle.block_core.specs.Fragments.{todo_fragments, to_come, completed_by, completed, planned, FragmentsAddUp}
 use Rattle.block_core.proofs.sound.Facts.{Fair}
@@ -48,26 +48,26 @@ module _ (s : Scenario) (good : IsScenario s) (ledger : ℕ → LedgerId) where
     | inr past ↦ absurd (let h = past.0 in let known = is.known in omega arith)
   ]
 
-  pub start_counted : total (scene s ledger) (misfits over) (start s) ≡ 0
+  pub start_counted : total_weight (scene s ledger) (misfits over) (start s) ≡ 0
   start_counted =
       opened_total s good ledger (misfits over) (λ todo. over (first_bio 0 todo 0)) (λ n ts. refl)
       ∙ (all_sum (λ (todo : Todo). IsWrite s.stack todo.write) (λ todo. over (first_bio 0 todo 0)) (λ todo. 0) (todos s) (λ todo is. small todo is) (todos_all s (IsWrite s.stack) good.writes)
       ∙ sum_of_zero (todos s))
 
-  start_comes : (value : Fragment → ℕ) → total (scene s ledger) (to_come (setup_in s) value) (start s) ≡ sum_by value (planned s)
+  start_comes : (value : Fragment → ℕ) → total_weight (scene s ledger) (to_come (setup_in s) value) (start s) ≡ sum_by value (planned s)
   start_comes value =
       opened_total s good ledger (to_come (setup_in s) value) (λ todo. sum_by value (todo_fragments (setup_in s) todo)) (λ n ts. refl)
       ∙ sym (flat_sum value (todo_fragments (setup_in s)) (todos s))
 
 module _ (scene : Scene) (f : Fair scene) (g : Ground scene.setup) (value : Fragment → ℕ) (v : Divided scene.setup value) where
-  pub runs_come : (s : State) (events : List Event) (new : State) → Whole scene s → total scene (misfits over) s ≡ 0 → (run : IsRun scene s events new)
-      → sum_by value (completed scene s events new run) + total scene (to_come scene.setup value) new ≡ total scene (to_come scene.setup value) s
-  runs_come s [] new i counted run = let same = ap (total scene (to_come scene.setup value)) run in omega (arith, same)
+  pub runs_come : (s : State) (events : List Event) (new : State) → Whole scene s → total_weight scene (misfits over) s ≡ 0 → (run : IsRun scene s events new)
+      → sum_by value (completed scene s events new run) + total_weight scene (to_come scene.setup value) new ≡ total_weight scene (to_come scene.setup value) s
+  runs_come s [] new i counted run = let same = ap (total_weight scene (to_come scene.setup value)) run in omega (arith, same)
   runs_come s (event ∷ events) new i counted (next, (place, steps), run) =
       let moved = step_is_move scene s f i.kept place event next steps in
       let j = runs_whole scene f g s (event ∷ []) next i (next, (place, steps), refl) in
-      let stays : total scene (misfits over) next ≡ 0 = ap (total scene (misfits over)) moved.is ∙ no_misfits over over_follows scene s i.kept counted moved.move moved.can in
-      let same = ap (total scene (to_come scene.setup value)) moved.is in
+      let stays : total_weight scene (misfits over) next ≡ 0 = ap (total_weight scene (misfits over)) moved.is ∙ no_misfits over over_follows scene s i.kept counted moved.move moved.can in
+      let same = ap (total_weight scene (to_come scene.setup value)) moved.is in
       omega (
         arith,
         sum_by-append value (completed_by steps.reply) (completed scene next events new run),

@@ -24,7 +24,8 @@ use Rattle.run_machine.specs.Requests as requests
 use Rattle.run_machine.specs.Requests.{Request, Reply}
 use Rattle.run_machine.specs.Runs.{State, IsRun, Happens}
 use Rattle.stack_base.specs.declared.ids.Status.{Status}
-use Rattle.block_core.specs.Weights.{Spot, Lined, Rescued, Pending, Brought, total, one, refs, legs_left}
+use Rattle.block_core.specs.Weights.{Spot, Lined, Rescued, Pending, Brought, total_weight, one, legs_left}
+use Rattle.block_core.proofs.moves.References.{references}
 use Rattle.block_core.specs.Scenarios.{IsScenario, IsNaming}
 use Rattle.block_core.specs.Dones.{done_in}
 use Rattle.block_core.specs.Fragments.{offset_of, fragment_of, leg_fragments, todo_fragments, bio_comes, legs_come, to_come, completed_by, completed, is_it}
@@ -107,14 +108,14 @@ module _ (w : ℕ) (value : Fragment → ℕ) (other : (f : Fragment) → f.writ
       )
 
   -- where a write is to be begun by no writer, and its top is neither open nor carried, no node and no bio is of it, and nothing of it comes
-  module _ (scene : Scene) (s : State) (i : Kept scene s) (level : ℕ → ℕ → ℕ) (down : GoesDown s level) (write_of : ℕ → ℕ → ℕ) (one_write : total scene (strays write_of) s ≡ 0)
-      (done : total scene (stage w) s ≡ 0) where
+  module _ (scene : Scene) (s : State) (i : Kept scene s) (level : ℕ → ℕ → ℕ) (down : GoesDown s level) (write_of : ℕ → ℕ → ℕ) (one_write : total_weight scene (strays write_of) s ≡ 0)
+      (done : total_weight scene (stage w) s ≡ 0) where
     no_top : (writer key : ℕ) (node : Node) → writer < scene.books → node_at (s.objects.book writer) key ≡ Some node → parent_of node.role ≡ None → node.write ≢ w
     no_top writer key node lt at is e =
         let worth : tops node.role * one node.write w ≡ 1 = ap (λ n. n * one node.write w) (top_is node.role is) ∙ ap (λ n. 1 * n) (one_of node.write w e) in
         omega (arith, done, worth, node_part scene s i (stage w) writer key node at)
 
-    pub nothing_comes_of : total scene (to_come scene.setup value) s ≡ 0
+    pub nothing_comes_of : total_weight scene (to_come scene.setup value) s ≡ 0
     nothing_comes_of =
         let P : ℕ → Type 0 = λ n. n ≢ w in
         let nothing = under_in_all scene s i (to_come scene.setup value) (stage w) (record {
@@ -122,9 +123,9 @@ module _ (w : ℕ) (value : Fragment → ℕ) (other : (f : Fragment) → f.writ
           bio = λ spot item part.
               omega (
                 arith,
-                bio_none scene.setup spot item (of_named scene s i level down write_of one_write P no_top item (part (refs scene.setup item.bio.writer item.bio.node)) (part (strays write_of))),
+                bio_none scene.setup spot item (of_named scene s i level down write_of one_write P no_top item (part (references scene.setup item.bio.writer item.bio.node)) (part (strays write_of))),
               );
-          copy = λ bio master leg left part. omega (arith, copied bio master leg (omega (arith, left)) (part (refs scene.setup bio.writer master)) (part (strays write_of)));
+          copy = λ bio master leg left part. omega (arith, copied bio master leg (omega (arith, left)) (part (references scene.setup bio.writer master)) (part (strays write_of)));
           hand = λ item. omega arith;
           vector = λ vector. omega arith;
           slip = λ slip. omega arith;
@@ -134,8 +135,8 @@ module _ (w : ℕ) (value : Fragment → ℕ) (other : (f : Fragment) → f.writ
         omega (arith, done, nothing)
       where
         copied : (bio : Bio) (master leg : ℕ) → 1 ≤ legs_left scene.setup bio leg
-            → one bio.writer bio.writer * one master master * legs_left scene.setup bio leg ≤ total scene (refs scene.setup bio.writer master) s
-            → (strays write_of).copy bio master leg ≤ total scene (strays write_of) s → legs_come scene.setup value bio leg ≡ 0
+            → one bio.writer bio.writer * one master master * legs_left scene.setup bio leg ≤ total_weight scene (references scene.setup bio.writer master) s
+            → (strays write_of).copy bio master leg ≤ total_weight scene (strays write_of) s → legs_come scene.setup value bio leg ≡ 0
         copied bio master leg left refers own =
             let all : one bio.writer bio.writer * one master master * legs_left scene.setup bio leg ≡ legs_left scene.setup bio leg = rw (one-same bio.writer, one-same master) (omega arith) in
             let up = open_at scene s i bio.writer master (omega (arith, left, refers, all)) in
@@ -145,12 +146,12 @@ module _ (w : ℕ) (value : Fragment → ℕ) (other : (f : Fragment) → f.writ
 
 -- no bio of a run becomes a misfit
 module _ (scene : Scene) (f : Fair scene) (g : Ground scene.setup) (bad : Bio → ℕ) (follows : Follows bad) where
-  pub runs_fit : (s : State) (events : List Event) (new : State) → Whole scene s → total scene (misfits bad) s ≡ 0 → IsRun scene s events new → total scene (misfits bad) new ≡ 0
-  runs_fit s [] new i none run = ap (total scene (misfits bad)) run ∙ none
+  pub runs_fit : (s : State) (events : List Event) (new : State) → Whole scene s → total_weight scene (misfits bad) s ≡ 0 → IsRun scene s events new → total_weight scene (misfits bad) new ≡ 0
+  runs_fit s [] new i none run = ap (total_weight scene (misfits bad)) run ∙ none
   runs_fit s (event ∷ events) new i none (next, (place, steps), run) =
       let moved = step_is_move scene s f i.kept place event next steps in
       runs_fit next events new (runs_whole scene f g s (event ∷ []) next i (next, (place, steps), refl))
-      (ap (total scene (misfits bad)) moved.is ∙ no_misfits bad follows scene s i.kept none moved.move moved.can) run
+      (ap (total_weight scene (misfits bad)) moved.is ∙ no_misfits bad follows scene s i.kept none moved.move moved.can) run
 
 -- what tells a write done completes nothing
 told_none : (w : ℕ) (status : Status) (request : Request) (reply : Reply) → what_of request reply ≡ Some (what.Done w status) → completed_by reply ≡ []
@@ -164,7 +165,7 @@ module _ (s : Scenario) (ledger : ℕ → LedgerId) (events : List Event) (state
   sc = scene s ledger
 
   -- behind the event the write is done
-  all_done : total sc (stage w) new ≡ 0
+  all_done : total_weight sc (stage w) new ≡ 0
   all_done =
       let f : Fair sc = record { named = naming } in
       let g = ground s.stack good.stack (setup_in s).places in
@@ -180,7 +181,7 @@ module _ (s : Scenario) (ledger : ℕ → LedgerId) (events : List Event) (state
       )
 
   -- and nothing of it came with it
-  pub none_left : (value : Fragment → ℕ) → ((f : Fragment) → f.write ≢ w → value f ≡ 0) → total sc (to_come sc.setup value) state ≡ 0
+  pub none_left : (value : Fragment → ℕ) → ((f : Fragment) → f.write ≢ w → value f ≡ 0) → total_weight sc (to_come sc.setup value) state ≡ 0
   none_left value other =
       let places = (setup_in s).places in
       let f : Fair sc = record { named = naming } in

@@ -6,7 +6,7 @@ use Rattle.run_machine.specs.Scene.{Scene}
 use Rattle.run_machine.specs.Tasks.{TaskState, Writer, Rescuer, Completer, Keeper}
 use Rattle.run_machine.specs.Opened.{scene}
 use Rattle.run_machine.specs.Runs.{State}
-use Rattle.block_core.specs.Weights.{total, task_weight}
+use Rattle.block_core.specs.Weights.{total_weight, task_weight}
 use Rattle.block_core.specs.Rounds.{round_of, is_of_round, unfinished_of}
 use Rattle.block_core.specs.Fragments.{HasBegun, AllIsHome, NothingComesWhereEnded}
 use Rattle.block_core.proofs.moves.Sums.{one-same}
@@ -19,7 +19,7 @@ zero_at [] r none = refl
 zero_at (x ∷ xs) zero none = let next = sum_by-cons (λ (n : ℕ). n) x xs in let here : x ≡ 0 = omega (arith, none, next) in here
 zero_at (x ∷ xs) (suc r) none = let next = sum_by-cons (λ (n : ℕ). n) x xs in zero_at xs r (omega (arith, none, next))
 
-begun : (scene : Scene) (s : State) (rounds : List ℕ) → ((r : ℕ) → total scene (unfinished_of (is_of_round rounds r)) s ≡ 0)
+begun : (scene : Scene) (s : State) (rounds : List ℕ) → ((r : ℕ) → total_weight scene (unfinished_of (is_of_round rounds r)) s ≡ 0)
     → (place : ℕ) (x : TaskState) → place < scene.tasks → s.task place ≡ x → HasBegun x
 begun scene s rounds none place (Writer number [] taken submission) lt is = refl
 begun scene s rounds none place (Writer number (todo ∷ later) taken submission) lt is =
@@ -35,6 +35,6 @@ begun scene s rounds none place (Keeper keeping) lt is = tt
 pub nothing_comes_where_ended : NothingComesWhereEnded
 nothing_comes_where_ended s ledger events state good naming run ended =
     let tally = run_tallied s ledger good naming events state run in
-    let none : (r : ℕ) → total (scene s ledger) (unfinished_of (is_of_round s.rounds r)) state ≡ 0 = λ r. sym (tally.left r) ∙ zero_at state.objects.tally.left r ended.writes in
+    let none : (r : ℕ) → total_weight (scene s ledger) (unfinished_of (is_of_round s.rounds r)) state ≡ 0 = λ r. sym (tally.left r) ∙ zero_at state.objects.tally.left r ended.writes in
     let home : AllIsHome (scene s ledger) state = record { pools = ended.pools; tasks = λ place lt. begun (scene s ledger) state s.rounds none place (state.task place) lt refl } in
     (home, nothing_comes_where_all_is_home s ledger events state good naming run home)

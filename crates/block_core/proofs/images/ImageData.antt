@@ -31,7 +31,7 @@ use Rattle.layout_model.proofs.RangeSums.{sum_of_two, sum_of_zero}
 use Rattle.std.proofs.lemmas.List.{length-replicate, get_or-replicate}
 use Rattle.run_machine.specs.Opened.{Scenario, scene, start, todos, setup as setup_in}
 use Rattle.run_machine.specs.Runs.{State, IsRun}
-use Rattle.block_core.specs.Weights.{total}
+use Rattle.block_core.specs.Weights.{total_weight}
 use Rattle.block_core.specs.Scenarios.{IsScenario}
 use Rattle.block_core.specs.Fragments.{offset_of, fragment_of, completed_by, completed}
 use Rattle.block_core.specs.Images.{tag_of, lies_at, put, held_after, ImagesAreOfCompleted}
@@ -185,7 +185,7 @@ module _ (s : Scenario) (ledger : ℕ → LedgerId) (st : State) (a : Placed (se
   own_stays (moves.Started place round later duties) c = own
 
   -- the bio that is completed has its own data
-  pending_tied : (disk index : ℕ) (bio : Item Pad) → disk < here.setup.count → slice_get (st.objects.disk disk).pending index ≡ Some bio → total here (misfits (unfit s)) st ≡ 0 → HasItsWord s bio.bio
+  pending_tied : (disk index : ℕ) (bio : Item Pad) → disk < here.setup.count → slice_get (st.objects.disk disk).pending index ≡ Some bio → total_weight here (misfits (unfit s)) st ≡ 0 → HasItsWord s bio.bio
   pending_tied disk index bio lt at none =
       let g : Item Pad → ℕ = λ item. unfit s item.bio in
       let xs = (st.objects.disk disk).pending in
@@ -205,7 +205,7 @@ module _ (s : Scenario) (ledger : ℕ → LedgerId) (st : State) (a : Placed (se
       ]
 
   -- what an event makes of a sector
-  pub event_holds : (m : Move) → Can here st m → total here (misfits (unfit s)) st ≡ 0 → (number x : ℕ)
+  pub event_holds : (m : Move) → Can here st m → total_weight here (misfits (unfit s)) st ≡ 0 → (number x : ℕ)
       → slice_index_or ((after here st m).objects.disk number).image x [] ≡ held_after s number x (ended m) (slice_index_or (st.objects.disk number).image x [])
   event_holds (moves.Pushes place x bio lists) c none number at = same_held number at bio.bio.dev.0 (pushed bio (st.objects.disk bio.bio.dev.0)) refl
   event_holds (moves.Completed place disk index bio ending new) c none number at =
@@ -257,7 +257,7 @@ module _ (s : Scenario) (ledger : ℕ → LedgerId) (f : Fair (scene s ledger)) 
       λ k. subst (λ (t : State). IsOwn s k (t.objects.disk k)) (sym moved.is) (own_stays s ledger st i.placed own moved.move moved.can k) in
       runs_own next events new j owned run number
 
-  pub runs_hold : (st : State) (events : List Event) (new : State) → Whole (scene s ledger) st → total (scene s ledger) (misfits (unfit s)) st ≡ 0
+  pub runs_hold : (st : State) (events : List Event) (new : State) → Whole (scene s ledger) st → total_weight (scene s ledger) (misfits (unfit s)) st ≡ 0
       → ((number : ℕ) → IsOwn s number (st.objects.disk number)) → (run : IsRun (scene s ledger) st events new) (number x : ℕ)
       → slice_index_or (new.objects.disk number).image x [] ≡ held_after s number x (completed (scene s ledger) st events new run) (slice_index_or (st.objects.disk number).image x [])
   runs_hold st [] new i none own run number x = ap (λ (t : State). slice_index_or (t.objects.disk number).image x []) run
@@ -265,7 +265,7 @@ module _ (s : Scenario) (ledger : ℕ → LedgerId) (f : Fair (scene s ledger)) 
       let here = scene s ledger in
       let moved = step_is_move here st f i.kept place event next steps in
       let j = runs_whole here f g st (event ∷ []) next i (next, (place, steps), refl) in
-      let stays : total here (misfits (unfit s)) next ≡ 0 = ap (total here (misfits (unfit s))) moved.is ∙ no_misfits (unfit s) (unfit_follows s) here st i.kept none moved.move moved.can in
+      let stays : total_weight here (misfits (unfit s)) next ≡ 0 = ap (total_weight here (misfits (unfit s))) moved.is ∙ no_misfits (unfit s) (unfit_follows s) here st i.kept none moved.move moved.can in
       let owned : (number : ℕ) → IsOwn s number (next.objects.disk number) =
       λ k. subst (λ (t : State). IsOwn s k (t.objects.disk k)) (sym moved.is) (own_stays s ledger st i.placed own moved.move moved.can k) in
       let old = slice_index_or (st.objects.disk number).image x [] in
@@ -281,7 +281,7 @@ module _ (s : Scenario) (ledger : ℕ → LedgerId) (good : IsScenario s) where
   pub start_own : (number : ℕ) → IsOwn s number ((start s).objects.disk number)
   start_own number = record { waiting = All-nil (IsWaiting s number); bads = refl; sized = length-replicate (size (tree s.stack number)) zero_sector }
 
-  pub start_fits : total (scene s ledger) (misfits (unfit s)) (start s) ≡ 0
+  pub start_fits : total_weight (scene s ledger) (misfits (unfit s)) (start s) ≡ 0
   start_fits =
       let over_first : Todo → ℕ = λ todo. over (first_bio 0 todo 0) in
       let loose_first : Todo → ℕ = λ todo. loose s (first_bio 0 todo 0) in

@@ -13,7 +13,7 @@ use Rattle.bio_books.specs.Books.{SlipItem}
 use Rattle.run_machine.specs.Scene.{Scene, tree_at}
 use Rattle.run_machine.specs.Submissions.{Takes, Punts as WantsPunt, Links, ToPush, ToCut, ToRecord, ToMaster, Doing, Rests, Drives, Copies, Breaks, Submission, settled, goes_on, copies, first_length, leg_at}
 use Rattle.run_machine.specs.Runs.{State}
-use Rattle.block_core.specs.Weights.{Weight, total, doing_weight, submission_weight, no_weight}
+use Rattle.block_core.specs.Weights.{Weight, total_weight, doing_weight, submission_weight, no_weight}
 use Rattle.block_core.proofs.moves.Moves.{Move, Can, after, limit_of, filled_of, cut_lists}
 use Rattle.block_core.proofs.moves.Moves as moves
 use Rattle.block_core.proofs.moves.Deltas.{delta}
@@ -52,7 +52,7 @@ doing_zero limit (Breaks breach kept) = refl
 submission_zero : (limit : ℕ) (submission : Submission) → submission_weight bare limit submission ≡ 0
 submission_zero limit submission = omega (arith, doing_zero limit submission.doing, zeros submission.lists.list0, zeros submission.lists.list1)
 
-pub no_bare : (scene : Scene) (s : State) → total scene bare s ≡ 0 → (m : Move) → Can scene s m → total scene bare (after scene s m) ≡ 0
+pub no_bare : (scene : Scene) (s : State) → total_weight scene bare s ≡ 0 → (m : Move) → Can scene s m → total_weight scene bare (after scene s m) ≡ 0
 no_bare scene s none (moves.TakesFirst place writer todo later move) c = omega (arith, none, delta scene bare s (moves.TakesFirst place writer todo later move) c)
 no_bare scene s none (moves.TakesVector place writer todo later item move) c = omega (arith, none, delta scene bare s (moves.TakesVector place writer todo later item move) c)
 no_bare scene s none (moves.TakesSub place x doing lists dev waits move) c = omega (arith, none, delta scene bare s (moves.TakesSub place x doing lists dev waits move) c)

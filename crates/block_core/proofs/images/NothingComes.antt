@@ -12,7 +12,8 @@ use Rattle.run_machine.specs.Scene.{Scene, tree_at}
 use Rattle.run_machine.specs.Submissions.{Takes, Punts as WantsPunt, Links, Doing, Rests, Drives, Copies, Breaks, Submission, rests, legs_of}
 use Rattle.run_machine.specs.Tasks.{TaskState, Writer, Rescuer, Completer, Keeper, Gathered, NoBio, HasBio, HasBoth, Empty, Brings, Carries, Fails}
 use Rattle.run_machine.specs.Runs.{State}
-use Rattle.block_core.specs.Weights.{Weight, Pending, Rescued, Lined, total, one, weigh_option, doing_weight, task_weight, submission_weight, gathered_weight, book_weight, elements_of_pool, holding_elements, refs, legs_left, count_of}
+use Rattle.block_core.specs.Weights.{Weight, Pending, Rescued, Lined, total_weight, one, weigh_option, doing_weight, task_weight, submission_weight, gathered_weight, book_weight, elements_of_pool, holding_elements, legs_left}
+use Rattle.block_core.proofs.moves.References.{references, awaited_ends}
 use Rattle.block_core.specs.Fragments.{HasNone, NothingComes, HasBegun, AllIsHome, NothingComesWhereAllIsHome}
 use Rattle.block_core.proofs.stuck.Idle.{sum_none}
 use Rattle.block_core.proofs.moves.Sums.{one-same, within_book, below_or}
@@ -87,8 +88,8 @@ held_some node slipped owned none = by_role node.role node.held.bio node.held.sl
     by_role (role.Master parent) bio slip b s h o = by_slip slip s h
     by_role (role.Leg parent) bio slip b s h o = by_bio bio b o
 
-module _ (scene : Scene) (s : State) (i : Kept scene s) (slips : total scene bare s ≡ 0) (out : (p : ℕ) → (s.objects.pool p).facts.out ≡ 0) where
-  all_home : (p : ℕ) → total scene (elements_of_pool p) s ≡ 0
+module _ (scene : Scene) (s : State) (i : Kept scene s) (slips : total_weight scene bare s ≡ 0) (out : (p : ℕ) → (s.objects.pool p).facts.out ≡ 0) where
+  all_home : (p : ℕ) → total_weight scene (elements_of_pool p) s ≡ 0
   all_home p = sym (i.outs p) ∙ out p
 
   task_home : (p place : ℕ) → place < scene.tasks → task_weight (elements_of_pool p) place (s.task place) ≡ 0
@@ -102,7 +103,7 @@ module _ (scene : Scene) (s : State) (i : Kept scene s) (slips : total scene bar
       no_items (s.objects.disk dev).pending (λ p. omega (arith, all_home p, part_of (λ dev (disk : DiskState). sum_by ((elements_of_pool p).bio Pending) disk.pending) scene.setup.count s.objects.disk dev lt))
 
   -- no bio names a node
-  none_named : (w k : ℕ) → total scene (named w k) s ≡ 0
+  none_named : (w k : ℕ) → total_weight scene (named w k) s ≡ 0
   none_named w k =
       omega (
         arith,
@@ -112,7 +113,7 @@ module _ (scene : Scene) (s : State) (i : Kept scene s) (slips : total scene bar
         sum_none (book_weight (named w k)) scene.books s.objects.book (λ writer lt. sum_none (λ place. weigh_option ((named w k).node writer place)) _ _ (λ place below. node_none _)),
       )
 
-  node_weighs : (w : Weight) (writer k : ℕ) (node : Node) → writer < scene.books → node_at (s.objects.book writer) k ≡ Some node → w.node writer k node ≤ total scene w s
+  node_weighs : (w : Weight) (writer k : ℕ) (node : Node) → writer < scene.books → node_at (s.objects.book writer) k ≡ Some node → w.node writer k node ≤ total_weight scene w s
   node_weighs w writer k node lt at =
       let within = within_book (s.objects.book writer) k node at in
       let a = part_of (book_weight w) scene.books s.objects.book writer lt in
@@ -132,11 +133,11 @@ module _ (scene : Scene) (s : State) (i : Kept scene s) (slips : total scene bar
         absurd (let e : None ≡ Some node = sym none ∙ at in cc)
   ]
 
-  no_refs : (writer k : ℕ) → total scene (refs scene.setup writer k) s ≡ 0
+  no_refs : (writer k : ℕ) → total_weight scene (references scene.setup writer k) s ≡ 0
   no_refs writer k = by_node (node_at (s.objects.book writer) k) refl
     where
-      by_node : (found : Option Node) → node_at (s.objects.book writer) k ≡ found → total scene (refs scene.setup writer k) s ≡ 0
-      by_node None at = sym (i.counts writer k) ∙ ap count_of at
+      by_node : (found : Option Node) → node_at (s.objects.book writer) k ≡ found → total_weight scene (references scene.setup writer k) s ≡ 0
+      by_node None at = sym (i.counts writer k) ∙ ap awaited_ends at
       by_node (Some node) at = absurd (none_open writer k node at)
 
   -- and no submission is at work
@@ -144,7 +145,7 @@ module _ (scene : Scene) (s : State) (i : Kept scene s) (slips : total scene bar
       → ((w : Weight) → submission_weight w limit submission ≤ task_weight w place x) → submission ≡ rests
   submission_rests place limit x submission lt is fits part = by_doing submission.doing refl fits
     where
-      weighs : (w : Weight) → doing_weight w limit submission.doing ≤ total scene w s
+      weighs : (w : Weight) → doing_weight w limit submission.doing ≤ total_weight scene w s
       weighs w =
           let a = part_of (task_weight w) scene.tasks s.task place lt in
           let b : task_weight w place (s.task place) ≡ task_weight w place x = ap (task_weight w place) is in
@@ -159,7 +160,7 @@ module _ (scene : Scene) (s : State) (i : Kept scene s) (slips : total scene bar
           absurd (omega (arith, a, b, one-same bio.share.no, all_home bio.share.no))
       by_doing (Copies bio master leg want) q f =
           let lt : leg < legs_of (tree_at scene.setup bio.dev) = subst (λ d. DoingFits scene.setup d submission.lists) q f in
-          let w = refs scene.setup bio.writer master in
+          let w = references scene.setup bio.writer master in
           let a = weighs w in
           let b : doing_weight w limit submission.doing ≡ doing_weight w limit (Copies bio master leg want) = ap (doing_weight w limit) q in
           let c : one bio.writer bio.writer * one master master * legs_left scene.setup bio leg ≡ legs_left scene.setup bio leg = rw (one-same bio.writer, one-same master) (omega arith) in
@@ -179,12 +180,12 @@ module _ (scene : Scene) (s : State) (i : Kept scene s) (slips : total scene bar
   }
 
 module _ (scene : Scene) (f : Fair scene) (g : Ground scene.setup) where
-  runs_hold_slips : (s : State) (events : List Event) (new : State) → Whole scene s → total scene bare s ≡ 0 → IsRun scene s events new → total scene bare new ≡ 0
-  runs_hold_slips s [] new i none run = ap (total scene bare) run ∙ none
+  runs_hold_slips : (s : State) (events : List Event) (new : State) → Whole scene s → total_weight scene bare s ≡ 0 → IsRun scene s events new → total_weight scene bare new ≡ 0
+  runs_hold_slips s [] new i none run = ap (total_weight scene bare) run ∙ none
   runs_hold_slips s (event ∷ events) new i none (next, (place, steps), run) =
       let moved = step_is_move scene s f i.kept place event next steps in
       let j = runs_whole scene f g s (event ∷ []) next i (next, (place, steps), refl) in
-      runs_hold_slips next events new j (ap (total scene bare) moved.is ∙ no_bare scene s none moved.move moved.can) run
+      runs_hold_slips next events new j (ap (total_weight scene bare) moved.is ∙ no_bare scene s none moved.move moved.can) run
 
 pub nothing_comes_where_all_is_home : NothingComesWhereAllIsHome
 nothing_comes_where_all_is_home s ledger events state good naming run home =

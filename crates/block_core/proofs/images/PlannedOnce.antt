@@ -16,7 +16,7 @@ use Rattle.run_machine.specs.Scene.{Scene}
 use Rattle.run_machine.specs.Tasks.{TaskState, Writer, Rescuer, Completer, Keeper, Gathered, NoBio, HasBio, HasBoth, Todo}
 use Rattle.run_machine.specs.Opened.{Scenario, scene, todos, setup as setup_in}
 use Rattle.run_machine.specs.Runs.{State}
-use Rattle.block_core.specs.Weights.{Weight, Pending, Rescued, one, total, weigh_option, task_weight, gathered_weight, book_weight}
+use Rattle.block_core.specs.Weights.{Weight, Pending, Rescued, one, total_weight, weigh_option, task_weight, gathered_weight, book_weight}
 use Rattle.block_core.specs.Scenarios.{IsScenario}
 use Rattle.block_core.specs.Fragments.{todo_fragments, to_come, planned, equal_fragments, is_it, fragment_count, IsOfScenario, HasNone, NothingComes, NoneIsCompletedTwice, NoOtherIsCompleted, EachIsCompletedOnce}
 use Rattle.block_core.proofs.stuck.Idle.{sum_none}
@@ -182,7 +182,7 @@ module _ (scene : Scene) (state : State) (value : Fragment → ℕ) where
   task_none place (Completer disk carried) h = carried_none scene.setup value place carried
   task_none place (Keeper keeping) h = refl
 
-  pub nothing_comes : NothingComes scene state → total scene w state ≡ 0
+  pub nothing_comes : NothingComes scene state → total_weight scene w state ≡ 0
   nothing_comes n =
       omega (
         arith,

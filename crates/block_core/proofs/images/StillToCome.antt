@@ -16,7 +16,7 @@ use Rattle.run_machine.specs.Scene.{Setup, Scene, tree_at}
 use Rattle.run_machine.specs.Submissions.{Links, ToPush, ToCut, ToMaster, Drives, Copies, rests, copies, first_length, legs_of, leg_at}
 use Rattle.run_machine.specs.Tasks.{Writer, HasBio, HasBoth, Carried, Empty, Brings, Carries, Fails}
 use Rattle.run_machine.specs.Runs.{State}
-use Rattle.block_core.specs.Weights.{Weight, Rescued, Lined, total, submission_weight, carried_weight}
+use Rattle.block_core.specs.Weights.{Weight, Rescued, Lined, total_weight, submission_weight, carried_weight}
 use Rattle.block_core.specs.Fragments.{offset_of, fragment_of, leg_fragments, todo_fragments, bio_comes, legs_come, to_come}
 use Rattle.block_core.proofs.moves.Moves.{Move, Can, after, limit_of, filled_of, cut_lists}
 use Rattle.block_core.proofs.moves.Moves as moves
@@ -74,11 +74,11 @@ carried_none setup value task (Carries writer closed) = refl
 carried_none setup value task (Fails breach kept) = refl
 
 module _ (scene : Scene) (s : State) (value : Fragment → ℕ) (g : Ground scene.setup) (v : Divided scene.setup value) (i : Kept scene s) (a : Placed scene.setup s)
-    (counted : total scene (misfits over) s ≡ 0) where
+    (counted : total_weight scene (misfits over) s ≡ 0) where
   abbrev w : Weight
   w = to_come scene.setup value
 
-  pub comes : (m : Move) → Can scene s m → total scene w (after scene s m) + done value m ≡ total scene w s
+  pub comes : (m : Move) → Can scene s m → total_weight scene w (after scene s m) + done value m ≡ total_weight scene w s
   -- takes and misses
   comes (moves.TakesFirst place writer todo later move) c = omega (arith, delta scene w s (moves.TakesFirst place writer todo later move) c)
   comes (moves.TakesVector place writer todo later item move) c = omega (arith, delta scene w s (moves.TakesVector place writer todo later item move) c)

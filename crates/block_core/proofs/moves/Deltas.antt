@@ -18,7 +18,7 @@ use Rattle.run_machine.specs.Submissions.{Want, Takes, Punts as WantsPunt, Links
 use Rattle.run_machine.specs.Tasks.{TaskState, Writer, Rescuer, Completer, Keeper, Keeps, Resizes, Starts, NoBio, HasBio, HasBoth, Empty, Brings, Carries}
 use Rattle.run_machine.specs.Objects.{clear_bio, clear_vector, clear_slip}
 use Rattle.run_machine.specs.Runs.{State}
-use Rattle.block_core.specs.Weights.{Weight, Pending, Rescued, Lined, total, sum_at, weigh_option, task_weight, book_weight}
+use Rattle.block_core.specs.Weights.{Weight, Pending, Rescued, Lined, total_weight, sum_at, weigh_option, task_weight, book_weight}
 use Rattle.block_core.proofs.moves.Moves.{Move, Can, after, lost, gained, limit_of, with_submission, with_want, gathered_of, filled_of, vector_of, cut_lists}
 use Rattle.block_core.proofs.moves.Moves as moves
 use Rattle.block_core.proofs.moves.Sums.{sum_at-upd, within_book, book_upd}
@@ -54,7 +54,7 @@ two_nodes w writer book key place node new m v e =
     omega (arith, book_upd w writer book key (Some new) a.1, book_upd w writer (with_node book key (Some new)) place (Some m) lt)
 
 -- what each event does to every sum over all places
-pub delta : (scene : Scene) (w : Weight) (s : State) (m : Move) → Can scene s m → total scene w (after scene s m) + lost scene w s m ≡ total scene w s + gained scene w s m
+pub delta : (scene : Scene) (w : Weight) (s : State) (m : Move) → Can scene s m → total_weight scene w (after scene s m) + lost scene w s m ≡ total_weight scene w s + gained scene w s m
 -- takes
 delta scene w s (moves.TakesFirst place writer todo later move) c =
     omega (arith, task_delta scene w s place (Writer writer (todo ∷ later) NoBio rests) (Writer writer (todo ∷ later) (HasBio (clear_bio (scene.ledger 65))) rests) c.0 c.1)

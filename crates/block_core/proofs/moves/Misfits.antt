@@ -15,7 +15,7 @@ use Rattle.run_machine.specs.Scene.{Scene, tree_at}
 use Rattle.run_machine.specs.Submissions.{Links, ToCut, Drives, Copies, first_length, mapped, legs_of, leg_at}
 use Rattle.run_machine.specs.Tasks.{TaskState, Todo, first_bio}
 use Rattle.run_machine.specs.Runs.{State}
-use Rattle.block_core.specs.Weights.{Weight, total, no_weight}
+use Rattle.block_core.specs.Weights.{Weight, total_weight, no_weight}
 use Rattle.block_core.proofs.moves.Moves.{Move, Can, after, limit_of, HasSubmission, filled_of, cut_lists, piece}
 use Rattle.block_core.proofs.moves.Moves as moves
 use Rattle.block_core.proofs.moves.SubmissionWeights.{landed_same, IsBlind, first_weight, goes_weight}
@@ -54,8 +54,8 @@ module _ (bad : Bio → ℕ) (f : Follows bad) where
   legs_follow bio hand leg node (Leaf number sectors) lt = absurd (omega arith)
   legs_follow bio hand leg node (Split number kind sizes members) lt = absurd (omega arith)
 
-  module _ (scene : Scene) (s : State) (i : Kept scene s) (none : total scene w s ≡ 0) where
-    stays : (m : Move) → Can scene s m → total scene w (after scene s m) ≡ 0
+  module _ (scene : Scene) (s : State) (i : Kept scene s) (none : total_weight scene w s ≡ 0) where
+    stays : (m : Move) → Can scene s m → total_weight scene w (after scene s m) ≡ 0
     -- takes, misses and punts
     stays (moves.TakesFirst place writer todo later move) c = omega (arith, none, delta scene w s (moves.TakesFirst place writer todo later move) c)
     stays (moves.TakesVector place writer todo later item move) c = omega (arith, none, delta scene w s (moves.TakesVector place writer todo later item move) c)
@@ -150,11 +150,11 @@ module _ (bad : Bio → ℕ) (f : Follows bad) where
     stays (moves.Resized place pool min later duties) c = omega (arith, none, delta scene w s (moves.Resized place pool min later duties) c)
     stays (moves.Started place round later duties) c = omega (arith, none, delta scene w s (moves.Started place round later duties) c)
 
-pub no_misfits : (bad : Bio → ℕ) → Follows bad → (scene : Scene) (s : State) → Kept scene s → total scene (misfits bad) s ≡ 0 → (m : Move) → Can scene s m
-    → total scene (misfits bad) (after scene s m) ≡ 0
+pub no_misfits : (bad : Bio → ℕ) → Follows bad → (scene : Scene) (s : State) → Kept scene s → total_weight scene (misfits bad) s ≡ 0 → (m : Move) → Can scene s m
+    → total_weight scene (misfits bad) (after scene s m) ≡ 0
 no_misfits bad f scene s i none m c = stays bad f scene s i none m c
 
 -- the bio that is cut is none
-pub cut_fits : (bad : Bio → ℕ) (scene : Scene) (s : State) → total scene (misfits bad) s ≡ 0 → (place : ℕ) (x : TaskState) (bio hand : Item Pad) (lists : TaskLists)
+pub cut_fits : (bad : Bio → ℕ) (scene : Scene) (s : State) → total_weight scene (misfits bad) s ≡ 0 → (place : ℕ) (x : TaskState) (bio hand : Item Pad) (lists : TaskLists)
     → place < scene.tasks → s.task place ≡ x → HasSubmission x (Drives bio (ToCut (Links hand))) lists → bad bio.bio ≡ 0
 cut_fits bad scene s none place x bio hand lists lt is h = omega (arith, none, submission_part scene (misfits bad) s place x (Drives bio (ToCut (Links hand))) lists lt is h)

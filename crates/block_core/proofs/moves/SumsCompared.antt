@@ -12,13 +12,13 @@ use Rattle.run_machine.specs.Scene.{Scene, tree_at}
 use Rattle.run_machine.specs.Submissions.{Want, Takes, Punts, Links, Driving, ToPush, ToCut, ToRecord, ToMaster, Doing, Rests, Drives, Copies, Breaks, Submission, legs_of}
 use Rattle.run_machine.specs.Tasks.{Todo, Gathered, NoBio, HasBio, HasBoth, Carried, Empty, Brings, Carries, Fails, TaskState, Writer, Rescuer, Completer, Keeper}
 use Rattle.run_machine.specs.Runs.{State}
-use Rattle.block_core.specs.Weights.{Weight, Spot, Lined, Rescued, Pending, Brought, total, sum_at, weigh_option, want_weight, ask_weight, doing_weight, submission_weight, gathered_weight, carried_weight, task_weight, book_weight}
+use Rattle.block_core.specs.Weights.{Weight, Spot, Lined, Rescued, Pending, Brought, total_weight, sum_at, weigh_option, want_weight, ask_weight, doing_weight, submission_weight, gathered_weight, carried_weight, task_weight, book_weight}
 use Rattle.block_core.proofs.sound.Facts.{DoingFits, TaskFits, Kept}
 use Rattle.block_core.proofs.moves.Totals.{part_of}
 
 -- whatever the weight, this is a part of the sum
 abbrev pub IsPart : Scene → State → (Weight → ℕ) → Type 0
-IsPart scene s part = (w : Weight) → part w ≤ total scene w s
+IsPart scene s part = (w : Weight) → part w ≤ total_weight scene w s
 
 -- of no part more than of another weight
 pub record IsUnder (scene : Scene) (s : State) (u v : Weight) : Type 0 where
@@ -112,7 +112,7 @@ module _ (scene : Scene) (s : State) (i : Kept scene s) (u v : Weight) (le : IsU
   node_under writer place None at part = omega arith
   node_under writer place (Some node) at part = le.node writer place node at part
 
-  pub under_in_all : total scene u s ≤ total scene v s
+  pub under_in_all : total_weight scene u s ≤ total_weight scene v s
   under_in_all =
       omega (
         arith,

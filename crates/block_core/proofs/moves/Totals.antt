@@ -14,7 +14,8 @@ use Rattle.run_machine.specs.Scene.{Setup, Scene, tree_at}
 use Rattle.run_machine.specs.Submissions.{Want, Takes, Punts, Links, Driving, ToPush, ToCut, ToRecord, ToMaster, Doing, Rests, Drives, Copies, Breaks, Submission}
 use Rattle.run_machine.specs.Tasks.{TaskState, Writer, Rescuer, Completer, Keeper, Todo, Gathered, NoBio, HasBio, HasBoth, Carried, Empty, Brings, Carries, Fails}
 use Rattle.run_machine.specs.Runs.{State}
-use Rattle.block_core.specs.Weights.{Weight, Spot, Lined, Rescued, Pending, Brought, total, sum_at, one, weigh_option, want_weight, ask_weight, doing_weight, submission_weight, gathered_weight, carried_weight, task_weight, book_weight, refs, under, legs_left, no_weight}
+use Rattle.block_core.specs.Weights.{Weight, Spot, Lined, Rescued, Pending, Brought, total_weight, sum_at, one, weigh_option, want_weight, ask_weight, doing_weight, submission_weight, gathered_weight, carried_weight, task_weight, book_weight, under, legs_left, no_weight}
+use Rattle.block_core.proofs.moves.References.{references}
 use Rattle.block_core.specs.Rooms.{legs_need, room}
 use Rattle.block_core.proofs.moves.Moves.{HasSubmission, limit_of}
 use Rattle.block_core.proofs.moves.Sums.{same_or_not, one-same, one-other}
@@ -32,13 +33,13 @@ part_of w (suc n) f i lt = elim (same_or_not i n) [
 ]
 
 -- a task and a book
-pub task_part : (scene : Scene) (w : Weight) (s : State) (place : ℕ) (x : TaskState) → place < scene.tasks → s.task place ≡ x → task_weight w place x ≤ total scene w s
+pub task_part : (scene : Scene) (w : Weight) (s : State) (place : ℕ) (x : TaskState) → place < scene.tasks → s.task place ≡ x → task_weight w place x ≤ total_weight scene w s
 task_part scene w s place x lt is =
     let same : task_weight w place (s.task place) ≡ task_weight w place x = ap (task_weight w place) is in
     omega (arith, same, part_of (task_weight w) scene.tasks s.task place lt)
 
 pub both_parts : (scene : Scene) (w : Weight) (s : State) (place : ℕ) (x : TaskState) (writer : ℕ) → place < scene.tasks → s.task place ≡ x → writer < scene.books
-    → task_weight w place x + book_weight w writer (s.objects.book writer) ≤ total scene w s
+    → task_weight w place x + book_weight w writer (s.objects.book writer) ≤ total_weight scene w s
 both_parts scene w s place x writer lt is some =
     let same : task_weight w place (s.task place) ≡ task_weight w place x = ap (task_weight w place) is in
     omega (arith, same, part_of (task_weight w) scene.tasks s.task place lt, part_of (book_weight w) scene.books s.objects.book writer some)
@@ -125,7 +126,7 @@ module _ (u v x y : Weight) (le : IsWithin u v x y) where
       at_within (λ place. weigh_option (u.node writer place)) (λ place. weigh_option (v.node writer place)) (λ place. weigh_option (x.node writer place))
       (λ place. weigh_option (y.node writer place)) (length book.nodes) (node_at book) (λ place node. node_within writer place node)
 
-  pub within : (scene : Scene) (s : State) → total scene u s ≤ total scene v s + total scene x s + total scene y s
+  pub within : (scene : Scene) (s : State) → total_weight scene u s ≤ total_weight scene v s + total_weight scene x s + total_weight scene y s
   within scene s =
       omega (
         arith,
@@ -184,7 +185,7 @@ one_each w zero f few = omega arith
 one_each w (suc n) f few = omega (arith, one_each w n f few, few n (f n))
 
 -- no more nodes are carried than there are tasks
-pub carried_few : (scene : Scene) (s : State) → total scene carrying s ≤ scene.tasks
+pub carried_few : (scene : Scene) (s : State) → total_weight scene carrying s ≤ scene.tasks
 carried_few scene s =
     omega (
       arith,
@@ -213,7 +214,7 @@ more_of i j m n le = elim (same_or_not i j) [
 ]
 
 -- what refers to a node is the bio that names it, what opened or will open a node in the book, or a closed node that is carried
-pub refs_within : (setup : Setup) (w k : ℕ) → IsWithin (refs setup w k) (named w k) (room setup w) carrying
+pub refs_within : (setup : Setup) (w k : ℕ) → IsWithin (references setup w k) (named w k) (room setup w) carrying
 refs_within setup w k = record {
   todo = λ writer todos taken. omega arith;
   bio = λ spot item. omega arith;

@@ -10,7 +10,8 @@ use Rattle.run_machine.specs.Maps.{upd}
 use Rattle.run_machine.specs.Scene.{Scene}
 use Rattle.run_machine.specs.Tasks.{Todo, Gathered}
 use Rattle.run_machine.specs.Runs.{State}
-use Rattle.block_core.specs.Weights.{Weight, Spot, total, one, refs, names_node, under, legs_left, count_of}
+use Rattle.block_core.specs.Weights.{Weight, Spot, total_weight, one, names_node, under, legs_left}
+use Rattle.block_core.proofs.moves.References.{references, awaited_ends}
 use Rattle.block_core.proofs.moves.Sums.{upd-same, upd-other, one-same, same_or_not}
 use Rattle.block_core.proofs.sound.Facts.{Kept}
 use Rattle.block_core.proofs.moves.Deltas.{vacant_at}
@@ -67,8 +68,8 @@ pub record IsUnmoved (u v : Weight) (writer key : ℕ) : Type 0 where
 
 module _ (scene : Scene) (s : State) (i : Kept scene s) (writer key : ℕ) (vacant : IsVacant (s.objects.book writer) key) where
   -- nothing refers to a vacant place
-  pub no_ref : total scene (refs scene.setup writer key) s ≡ 0
-  no_ref = sym (i.counts writer key) ∙ ap count_of (vacant_at (s.objects.book writer) key vacant).0
+  pub no_ref : total_weight scene (references scene.setup writer key) s ≡ 0
+  no_ref = sym (i.counts writer key) ∙ ap awaited_ends (vacant_at (s.objects.book writer) key vacant).0
 
   -- an open node stands elsewhere
   pub elsewhere : (v k : ℕ) (node : Node) → node_at (s.objects.book v) k ≡ Some node → (v ≢ writer) ⊎ (k ≢ key)
@@ -81,9 +82,9 @@ module _ (scene : Scene) (s : State) (i : Kept scene s) (writer key : ℕ) (vaca
           let e : node_at (s.objects.book writer) key ≡ Some node = subst (λ q. node_at (s.objects.book writer) q ≡ Some node) also (subst (λ q. node_at (s.objects.book q) k ≡ Some node) same at) in
           let y : None ≡ Some node = sym (vacant_at (s.objects.book writer) key vacant).0 ∙ e in absurd cc
 
-  pub none_moves : (u v : Weight) → IsUnmoved u v writer key → total scene u s ≤ total scene v s
+  pub none_moves : (u v : Weight) → IsUnmoved u v writer key → total_weight scene u s ≤ total_weight scene v s
   none_moves u v same =
-      let r : Weight = refs scene.setup writer key in
+      let r : Weight = references scene.setup writer key in
       under_in_all scene s i u v (record {
         todo = λ n todos taken part. same.todo n todos taken;
         bio = λ spot item part. same.bio spot item (omega (arith, no_ref, part r));

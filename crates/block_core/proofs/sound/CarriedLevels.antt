@@ -12,7 +12,7 @@ use Rattle.run_machine.specs.Submissions.{Doing, Submission}
 use Rattle.run_machine.specs.Tasks.{Carried, Empty, Brings, Carries, Fails, TaskState, Writer, Rescuer, Completer, Keeper}
 use Rattle.run_machine.specs.Runs.{State}
 use Rattle.block_core.specs.Levels.{HoldsLevel, HoldsOneLevel}
-use Rattle.block_core.specs.Weights.{total, weigh_option, task_weight, carried_weight}
+use Rattle.block_core.specs.Weights.{total_weight, weigh_option, task_weight, carried_weight}
 use Rattle.block_core.proofs.moves.Sums.{apart}
 use Rattle.block_core.proofs.moves.Moves.{Move, Can, after, HasSubmission, with_submission, Hands}
 use Rattle.block_core.proofs.moves.Moves as moves
@@ -79,7 +79,7 @@ one_less old new number (inl (vector, has, share, is)) h = (h.0, subst (HoldsLev
 one_less old new number (inr (inl (bio, has, share, is))) h = (h.0, subst (HoldsLevel h.0) (sym is) (without_bio h.0 old h.1))
 one_less old new number (inr (inr (slip, has, share, is))) h = (h.0, subst (HoldsLevel h.0) (sym is) (without_slip h.0 old h.1))
 
-module _ (scene : Scene) (s : State) (i : Kept scene s) (level : ℕ → ℕ → ℕ) (off : total scene (off_levels level) s ≡ 0) (all : (place : ℕ) → TaskOne (s.task place)) where
+module _ (scene : Scene) (s : State) (i : Kept scene s) (level : ℕ → ℕ → ℕ) (off : total_weight scene (off_levels level) s ≡ 0) (all : (place : ℕ) → TaskOne (s.task place)) where
   goes : (place : ℕ) (y : TaskState) → TaskOne y → (other : ℕ) → TaskOne (upd s.task place y other)
   goes place y one = all-upd TaskOne s.task place y all one
 

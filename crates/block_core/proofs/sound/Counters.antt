@@ -8,7 +8,7 @@ use Rattle.run_machine.specs.Maps.{upd}
 use Rattle.run_machine.specs.Scene.{Scene, tree_at}
 use Rattle.run_machine.specs.Submissions.{ToMaster, Drives, legs_of}
 use Rattle.run_machine.specs.Runs.{State}
-use Rattle.block_core.specs.Weights.{count_of}
+use Rattle.block_core.proofs.moves.References.{awaited_ends}
 use Rattle.block_core.proofs.moves.Moves.{Move, Can, after, vector_of}
 use Rattle.block_core.proofs.moves.Moves as moves
 use Rattle.block_core.proofs.moves.Sums.{within_book}
@@ -21,7 +21,7 @@ use Rattle.block_core.proofs.sound.Alive.{nodes_all, books_all, two_all}
 
 pub record Counted (n : ℕ) (s : State) : Type 0 where
   pub outs : (q : ℕ) → (s.objects.pool q).facts.out ≤ n
-  pub ends : (w k : ℕ) → count_of (node_at (s.objects.book w) k) ≤ n + 8
+  pub ends : (w k : ℕ) → awaited_ends (node_at (s.objects.book w) k) ≤ n + 8
 
 -- a move takes one element at most
 pub one_out : (pool : PoolState) (move : PoolMove) → (after_move pool move).facts.out ≤ pool.facts.out + 1
@@ -40,7 +40,7 @@ module _ (scene : Scene) (s : State) (g : Ground scene.setup) (p : Placed scene.
       (omega (arith, i.outs number, one_out (s.objects.pool number) move))
 
   abbrev Small : Option Node → Type 0
-  Small node = count_of node ≤ n + 1 + 8
+  Small node = awaited_ends node ≤ n + 1 + 8
 
   nodes : (w k : ℕ) → Small (node_at (s.objects.book w) k)
   nodes w k = omega (arith, i.ends w k)
@@ -49,7 +49,7 @@ module _ (scene : Scene) (s : State) (g : Ground scene.setup) (p : Placed scene.
   of_book writer book here = books_all Small s.objects.book writer book nodes here
 
   was : (writer key : ℕ) (node : Node) → node_at (s.objects.book writer) key ≡ Some node → node.count ≤ n + 8
-  was writer key node at = subst (λ o. count_of o ≤ n + 8) at (i.ends writer key)
+  was writer key node at = subst (λ o. awaited_ends o ≤ n + 8) at (i.ends writer key)
 
   outs : (m : Move) → Can scene s m → (q : ℕ) → ((after scene s m).objects.pool q).facts.out ≤ n + 1
   -- takes: one element more is out

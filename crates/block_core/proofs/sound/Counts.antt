@@ -15,7 +15,8 @@ use Rattle.run_machine.specs.Scene.{Setup, Scene, tree_at}
 use Rattle.run_machine.specs.Submissions.{Want, Links, Copies, rests, settled, first_length, legs_of, leg_at}
 use Rattle.run_machine.specs.Tasks.{TaskState, Writer, Rescuer, Completer, Keeper, Todo, Carried, Empty, Brings, Carries, Fails}
 use Rattle.run_machine.specs.Runs.{State}
-use Rattle.block_core.specs.Weights.{total, one, task_weight, submission_weight, carried_weight, refs, names_node, under, count_of}
+use Rattle.block_core.specs.Weights.{total_weight, one, task_weight, submission_weight, carried_weight, names_node, under}
+use Rattle.block_core.proofs.moves.References.{references, awaited_ends}
 use Rattle.block_core.proofs.moves.Moves.{Move, Can, after, lost, gained, limit_of, HasSubmission, gathered_of, filled_of, vector_of, cut_lists, TellsNode}
 use Rattle.block_core.proofs.moves.Moves as moves
 use Rattle.block_core.proofs.moves.SubmissionWeights.{IsBlind, goes_weight, first_weight, landed_same}
@@ -25,7 +26,7 @@ use Rattle.block_core.proofs.sound.SumParts.{cut_weight, copies_weight, unless}
 use Rattle.block_core.proofs.moves.BookMaps.{made, became, chained}
 
 -- where a bio comes to does not matter to the node that it names
-pub blind_refs : (setup : Setup) (w k : ℕ) → IsBlind (refs setup w k)
+pub blind_refs : (setup : Setup) (w k : ℕ) → IsBlind (references setup w k)
 blind_refs setup w k limit item t = landed_same (λ (bio : Bio). one bio.writer w * one bio.node k) (λ to members bio. refl) t item.bio
 
 pub begun_names : (g : Item Pad → ℕ) → (w k : ℕ) → g ≡ names_node w k → (writer : ℕ) (todo : Todo) (item : Item Pad) (vector : Option VectorItem) (key : ℕ)
@@ -34,16 +35,16 @@ begun_names g w k is writer todo item None key = let q = ap (λ h. sum_by h (fil
 begun_names g w k is writer todo item (Some vector) key = let q = ap (λ h. sum_by h (filled_of writer todo item (Some vector) key ∷ [])) is in omega (arith, q, sum_by-cons (names_node w k) (filled_of writer todo item (Some vector) key) [])
 
 begun_refs : (setup : Setup) (w k writer : ℕ) (todo : Todo) (later : List Todo) (item : Item Pad) (vector : Option VectorItem) (key : ℕ)
-    → submission_weight (refs setup w k) 32 (settled setup (filled_of writer todo item vector key ∷ []))
-    ≡ task_weight (refs setup w k) 0 (Writer writer (todo ∷ later) (gathered_of item vector) rests) + one writer w * one key k
+    → submission_weight (references setup w k) 32 (settled setup (filled_of writer todo item vector key ∷ []))
+    ≡ task_weight (references setup w k) 0 (Writer writer (todo ∷ later) (gathered_of item vector) rests) + one writer w * one key k
 begun_refs setup w k writer todo later item None key =
-    omega (arith, first_weight (refs setup w k) (blind_refs setup w k) 32 setup (filled_of writer todo item None key ∷ []), begun_names (names_node w k) w k refl writer todo item None key)
+    omega (arith, first_weight (references setup w k) (blind_refs setup w k) 32 setup (filled_of writer todo item None key ∷ []), begun_names (names_node w k) w k refl writer todo item None key)
 begun_refs setup w k writer todo later item (Some vector) key =
-    omega (arith, first_weight (refs setup w k) (blind_refs setup w k) 32 setup (filled_of writer todo item (Some vector) key ∷ []), begun_names (names_node w k) w k refl writer todo item (Some vector) key)
+    omega (arith, first_weight (references setup w k) (blind_refs setup w k) 32 setup (filled_of writer todo item (Some vector) key ∷ []), begun_names (names_node w k) w k refl writer todo item (Some vector) key)
 
 -- what tells a node of an end is a reference to it
 pub tells_refs : (setup : Setup) (w k writer key : ℕ) (status : Status) (part : Option (Item Pad)) (carried : Carried) → TellsNode carried writer key status part
-    → carried_weight (refs setup w k) 0 carried ≡ one writer w * one key k
+    → carried_weight (references setup w k) 0 carried ≡ one writer w * one key k
 tells_refs setup w k writer key status part (Brings bio ending) t = rw (t.0, t.1) refl
 tells_refs setup w k writer key status part (Carries of closed) t = rw (t.1, t.0) refl
 tells_refs setup w k writer key status part Empty t = absurd t
@@ -80,13 +81,13 @@ makes_leg scene s place x bio master leg want lists i is h = by_task x h (subst 
 module _ (scene : Scene) (s : State) (f : Fair scene) (i : Kept scene s) where
   -- events that neither open nor close nodes, nor move bios into or out of them
   same : (m : Move) → Can scene s m → (w k : ℕ) → (after scene s m).objects.book ≡ s.objects.book
-      → lost scene (refs scene.setup w k) s m ≡ gained scene (refs scene.setup w k) s m
-      → count_of (node_at ((after scene s m).objects.book w) k) ≡ total scene (refs scene.setup w k) (after scene s m)
+      → lost scene (references scene.setup w k) s m ≡ gained scene (references scene.setup w k) s m
+      → awaited_ends (node_at ((after scene s m).objects.book w) k) ≡ total_weight scene (references scene.setup w k) (after scene s m)
   same m c w k books even =
-      let b : count_of (node_at ((after scene s m).objects.book w) k) ≡ count_of (node_at (s.objects.book w) k) = ap (λ (book : ℕ → BookState). count_of (node_at (book w) k)) books in
-      omega (arith, b, i.counts w k, delta scene (refs scene.setup w k) s m c, even)
+      let b : awaited_ends (node_at ((after scene s m).objects.book w) k) ≡ awaited_ends (node_at (s.objects.book w) k) = ap (λ (book : ℕ → BookState). awaited_ends (node_at (book w) k)) books in
+      omega (arith, b, i.counts w k, delta scene (references scene.setup w k) s m c, even)
 
-  pub counts : (m : Move) → Can scene s m → (w k : ℕ) → count_of (node_at ((after scene s m).objects.book w) k) ≡ total scene (refs scene.setup w k) (after scene s m)
+  pub counts : (m : Move) → Can scene s m → (w k : ℕ) → awaited_ends (node_at ((after scene s m).objects.book w) k) ≡ total_weight scene (references scene.setup w k) (after scene s m)
   -- takes, misses, punts, pops, pushes and completions
   counts (moves.TakesFirst place writer todo later move) c w k = same (moves.TakesFirst place writer todo later move) c w k refl refl
   counts (moves.TakesVector place writer todo later item move) c w k = same (moves.TakesVector place writer todo later item move) c w k refl refl
@@ -97,18 +98,18 @@ module _ (scene : Scene) (s : State) (f : Fair scene) (i : Kept scene s) where
   counts (moves.Punts place x doing lists dev) c w k = same (moves.Punts place x doing lists dev) c w k refl refl
   counts (moves.Pops place dev bio bios) c w k =
       same (moves.Pops place dev bio bios) c w k refl
-      (omega (arith, first_weight (refs scene.setup w k) (blind_refs scene.setup w k) dev.0 scene.setup (bio ∷ []), sum_by-cons (names_node w k) bio []))
+      (omega (arith, first_weight (references scene.setup w k) (blind_refs scene.setup w k) dev.0 scene.setup (bio ∷ []), sum_by-cons (names_node w k) bio []))
   counts (moves.Pushes place x bio lists) c w k =
-      same (moves.Pushes place x bio lists) c w k refl (omega (arith, goes_weight (refs scene.setup w k) (blind_refs scene.setup w k) (limit_of x) scene.setup bio.bio.dev lists))
+      same (moves.Pushes place x bio lists) c w k refl (omega (arith, goes_weight (references scene.setup w k) (blind_refs scene.setup w k) (limit_of x) scene.setup bio.bio.dev lists))
   counts (moves.Completed place disk index bio status new) c w k = same (moves.Completed place disk index bio status new) c w k refl refl
   -- links of writes
   counts (moves.Begins place writer todo later item vector key) c w k =
       omega (
         arith,
         i.counts w k,
-        delta scene (refs scene.setup w k) s (moves.Begins place writer todo later item vector key) c,
+        delta scene (references scene.setup w k) s (moves.Begins place writer todo later item vector key) c,
         begun_refs scene.setup w k writer todo later item vector key,
-        made count_of refl s.objects.book writer key (top_node todo.number (vector_of todo vector)) w k 1 c.3 refl,
+        made awaited_ends refl s.objects.book writer key (top_node todo.number (vector_of todo vector)) w k 1 c.3 refl,
       )
   -- links of pieces
   counts (moves.Chained place x bio lists hand number kind sizes members key node) c w k =
@@ -116,10 +117,10 @@ module _ (scene : Scene) (s : State) (f : Fair scene) (i : Kept scene s) where
       omega (
         arith,
         i.counts w k,
-        delta scene (refs scene.setup w k) s (moves.Chained place x bio lists hand number kind sizes members key node) c,
-        goes_weight (refs scene.setup w k) (blind_refs scene.setup w k) (limit_of x) scene.setup bio.bio.dev (cut_lists bio lists hand n key kind sizes members),
+        delta scene (references scene.setup w k) s (moves.Chained place x bio lists hand number kind sizes members key node) c,
+        goes_weight (references scene.setup w k) (blind_refs scene.setup w k) (limit_of x) scene.setup bio.bio.dev (cut_lists bio lists hand n key kind sizes members),
         cut_weight (names_node w k) bio lists hand n key kind sizes members,
-        chained count_of refl s.objects.book bio.bio.writer key bio.bio.node node (child_node node.write bio.bio.node) (raised node) w k 1 1 0 c.6 c.5 refl (omega arith),
+        chained awaited_ends refl s.objects.book bio.bio.writer key bio.bio.node node (child_node node.write bio.bio.node) (raised node) w k 1 1 0 c.6 c.5 refl (omega arith),
       )
   -- links of masters
   counts (moves.Mastered place x bio lists slip key node) c w k =
@@ -127,11 +128,11 @@ module _ (scene : Scene) (s : State) (f : Fair scene) (i : Kept scene s) where
       omega (
         arith,
         i.counts w k,
-        delta scene (refs scene.setup w k) s (moves.Mastered place x bio lists slip key node) c,
-        copies_weight (refs scene.setup w k) (blind_refs scene.setup w k) (limit_of x) scene.setup lists bio.bio key 0,
+        delta scene (references scene.setup w k) s (moves.Mastered place x bio lists slip key node) c,
+        copies_weight (references scene.setup w k) (blind_refs scene.setup w k) (limit_of x) scene.setup lists bio.bio key 0,
         left_behind (one bio.bio.writer w * one key k) 0 legs,
         spread (one bio.bio.writer w) (one key k) (one bio.bio.node k) legs,
-        chained count_of refl s.objects.book bio.bio.writer key bio.bio.node node (master_node node.write bio.bio.node slip legs) (keeping bio node) w k legs 0 0 c.5 c.4 refl refl,
+        chained awaited_ends refl s.objects.book bio.bio.writer key bio.bio.node node (master_node node.write bio.bio.node slip legs) (keeping bio node) w k legs 0 0 c.5 c.4 refl refl,
       )
   -- links of legs
   counts (moves.Legged place x bio lists master leg hand key node) c w k =
@@ -142,13 +143,13 @@ module _ (scene : Scene) (s : State) (f : Fair scene) (i : Kept scene s) where
       omega (
         arith,
         i.counts w k,
-        delta scene (refs scene.setup w k) s (moves.Legged place x bio lists master leg hand key node) c,
-        copies_weight (refs scene.setup w k) (blind_refs scene.setup w k) (limit_of x) scene.setup (submitted item lists) bio master (leg + 1),
+        delta scene (references scene.setup w k) s (moves.Legged place x bio lists master leg hand key node) c,
+        copies_weight (references scene.setup w k) (blind_refs scene.setup w k) (limit_of x) scene.setup (submitted item lists) bio master (leg + 1),
         left_behind (one bio.writer w * one master k) (leg + 1) legs,
         ap (λ n. one bio.writer w * one master k * n) one_less,
         sum_by_push (names_node w k) lists.list0 item,
         leg_named w k bio hand leg key (tree_at scene.setup bio.dev) lt,
-        made count_of refl s.objects.book bio.writer key (leg_node node.write master) w k 1 c.5 refl,
+        made awaited_ends refl s.objects.book bio.writer key (leg_node node.write master) w k 1 c.5 refl,
       )
   -- drops that leave a node open
   counts (moves.Told place disk carried writer key status part node) c w k =
@@ -156,9 +157,9 @@ module _ (scene : Scene) (s : State) (f : Fair scene) (i : Kept scene s) where
       omega (
         arith,
         i.counts w k,
-        delta scene (refs scene.setup w k) s (moves.Told place disk carried writer key status part node) c,
+        delta scene (references scene.setup w k) s (moves.Told place disk carried writer key status part node) c,
         tells_refs scene.setup w k writer key status part carried c.2,
-        became count_of s.objects.book writer key node (Some (lowered (told node status part))) w k 1 c.4 lower,
+        became awaited_ends s.objects.book writer key node (Some (lowered (told node status part))) w k 1 c.4 lower,
       )
   -- drops that close a node
   counts (moves.Closes place disk carried writer key status part node) c w k =
@@ -166,9 +167,9 @@ module _ (scene : Scene) (s : State) (f : Fair scene) (i : Kept scene s) where
       omega (
         arith,
         i.counts w k,
-        delta scene (refs scene.setup w k) s (moves.Closes place disk carried writer key status part node) c,
+        delta scene (references scene.setup w k) s (moves.Closes place disk carried writer key status part node) c,
         tells_refs scene.setup w k writer key status part carried c.2,
-        became count_of s.objects.book writer key node None w k 1 c.4 last,
+        became awaited_ends s.objects.book writer key node None w k 1 c.4 last,
       )
   -- gives, ends of writes, resizes and rounds
   counts (moves.Gives place disk writer number closed held) c w k = same (moves.Gives place disk writer number closed held) c w k refl refl

@@ -11,7 +11,7 @@ use Rattle.run_machine.specs.Scene.{Setup, Scene}
 use Rattle.run_machine.specs.Submissions.{Takes, Punts as WantsPunt, Links, ToPush, ToCut, ToRecord, ToMaster, Doing, Rests, Drives, Copies, Breaks}
 use Rattle.run_machine.specs.Tasks.{Completer, Todo, Carried, Empty, Brings, Carries, Fails}
 use Rattle.run_machine.specs.Runs.{State}
-use Rattle.block_core.specs.Weights.{Weight, total, one}
+use Rattle.block_core.specs.Weights.{Weight, total_weight, one}
 use Rattle.block_core.proofs.sound.Sayings.{none_told}
 use Rattle.block_core.proofs.moves.Moves.{Move, IsTaking, place_of, Can, after, TellsNode, Hands}
 use Rattle.block_core.proofs.moves.Moves as moves
@@ -220,5 +220,5 @@ to_come_kept scene w (moves.Begins place writer todo later item vector key) = om
 to_come_kept scene w _ = refl
 
 -- an event takes a write's stage away exactly where it tells it done
-pub staged : (scene : Scene) (s : State) (w : ℕ) (m : Move) → Can scene s m → total scene (stage w) (after scene s m) + done_by w m ≡ total scene (stage w) s
+pub staged : (scene : Scene) (s : State) (w : ℕ) (m : Move) → Can scene s m → total_weight scene (stage w) (after scene s m) + done_by w m ≡ total_weight scene (stage w) s
 staged scene s w m c = omega (arith, worth_staged (λ todos taken. to_begin w todos) (λ n. one n w) scene s m c, to_come_kept scene w m)

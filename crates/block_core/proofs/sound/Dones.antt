@@ -20,7 +20,7 @@ use Rattle.run_machine.specs.Scene.{Scene}
 use Rattle.run_machine.specs.Tasks.{Todo, request, Keeps, Starts}
 use Rattle.run_machine.specs.Opened.{Scenario, scene, start, setup as setup_in, todos}
 use Rattle.run_machine.specs.Runs.{State, Steps, Happens, IsRun}
-use Rattle.block_core.specs.Weights.{total, one, no_weight}
+use Rattle.block_core.specs.Weights.{total_weight, one, no_weight}
 use Rattle.block_core.specs.Scenarios.{IsScenario, IsNaming}
 use Rattle.block_core.specs.Dones.{done_in, times_done}
 use Rattle.block_core.specs.Rounds.{round_of, is_of_round, tops, tops_left, all_worth, unfinished_of}
@@ -58,7 +58,7 @@ module _ (s : Scenario) (ledger : ℕ → LedgerId) (good : IsScenario s) (namin
   fair = record { named = naming }
 
   runs_to_done : (events : List Event) (state : State) → IsRun (scene s ledger) (start s) events state → (w : ℕ)
-      → times_done w events + total (scene s ledger) (stage w) state ≡ total (scene s ledger) (stage w) (start s)
+      → times_done w events + total_weight (scene s ledger) (stage w) state ≡ total_weight (scene s ledger) (stage w) (start s)
   runs_to_done events state run w = runs_done (scene s ledger) fair (ground s.stack good.stack (setup_in s).places) w (start s) events state (start_whole s ledger good naming) run
 
 pub unfinished_until_done : WritesAreUnfinishedUntilDone
@@ -68,7 +68,7 @@ unfinished_until_done s ledger events state good naming run w lt =
       runs_to_done s ledger good naming events state run w,
       stage_once s ledger good naming w,
       start_staged s good ledger w lt,
-      ap (λ u. total (scene s ledger) u state) (stage_is w),
+      ap (λ u. total_weight (scene s ledger) u state) (stage_is w),
     )
 
 pub none_left_undone : NoneIsLeftUndone
@@ -76,7 +76,7 @@ none_left_undone s ledger events state good naming run none w lt =
     let r : ℕ = round_of s.rounds w in
     let u = unfinished_of (is_of_round s.rounds r) in
     let tally = run_tallied s ledger good naming events state run in
-    let nothing : total (scene s ledger) u state ≡ 0 = sym (tally.left r) ∙ zero_at state.objects.tally.left r none in
+    let nothing : total_weight (scene s ledger) u state ≡ 0 = sym (tally.left r) ∙ zero_at state.objects.tally.left r none in
     omega (
       arith,
       nothing,
@@ -231,8 +231,8 @@ pub tally_has_statuses : TallyHasStatuses
 tally_has_statuses s ledger events state good naming run event write status c tells =
     let some = times_at_least write status event events c tells in
     let total_is = runs_to_done s ledger good naming events state run write in
-    let begins : total (scene s ledger) (stage write) (start s) ≡ to_begin write (todos s) =
-    ap (λ u. total (scene s ledger) u (start s)) (stage_is write) ∙ (unfinished_at_start s good ledger (λ n. one n write) ∙ sym (begins_worth write (todos s))) in
+    let begins : total_weight (scene s ledger) (stage write) (start s) ≡ to_begin write (todos s) =
+    ap (λ u. total_weight (scene s ledger) u (start s)) (stage_is write) ∙ (unfinished_at_start s good ledger (λ n. one n write) ∙ sym (begins_worth write (todos s))) in
     let known : write < length s.writes = elim (below_or write (length s.writes)) [
       | inl lt ↦ lt
       | inr ge ↦ absurd (omega (arith, some, total_is, begins, beyond write 0 (length s.writes) (zip s.rounds s.writes) (omega (arith, ge))))

@@ -13,7 +13,7 @@ use Rattle.run_machine.specs.Scene.{Scene, tree_at}
 use Rattle.run_machine.specs.Submissions.{Doing, Rests, Drives, Copies, Breaks, Submission, legs_of}
 use Rattle.run_machine.specs.Tasks.{Carried, Empty, Brings, Carries, Fails, TaskState, Writer, Rescuer, Completer, Keeper}
 use Rattle.run_machine.specs.Runs.{State}
-use Rattle.block_core.specs.Weights.{Weight, Spot, Lined, Rescued, Pending, Brought, total, doing_weight, submission_weight, task_weight, carried_weight}
+use Rattle.block_core.specs.Weights.{Weight, Spot, Lined, Rescued, Pending, Brought, total_weight, doing_weight, submission_weight, task_weight, carried_weight}
 use Rattle.block_core.specs.EachBio.{DoingHas, SubmissionHas, CarriedHas, TaskHas, EachBio, DoingCopies, TaskCopies, EachCopied}
 use Rattle.block_core.proofs.sound.Facts.{DoingFits, TaskFits, Kept}
 use Rattle.block_core.proofs.moves.SumsCompared.{IsPart}
@@ -61,7 +61,7 @@ module _ (scene : Scene) (s : State) (P : Item Pad → Type 0) (is : (spot : Spo
         (λ w. omega (arith, part_of (λ dev (disk : DiskState). sum_by (w.bio Pending) disk.pending) scene.setup.count s.objects.disk dev lt));
   }
 
-pub each_bio : (P : Item Pad → Type 0) (w : Weight) → ((spot : Spot) (item : Item Pad) → w.bio spot item ≡ 0 → P item) → (scene : Scene) (s : State) → total scene w s ≡ 0 → EachBio P scene s
+pub each_bio : (P : Item Pad → Type 0) (w : Weight) → ((spot : Spot) (item : Item Pad) → w.bio spot item ≡ 0 → P item) → (scene : Scene) (s : State) → total_weight scene w s ≡ 0 → EachBio P scene s
 each_bio P w is scene s none = each_part scene s P (λ spot item part. is spot item (omega (arith, none, part w)))
 
 -- and so it is with a bio that a mirror copies, of which a leg is left
@@ -83,5 +83,5 @@ module _ (scene : Scene) (s : State) (i : Kept scene s) (P : Bio → ℕ → Typ
   each_copied_part place lt = of_copier place (s.task place) (i.tasks place) (λ w. omega (arith, part_of (task_weight w) scene.tasks s.task place lt))
 
 pub each_copied : (P : Bio → ℕ → Type 0) (w : Weight) → ((bio : Bio) (master leg : ℕ) → w.copy bio master leg ≡ 0 → P bio master) → (scene : Scene) (s : State) → Kept scene s
-    → total scene w s ≡ 0 → EachCopied P scene s
+    → total_weight scene w s ≡ 0 → EachCopied P scene s
 each_copied P w is scene s i none = each_copied_part scene s i P (λ bio master leg lt part. is bio master leg (omega (arith, none, part w)))

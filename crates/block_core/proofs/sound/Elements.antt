@@ -17,7 +17,7 @@ use Rattle.run_machine.specs.Scene.{Setup, Scene, tree_at}
 use Rattle.run_machine.specs.Submissions.{Takes, Punts, Links, ToPush, ToCut, ToRecord, ToMaster, Doing, Rests, Drives, Copies, Breaks, Submission, rests, copies, first_length, landed, legs_of, leg_at}
 use Rattle.run_machine.specs.Tasks.{TaskState, Writer, Rescuer, Completer, Keeper, Todo, Gathered, NoBio, HasBio, HasBoth, Carried, Empty, Brings, Carries, Fails}
 use Rattle.run_machine.specs.Runs.{State}
-use Rattle.block_core.specs.Weights.{Weight, Spot, Lined, Rescued, Pending, total, sum_at, weigh_option, doing_weight, submission_weight, gathered_weight, carried_weight, task_weight, book_weight, elements_of_pool, holding_elements, one, no_weight}
+use Rattle.block_core.specs.Weights.{Weight, Spot, Lined, Rescued, Pending, total_weight, sum_at, weigh_option, doing_weight, submission_weight, gathered_weight, carried_weight, task_weight, book_weight, elements_of_pool, holding_elements, one, no_weight}
 use Rattle.block_core.specs.Charges.{there}
 use Rattle.block_core.specs.Rooms.{to_open, todo_need, legs_need}
 use Rattle.block_core.proofs.moves.Moves.{Move, Can, after, lost, gained, limit_of, TellsNode, gathered_of, filled_of, cut_lists}
@@ -245,7 +245,7 @@ module _ (scene : Scene) (s : State) (g : Ground scene.setup) (n : Needs scene.s
   sum_le f h zero xs le = omega arith
   sum_le f h (suc m) xs le = omega (arith, sum_le f h m xs le, le m)
 
-  pub outs_within : (q : ℕ) → (s.objects.pool q).facts.out ≤ total scene (worth scene.setup) s
+  pub outs_within : (q : ℕ) → (s.objects.pool q).facts.out ≤ total_weight scene (worth scene.setup) s
   outs_within q =
       omega (
         arith,
@@ -260,5 +260,5 @@ module _ (scene : Scene) (s : State) (g : Ground scene.setup) (n : Needs scene.s
             (length (s.objects.book writer).nodes) (node_at (s.objects.book writer)) (λ place. node_out q writer place (node_at (s.objects.book writer) place))),
       )
 
-  pub stays_within : (m : Move) → Can scene s m → total scene (worth scene.setup) (after scene s m) ≤ total scene (worth scene.setup) s
+  pub stays_within : (m : Move) → Can scene s m → total_weight scene (worth scene.setup) (after scene s m) ≤ total_weight scene (worth scene.setup) s
   stays_within m c = omega (arith, delta scene (worth scene.setup) s m c, fits m c)

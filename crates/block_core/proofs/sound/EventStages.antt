@@ -16,7 +16,7 @@ use Rattle.run_machine.specs.Submissions.{Takes, Punts as WantsPunt, Links, ToPu
 use Rattle.run_machine.specs.Tasks.{Todo, Gathered, NoBio, HasBio, HasBoth, Carried, Empty, Brings, Carries, Fails}
 use Rattle.run_machine.specs.Objects.{clear_bio, clear_vector}
 use Rattle.run_machine.specs.Runs.{State}
-use Rattle.block_core.specs.Weights.{Weight, total, doing_weight, submission_weight, carried_weight}
+use Rattle.block_core.specs.Weights.{Weight, total_weight, doing_weight, submission_weight, carried_weight}
 use Rattle.block_core.proofs.moves.Moves.{Move, Can, after, limit_of, gathered_of, filled_of, cut_lists, TellsNode}
 use Rattle.block_core.proofs.moves.Moves as moves
 use Rattle.block_core.proofs.moves.Deltas.{delta}
@@ -84,7 +84,7 @@ module _ (f : List Todo → Gathered → ℕ) (worth : ℕ → ℕ) where
 
   -- what writes in stage are worth changes where one is told done, and as what is to come does
   pub staged : (scene : Scene) (s : State) (m : Move) → Can scene s m
-      → total scene w (after scene s m) + ended_worth worth m + to_come_before f m ≡ total scene w s + to_come_after scene f worth m
+      → total_weight scene w (after scene s m) + ended_worth worth m + to_come_before f m ≡ total_weight scene w s + to_come_after scene f worth m
   -- takes: a writer then has something for its next write
   staged scene s (moves.TakesFirst place writer todo later move) c = omega (arith, delta scene w s (moves.TakesFirst place writer todo later move) c)
   staged scene s (moves.TakesVector place writer todo later item move) c = omega (arith, delta scene w s (moves.TakesVector place writer todo later item move) c)

@@ -4,7 +4,7 @@ use Rattle.elem_ledger.specs.Ledger.{LedgerId}
 use Rattle.bio_books.specs.Books.{node_at}
 use Rattle.run_machine.specs.Scene.{Scene}
 use Rattle.run_machine.specs.Runs.{State}
-use Rattle.block_core.specs.Weights.{total}
+use Rattle.block_core.specs.Weights.{total_weight}
 use Rattle.block_core.proofs.sound.Facts.{Fair, Kept}
 use Rattle.block_core.proofs.sound.Orders.{Placed, Ground}
 use Rattle.run_machine.specs.Opened.{Scenario, scene, start, setup as setup_in}
@@ -62,8 +62,8 @@ module _ (scene : Scene) (f : Fair scene) (g : Ground scene.setup) where
   runs_whole s (event ∷ events) new i (next, (place, steps), run) = runs_whole next events new (step_whole s place event next i steps) run
 
   pub runs_done : (w : ℕ) (s : State) (events : List Event) (new : State) → Whole scene s → IsRun scene s events new
-      → times_done w events + total scene (stage w) new ≡ total scene (stage w) s
-  runs_done w s [] new i run = omega (arith, ap (total scene (stage w)) run)
+      → times_done w events + total_weight scene (stage w) new ≡ total_weight scene (stage w) s
+  runs_done w s [] new i run = omega (arith, ap (total_weight scene (stage w)) run)
   runs_done w s (event ∷ events) new i (next, (place, steps), run) =
       omega (arith, runs_done w next events new (step_whole s place event next i steps) run, step_done scene s w f i.kept place event next steps)
 
@@ -121,7 +121,7 @@ module _ (s : Scenario) (ledger : ℕ → LedgerId) (good : IsScenario s) (namin
       record { kept = opened_kept (scene s ledger) (start s) o; placed = start_placed s good ledger; alive = λ w k. subst IsAlive (sym (o.books w k)) tt }
 
   -- at the start each write is in stage in its writer alone
-  pub stage_once : (w : ℕ) → total (scene s ledger) (stage w) (start s) ≤ 1
+  pub stage_once : (w : ℕ) → total_weight (scene s ledger) (stage w) (start s) ≤ 1
   stage_once w = stage_at_start s good ledger w
 
   pub start_leveled : AreLeveled (scene s ledger) (start s)

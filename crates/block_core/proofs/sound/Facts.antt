@@ -13,7 +13,8 @@ use Rattle.run_machine.specs.Scene.{Setup, Scene, tree_at}
 use Rattle.run_machine.specs.Submissions.{Driving, ToPush, ToCut, ToRecord, ToMaster, Doing, Rests, Drives, Copies, Breaks, Submission, rests, legs_of}
 use Rattle.run_machine.specs.Tasks.{TaskState, Writer, Rescuer, Completer, Keeper, Keeping, Keeps, Stops, Gathered, NoBio, HasBio, HasBoth}
 use Rattle.run_machine.specs.Runs.{State}
-use Rattle.block_core.specs.Weights.{total, elements_of_pool, refs, count_of}
+use Rattle.block_core.specs.Weights.{total_weight, elements_of_pool}
+use Rattle.block_core.proofs.moves.References.{references, awaited_ends}
 use Rattle.block_core.specs.Roles.{named}
 
 abbrev pub away : Option (Item Pad) → ℕ
@@ -85,11 +86,11 @@ pub record Fair (scene : Scene) : Type 0 where
 pub record Kept (scene : Scene) (s : State) : Type 0 where
   -- each pool adds up, and has as many elements out as there are in all places
   pub pools : (p : ℕ) → AddsUp (s.objects.pool p).facts
-  pub outs : (p : ℕ) → (s.objects.pool p).facts.out ≡ total scene (elements_of_pool p) s
+  pub outs : (p : ℕ) → (s.objects.pool p).facts.out ≡ total_weight scene (elements_of_pool p) s
   -- a node waits for as many ends as there are references to it, and nothing refers to one that is not open
-  pub counts : (w k : ℕ) → count_of (node_at (s.objects.book w) k) ≡ total scene (refs scene.setup w k) s
+  pub counts : (w k : ℕ) → awaited_ends (node_at (s.objects.book w) k) ≡ total_weight scene (references scene.setup w k) s
   -- a node's own part is away exactly where one bio names it
-  pub owns : (w k : ℕ) → own_of (node_at (s.objects.book w) k) ≡ total scene (named w k) s
+  pub owns : (w k : ℕ) → own_of (node_at (s.objects.book w) k) ≡ total_weight scene (named w k) s
   pub inside : (w : ℕ) → scene.books ≤ w → (s.objects.book w).nodes ≡ []
   -- what each task has is in order, and at a device of the stack
   pub tasks : (place : ℕ) → TaskFits scene (s.task place)

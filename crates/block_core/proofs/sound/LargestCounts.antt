@@ -11,7 +11,8 @@ use Rattle.run_machine.specs.declared.event.Event.{Event}
 use Rattle.run_machine.specs.Scene.{Scene}
 use Rattle.run_machine.specs.Opened.{Scenario, scene, start, tasks as opened_tasks, todos, places_of, setup as setup_in}
 use Rattle.run_machine.specs.Runs.{State, IsRun}
-use Rattle.block_core.specs.Weights.{total, count_of}
+use Rattle.block_core.specs.Weights.{total_weight}
+use Rattle.block_core.proofs.moves.References.{awaited_ends}
 use Rattle.block_core.specs.Scenarios.{IsScenario, IsNaming}
 use Rattle.block_core.specs.Breaks.{ElementsAreAllowed}
 use Rattle.block_core.specs.LargestCounts.{OutsAreWithinWhatWritesNeed, EndsAreWithinPlacesAndTasks, CountersAreSmall, NoCounterIsFull}
@@ -30,12 +31,12 @@ use Rattle.block_core.proofs.sound.Elements.{write_need, worth, outs_within, sta
 
 module _ (scene : Scene) (f : Fair scene) (g : Ground scene.setup) (n : Needs scene.setup) where
   pub runs_within : (s : State) (events : List Event) (new : State) → Whole scene s → IsRun scene s events new
-      → total scene (worth scene.setup) new ≤ total scene (worth scene.setup) s
-  runs_within s [] new i run = let same = ap (total scene (worth scene.setup)) run in omega (arith, same)
+      → total_weight scene (worth scene.setup) new ≤ total_weight scene (worth scene.setup) s
+  runs_within s [] new i run = let same = ap (total_weight scene (worth scene.setup)) run in omega (arith, same)
   runs_within s (event ∷ events) new i (next, (place, steps), run) =
       let j = runs_whole scene f g s (event ∷ []) next i (next, (place, steps), refl) in
       let moved = step_is_move scene s f i.kept place event next steps in
-      let same = ap (total scene (worth scene.setup)) moved.is in
+      let same = ap (total_weight scene (worth scene.setup)) moved.is in
       omega (arith, same, stays_within scene s g n i.kept i.placed moved.move moved.can, runs_within next events new j run)
 
 module _ (s : Scenario) (good : IsScenario s) (ledger : ℕ → LedgerId) where
@@ -49,7 +50,7 @@ module _ (s : Scenario) (good : IsScenario s) (ledger : ℕ → LedgerId) where
         zip_sum (elements s.stack) s.rounds s.writes,
       )
 
-  pub start_within : total (scene s ledger) (worth (setup_in s)) (start s) ≤ all_elements s.stack s.writes
+  pub start_within : total_weight (scene s ledger) (worth (setup_in s)) (start s) ≤ all_elements s.stack s.writes
   start_within = omega (arith, opened_total s good ledger (worth (setup_in s)) (write_need (setup_in s)) (λ n ts. omega arith), todos_need)
 
 module _ (s : Scenario) (ledger : ℕ → LedgerId) (good : IsScenario s) (naming : IsNaming ledger) (events : List Event) (state : State) (run : IsRun (scene s ledger) (start s) events state) where
@@ -72,7 +73,7 @@ module _ (s : Scenario) (ledger : ℕ → LedgerId) (good : IsScenario s) (namin
   ends : (writer place : ℕ) (node : Node) → node_at (state.objects.book writer) place ≡ Some node → node.count ≤ 1 + places_of s writer + length (opened_tasks s)
   ends writer place node at =
       let i = whole in
-      let count : count_of (node_at (state.objects.book writer) place) ≡ node.count = ap count_of at in
+      let count : awaited_ends (node_at (state.objects.book writer) place) ≡ node.count = ap awaited_ends at in
       omega (arith, count, ends_few (scene s ledger) state i.kept (run_roomy s ledger good naming events state run) writer place)
 
   counters : ElementsAreAllowed s → CountersAreSmall state

@@ -22,7 +22,8 @@ use Rattle.run_machine.specs.Scene.{Setup, Scene, tree_at}
 use Rattle.run_machine.specs.Submissions.{Want, Takes, Punts as WantsPunt, Links, ToPush, ToCut, ToRecord, ToMaster, Doing, Rests, Drives, Copies, Breaks, Submission, settled, goes_on, copies, asks_at, first_length, landed, legs_of, leg_at}
 use Rattle.run_machine.specs.Tasks.{TaskState, Writer, Rescuer, Completer, Keeper}
 use Rattle.run_machine.specs.Runs.{State}
-use Rattle.block_core.specs.Weights.{Lined, total, refs, names_node, count_of}
+use Rattle.block_core.specs.Weights.{Lined, total_weight, names_node}
+use Rattle.block_core.proofs.moves.References.{references, awaited_ends}
 use Rattle.block_core.specs.Orders.{IsLegOf}
 use Rattle.block_core.proofs.moves.Moves.{Move, place_of, Can, after, limit_of, with_submission, HasSubmission, Wants, with_want, filled_of, vector_of, cut_lists}
 use Rattle.block_core.proofs.moves.Moves as moves
@@ -198,20 +199,20 @@ module _ (scene : Scene) (s : State) (i : Kept scene s) (p : Placed scene.setup 
   new = after scene s m
 
   -- a leg that a bio in a task's list 0 names is open behind the event too
-  leg_stays : (writer master : ℕ) (item : Item Pad) → names_node item.bio.writer item.bio.node item ≤ total scene (refs scene.setup item.bio.writer item.bio.node) new
+  leg_stays : (writer master : ℕ) (item : Item Pad) → names_node item.bio.writer item.bio.node item ≤ total_weight scene (references scene.setup item.bio.writer item.bio.node) new
       → IsLegOf s writer master item → IsLegOf new writer master item
   leg_stays writer master item part (of, (node, at, role)) =
       let here : node_at (s.objects.book item.bio.writer) item.bio.node ≡ Some node = subst (λ w. node_at (s.objects.book w) item.bio.node ≡ Some node) (sym of) at in
       elim (stays_or_closes scene s m c item.bio.writer item.bio.node node here) [
         | inl (found, is, same) ↦ (of, (found, subst (λ w. node_at (new.objects.book w) item.bio.node ≡ Some found) of is, same ∙ role))
         | inr none ↦ absurd (
-            let count : count_of (node_at (new.objects.book item.bio.writer) item.bio.node) ≡ 0 = ap count_of none in
+            let count : awaited_ends (node_at (new.objects.book item.bio.writer) item.bio.node) ≡ 0 = ap awaited_ends none in
             omega (arith, part, names_one item, count, j.counts item.bio.writer item.bio.node)
             )
       ]
 
   legs_stay : (writer master : ℕ) (items : List (Item Pad))
-      → ((item : Item Pad) → ((g : Item Pad → ℕ) → g item ≤ sum_by g items) → names_node item.bio.writer item.bio.node item ≤ total scene (refs scene.setup item.bio.writer item.bio.node) new)
+      → ((item : Item Pad) → ((g : Item Pad → ℕ) → g item ≤ sum_by g items) → names_node item.bio.writer item.bio.node item ≤ total_weight scene (references scene.setup item.bio.writer item.bio.node) new)
       → Each (IsLegOf s writer master) items → Each (IsLegOf new writer master) items
   legs_stay writer master [] part legs = tt
   legs_stay writer master (item ∷ items) part legs = (
@@ -224,7 +225,7 @@ module _ (scene : Scene) (s : State) (i : Kept scene s) (p : Placed scene.setup 
   has_still place x (Copies bio master leg want) lists lt is h d = (
     legs_stay bio.writer master lists.list0
         (λ item within.
-        let w = refs scene.setup item.bio.writer item.bio.node in
+        let w = references scene.setup item.bio.writer item.bio.node in
         omega (arith, within (w.bio (Lined (limit_of x))), submission_part w place x (Copies bio master leg want) lists h, task_part scene w new place x lt is)) d.0,
     d.1,
   )

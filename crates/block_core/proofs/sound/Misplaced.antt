@@ -15,7 +15,7 @@ use Rattle.run_machine.specs.Scene.{Scene, tree_at}
 use Rattle.run_machine.specs.Submissions.{Links, ToCut, ToMaster, Drives, Copies, first_length, legs_of, leg_at}
 use Rattle.run_machine.specs.Tasks.{Todo}
 use Rattle.run_machine.specs.Runs.{State}
-use Rattle.block_core.specs.Weights.{Weight, total, task_weight, carried_weight, under, no_weight}
+use Rattle.block_core.specs.Weights.{Weight, total_weight, task_weight, carried_weight, under, no_weight}
 use Rattle.block_core.specs.Touches.{is_master}
 use Rattle.block_core.proofs.status.Marks.{yes, mismatch}
 use Rattle.block_core.proofs.moves.Moves.{Move, Can, after, lost, gained, limit_of, filled_of, cut_lists}
@@ -51,7 +51,7 @@ misplaced mark was_master = record no_weight {
 }
 
 abbrev pub ArePlaced : Scene → State → (ℕ → Bool) → Type 0
-ArePlaced scene s was_master = (mark : ℕ → ℕ → Bool) × (total scene (misplaced mark was_master) s ≡ 0)
+ArePlaced scene s was_master = (mark : ℕ → ℕ → Bool) × (total_weight scene (misplaced mark was_master) s ≡ 0)
 
 blind : (mark : ℕ → ℕ → Bool) (was_master : ℕ → Bool) → IsBlind (misplaced mark was_master)
 blind mark was_master limit item t = landed_same (λ (bio : Bio). yes (mark bio.writer bio.node)) (λ to members bio. refl) t item.bio
@@ -84,8 +84,8 @@ module _ (mark : ℕ → ℕ → Bool) (was_master : ℕ → Bool) (writer key :
   }
 
   -- a vacant place may have any mark
-  vacant_placed : (scene : Scene) (s : State) → Kept scene s → IsVacant (s.objects.book writer) key → total scene (misplaced mark was_master) s ≡ 0
-      → total scene (misplaced new was_master) s ≡ 0
+  vacant_placed : (scene : Scene) (s : State) → Kept scene s → IsVacant (s.objects.book writer) key → total_weight scene (misplaced mark was_master) s ≡ 0
+      → total_weight scene (misplaced new was_master) s ≡ 0
   vacant_placed scene s i vacant off = omega (arith, off, none_moves scene s i writer key vacant (misplaced new was_master) (misplaced mark was_master) unmoved)
 
 -- the kinds of closed nodes that tasks carry, behind an event
@@ -114,7 +114,7 @@ above_parent mark (role.Chain parent) = omega arith
 above_parent mark (role.Master parent) = omega arith
 above_parent mark (role.Leg parent) = omega arith
 
-module _ (scene : Scene) (s : State) (i : Kept scene s) (was_master : ℕ → Bool) (mark : ℕ → ℕ → Bool) (none : total scene (misplaced mark was_master) s ≡ 0) where
+module _ (scene : Scene) (s : State) (i : Kept scene s) (was_master : ℕ → Bool) (mark : ℕ → ℕ → Bool) (none : total_weight scene (misplaced mark was_master) s ≡ 0) where
   abbrev w : (ℕ → ℕ → Bool) → Weight
   w m = misplaced m was_master
 

@@ -15,7 +15,7 @@ use Rattle.run_machine.specs.Submissions.{Links, ToCut, ToMaster, Drives, Copies
 use Rattle.run_machine.specs.Tasks.{Todo, Completer, Carries}
 use Rattle.run_machine.specs.Opened.{Scenario, scene, start, setup as setup_in}
 use Rattle.run_machine.specs.Runs.{State, IsRun}
-use Rattle.block_core.specs.Weights.{total, under}
+use Rattle.block_core.specs.Weights.{total_weight, under}
 use Rattle.block_core.specs.Scenarios.{IsScenario, IsNaming}
 use Rattle.block_core.specs.OfOneWrite.{AreOfOneWrite, AllAreOfOneWrite}
 use Rattle.block_core.proofs.moves.Sums.{apart}
@@ -62,7 +62,7 @@ module _ (write_of : ℕ → ℕ → ℕ) (writer key n : ℕ) where
   }
 
   -- so a vacant place may have any
-  pub vacant_strays : (scene : Scene) (s : State) → Kept scene s → IsVacant (s.objects.book writer) key → total scene (strays write_of) s ≡ 0 → total scene (strays new) s ≡ 0
+  pub vacant_strays : (scene : Scene) (s : State) → Kept scene s → IsVacant (s.objects.book writer) key → total_weight scene (strays write_of) s ≡ 0 → total_weight scene (strays new) s ≡ 0
   vacant_strays scene s i vacant off = omega (arith, off, none_moves scene s i writer key vacant (strays new) (strays write_of) unmoved)
 
 begun_of_write : (write_of : ℕ → ℕ → ℕ) (writer : ℕ) (todo : Todo) (item : Item Pad) (vector : Option VectorItem) (key : ℕ) → write_of writer key ≡ todo.number
@@ -75,7 +75,7 @@ leg_of_write write_of bio hand leg key (Leaf number sectors) lt is = absurd (ome
 leg_of_write write_of bio hand leg key (Split number kind sizes members) lt is = absurd (omega (arith, lt))
 leg_of_write write_of bio hand leg key (Mirrored number sizes members) lt is = omega (arith, is)
 
-module _ (scene : Scene) (s : State) (i : Kept scene s) (write_of : ℕ → ℕ → ℕ) (none : total scene (strays write_of) s ≡ 0) where
+module _ (scene : Scene) (s : State) (i : Kept scene s) (write_of : ℕ → ℕ → ℕ) (none : total_weight scene (strays write_of) s ≡ 0) where
   -- the writes stay
   same : (m : Move) → Can scene s m → gained scene (strays write_of) s m ≤ lost scene (strays write_of) s m → NoneStrays scene (after scene s m)
   same m c le = (write_of, omega (arith, none, delta scene (strays write_of) s m c, le))
@@ -199,7 +199,7 @@ module _ (scene : Scene) (s : State) (i : Kept scene s) (write_of : ℕ → ℕ 
       omega (arith, none, same, node_part scene s i (strays write_of) writer key child at, node_write writer parent node up)
 
 -- the writes of places of which all is, as facts
-module _ (scene : Scene) (s : State) (i : Kept scene s) (write_of : ℕ → ℕ → ℕ) (none : total scene (strays write_of) s ≡ 0) where
+module _ (scene : Scene) (s : State) (i : Kept scene s) (write_of : ℕ → ℕ → ℕ) (none : total_weight scene (strays write_of) s ≡ 0) where
   are_of_one_write : AreOfOneWrite scene s
   are_of_one_write = record {
     write_of = write_of;

@@ -6,7 +6,7 @@ use Rattle.bio_books.specs.Books.{VectorItem, SlipItem, Holding, parent_of}
 use Rattle.bio_books.specs.Drops.{Closed}
 use Rattle.run_machine.specs.Scene.{Scene}
 use Rattle.run_machine.specs.Runs.{State}
-use Rattle.block_core.specs.Weights.{Weight, total, weigh_option, no_weight}
+use Rattle.block_core.specs.Weights.{Weight, total_weight, weigh_option, no_weight}
 use Rattle.block_core.proofs.moves.Sums.{apart}
 
 -- a bio that names a node is of the pool of the node's level; the two pools of writes are one level, 64
@@ -53,4 +53,4 @@ off_levels level = record no_weight {
 
 -- there are levels on which all is
 abbrev pub AreLeveled : Scene → State → Type 0
-AreLeveled scene state = (level : ℕ → ℕ → ℕ) × (total scene (off_levels level) state ≡ 0)
+AreLeveled scene state = (level : ℕ → ℕ → ℕ) × (total_weight scene (off_levels level) state ≡ 0)

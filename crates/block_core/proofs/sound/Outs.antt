@@ -10,7 +10,7 @@ use Rattle.bio_lists.specs.Submission.{submitted}
 use Rattle.run_machine.specs.Scene.{Scene, tree_at}
 use Rattle.run_machine.specs.Submissions.{ToMaster, Drives, first_length, legs_of, leg_at}
 use Rattle.run_machine.specs.Runs.{State}
-use Rattle.block_core.specs.Weights.{total, one, weigh_option, elements_of_pool, holding_elements}
+use Rattle.block_core.specs.Weights.{total_weight, one, weigh_option, elements_of_pool, holding_elements}
 use Rattle.block_core.proofs.moves.Moves.{Move, Can, after, limit_of, cut_lists}
 use Rattle.block_core.proofs.moves.Moves as moves
 use Rattle.block_core.proofs.moves.Sums.{weight-upd}
@@ -21,7 +21,7 @@ use Rattle.block_core.proofs.sound.Facts.{Fair, Kept}
 use Rattle.block_core.proofs.sound.SumParts.{out_more, out_same, out_less, cut_weight, blind_elements, begun_elements, hands_elements, copies_weight, unless_none, submission_part, named_away, told_elements, is_away}
 
 module _ (scene : Scene) (s : State) (f : Fair scene) (i : Kept scene s) where
-  pub outs : (m : Move) → Can scene s m → (q : ℕ) → ((after scene s m).objects.pool q).facts.out ≡ total scene (elements_of_pool q) (after scene s m)
+  pub outs : (m : Move) → Can scene s m → (q : ℕ) → ((after scene s m).objects.pool q).facts.out ≡ total_weight scene (elements_of_pool q) (after scene s m)
   -- takes
   outs (moves.TakesFirst place writer todo later move) c q =
       omega (arith, i.outs q, delta scene (elements_of_pool q) s (moves.TakesFirst place writer todo later move) c, out_more s.objects.pool 65 move q c.2, ap (λ n. one n q) (f.named 65))

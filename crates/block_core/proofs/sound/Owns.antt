@@ -14,7 +14,8 @@ use Rattle.run_machine.specs.Scene.{Setup, Scene, tree_at}
 use Rattle.run_machine.specs.Submissions.{Want, Takes, Punts as WantsPunt, Links, ToPush, ToCut, ToRecord, ToMaster, Doing, Rests, Drives, Copies, Breaks, rests, settled, first_length, legs_of, leg_at}
 use Rattle.run_machine.specs.Tasks.{TaskState, Writer, Rescuer, Completer, Keeper, Todo, Gathered, NoBio, HasBio, HasBoth, Carried, Empty, Brings, Carries, Fails}
 use Rattle.run_machine.specs.Runs.{State}
-use Rattle.block_core.specs.Weights.{total, sum_at, one, weigh_option, want_weight, doing_weight, task_weight, submission_weight, gathered_weight, carried_weight, book_weight, refs, names_node, count_of}
+use Rattle.block_core.specs.Weights.{total_weight, sum_at, one, weigh_option, want_weight, doing_weight, task_weight, submission_weight, gathered_weight, carried_weight, book_weight, names_node}
+use Rattle.block_core.proofs.moves.References.{references, awaited_ends}
 use Rattle.block_core.proofs.moves.Moves.{Move, Can, after, lost, gained, limit_of, gathered_of, filled_of, vector_of, cut_lists, TellsNode}
 use Rattle.block_core.proofs.moves.Moves as moves
 use Rattle.block_core.proofs.moves.Sums.{one-same}
@@ -32,12 +33,12 @@ sum_at-le v w zero f h = omega arith
 sum_at-le v w (suc n) f h = omega (arith, sum_at-le v w n f h, h n (f n))
 
 module _ (setup : Setup) (w k : ℕ) where
-  want_le : (want : Want) → want_weight (named w k) want ≤ want_weight (refs setup w k) want
+  want_le : (want : Want) → want_weight (named w k) want ≤ want_weight (references setup w k) want
   want_le (Takes waits) = omega arith
   want_le WantsPunt = omega arith
   want_le (Links hand) = omega arith
 
-  doing_le : (limit : ℕ) (doing : Doing) → doing_weight (named w k) limit doing ≤ doing_weight (refs setup w k) limit doing
+  doing_le : (limit : ℕ) (doing : Doing) → doing_weight (named w k) limit doing ≤ doing_weight (references setup w k) limit doing
   doing_le limit Rests = omega arith
   doing_le limit (Drives bio ToPush) = omega arith
   doing_le limit (Drives bio (ToCut want)) = omega (arith, want_le want)
@@ -46,12 +47,12 @@ module _ (setup : Setup) (w k : ℕ) where
   doing_le limit (Copies bio master leg want) = omega (arith, want_le want)
   doing_le limit (Breaks breach kept) = omega arith
 
-  taken_le : (taken : Gathered) → gathered_weight (named w k) taken ≤ gathered_weight (refs setup w k) taken
+  taken_le : (taken : Gathered) → gathered_weight (named w k) taken ≤ gathered_weight (references setup w k) taken
   taken_le NoBio = omega arith
   taken_le (HasBio item) = omega arith
   taken_le (HasBoth item vector) = omega arith
 
-  task_le : (place : ℕ) (x : TaskState) → task_weight (named w k) place x ≤ task_weight (refs setup w k) place x
+  task_le : (place : ℕ) (x : TaskState) → task_weight (named w k) place x ≤ task_weight (references setup w k) place x
   task_le place (Writer number todo taken submission) = omega (arith, doing_le 32 submission.doing, taken_le taken)
   task_le place (Rescuer dev submission) = omega (arith, doing_le dev.0 submission.doing)
   task_le place (Completer disk Empty) = omega arith
@@ -60,18 +61,18 @@ module _ (setup : Setup) (w k : ℕ) where
   task_le place (Completer disk (Fails breach kept)) = omega arith
   task_le place (Keeper keeping) = omega arith
 
-  node_le : (writer place : ℕ) (x : Option Node) → weigh_option ((named w k).node writer place) x ≤ weigh_option ((refs setup w k).node writer place) x
+  node_le : (writer place : ℕ) (x : Option Node) → weigh_option ((named w k).node writer place) x ≤ weigh_option ((references setup w k).node writer place) x
   node_le writer place None = omega arith
   node_le writer place (Some node) = omega arith
 
 -- a bio that names a node refers to it
-pub named_le : (scene : Scene) (w k : ℕ) (s : State) → total scene (named w k) s ≤ total scene (refs scene.setup w k) s
+pub named_le : (scene : Scene) (w k : ℕ) (s : State) → total_weight scene (named w k) s ≤ total_weight scene (references scene.setup w k) s
 named_le scene w k s =
     omega (
       arith,
-      sum_at-le (task_weight (named w k)) (task_weight (refs scene.setup w k)) scene.tasks s.task (λ place x. task_le scene.setup w k place x),
-      sum_at-le (book_weight (named w k)) (book_weight (refs scene.setup w k)) scene.books s.objects.book
-          (λ writer book. sum_at-le (λ place. weigh_option ((named w k).node writer place)) (λ place. weigh_option ((refs scene.setup w k).node writer place)) (length book.nodes) (node_at book)
+      sum_at-le (task_weight (named w k)) (task_weight (references scene.setup w k)) scene.tasks s.task (λ place x. task_le scene.setup w k place x),
+      sum_at-le (book_weight (named w k)) (book_weight (references scene.setup w k)) scene.books s.objects.book
+          (λ writer book. sum_at-le (λ place. weigh_option ((named w k).node writer place)) (λ place. weigh_option ((references scene.setup w k).node writer place)) (length book.nodes) (node_at book)
           (λ place x. node_le scene.setup w k writer place x)),
     )
 
@@ -122,7 +123,7 @@ told_own writer key status part (Fails breach kept) node t none = absurd t
 
 module _ (scene : Scene) (s : State) (f : Fair scene) (i : Kept scene s) where
   same : (m : Move) → Can scene s m → (w k : ℕ) → (after scene s m).objects.book ≡ s.objects.book → lost scene (named w k) s m ≡ gained scene (named w k) s m
-      → own_of (node_at ((after scene s m).objects.book w) k) ≡ total scene (named w k) (after scene s m)
+      → own_of (node_at ((after scene s m).objects.book w) k) ≡ total_weight scene (named w k) (after scene s m)
   same m c w k books even =
       let b : own_of (node_at ((after scene s m).objects.book w) k) ≡ own_of (node_at (s.objects.book w) k) = ap (λ (book : ℕ → BookState). own_of (node_at (book w) k)) books in
       omega (arith, b, i.owns w k, delta scene (named w k) s m c, even)
@@ -131,7 +132,7 @@ module _ (scene : Scene) (s : State) (f : Fair scene) (i : Kept scene s) where
   pub closing_own : (place : ℕ) (disk : DevId) (carried : Carried) (writer key : ℕ) (status : Status) (part : Option (Item Pad)) (node : Node)
       → Can scene s (moves.Closes place disk carried writer key status part node) → 0 + brought carried ≡ own_of (Some node)
   closing_own place disk carried writer key status part node c =
-      let one_ref : count_of (node_at (s.objects.book writer) key) ≡ node.count = ap count_of c.4 in
+      let one_ref : awaited_ends (node_at (s.objects.book writer) key) ≡ node.count = ap awaited_ends c.4 in
       let last : node.count ≡ 1 = c.5 in
       let own : own_of (node_at (s.objects.book writer) key) ≡ own_part node.role node.held.bio = ap own_of c.4 in
       let t : one writer writer * one key key ≡ 1 = rw (one-same writer, one-same key) refl in
@@ -140,14 +141,14 @@ module _ (scene : Scene) (s : State) (f : Fair scene) (i : Kept scene s) where
         arith,
         i.counts writer key,
         i.owns writer key,
-        delta scene (refs scene.setup writer key) s (moves.Closes place disk carried writer key status part node) c,
+        delta scene (references scene.setup writer key) s (moves.Closes place disk carried writer key status part node) c,
         delta scene (named writer key) s (moves.Closes place disk carried writer key status part node) c,
         tells_refs scene.setup writer key writer key status part carried c.2,
         tells_named writer key writer key status part carried c.2,
         named_le scene writer key (after scene s (moves.Closes place disk carried writer key status part node)),
       )
 
-  pub owns : (m : Move) → Can scene s m → (w k : ℕ) → own_of (node_at ((after scene s m).objects.book w) k) ≡ total scene (named w k) (after scene s m)
+  pub owns : (m : Move) → Can scene s m → (w k : ℕ) → own_of (node_at ((after scene s m).objects.book w) k) ≡ total_weight scene (named w k) (after scene s m)
   -- takes, misses, punts, pops, pushes and completions
   owns (moves.TakesFirst place writer todo later move) c w k = same (moves.TakesFirst place writer todo later move) c w k refl refl
   owns (moves.TakesVector place writer todo later item move) c w k = same (moves.TakesVector place writer todo later item move) c w k refl refl

@@ -10,7 +10,8 @@ use Rattle.bio_books.specs.Drops.{Closed}
 use Rattle.run_machine.specs.Scene.{Scene}
 use Rattle.run_machine.specs.Tasks.{Completer, Carries}
 use Rattle.run_machine.specs.Runs.{State}
-use Rattle.block_core.specs.Weights.{Weight, total, one, refs, under, legs_left, count_of}
+use Rattle.block_core.specs.Weights.{Weight, total_weight, one, under, legs_left}
+use Rattle.block_core.proofs.moves.References.{references, awaited_ends}
 use Rattle.block_core.specs.EachBio.{EachBio, EachCopied}
 use Rattle.block_core.specs.Touches.{is_master}
 use Rattle.block_core.specs.Roles.{is_leg, named, masters, children, legs_to_make, WaitsForParts, IsUnderOpen, HasRoles}
@@ -90,7 +91,7 @@ module _ (scene : Scene) (s : State) (was_master : ℕ → Bool) (i : Kept scene
   kind : (writer place : ℕ) (node : Node) → node_at (s.objects.book writer) place ≡ Some node → is_master node.role ≡ mark writer place
   kind writer place node at = kind_is node.role (mark writer place) (omega (arith, t.right.1, node_part scene s i off writer place node at))
 
-  no_masters : (w k : ℕ) → mark w k ≡ true → total scene (masters was_master w k) s ≡ 0
+  no_masters : (w k : ℕ) → mark w k ≡ true → total_weight scene (masters was_master w k) s ≡ 0
   no_masters w k is =
       omega (
         arith,
@@ -118,7 +119,7 @@ module _ (scene : Scene) (s : State) (was_master : ℕ → Bool) (i : Kept scene
       by_kind writer true None = omega arith
       by_kind writer true (Some parent) = marked mark writer w parent k is
 
-  no_legs : (w k : ℕ) → mark w k ≡ false → total scene (legs_to_make scene.setup w k) s ≡ 0
+  no_legs : (w k : ℕ) → mark w k ≡ false → total_weight scene (legs_to_make scene.setup w k) s ≡ 0
   no_legs w k other =
       omega (
         arith,
@@ -138,15 +139,15 @@ module _ (scene : Scene) (s : State) (was_master : ℕ → Bool) (i : Kept scene
       )
 
   waits : (writer place : ℕ) (node : Node) → node_at (s.objects.book writer) place ≡ Some node
-      → WaitsForParts (is_master node.role) node.held.bio node.count (total scene (named writer place) s) (total scene (masters was_master writer place) s)
-      (total scene (children was_master writer place) s) (total scene (legs_to_make scene.setup writer place) s)
+      → WaitsForParts (is_master node.role) node.held.bio node.count (total_weight scene (named writer place) s) (total_weight scene (masters was_master writer place) s)
+      (total_weight scene (children was_master writer place) s) (total_weight scene (legs_to_make scene.setup writer place) s)
   waits writer place node at =
       let own : own_of (node_at (s.objects.book writer) place) ≡ own_part node.role node.held.bio = ap own_of at in
-      let count : count_of (node_at (s.objects.book writer) place) ≡ node.count = ap count_of at in
+      let count : awaited_ends (node_at (s.objects.book writer) place) ≡ node.count = ap awaited_ends at in
       let is = kind writer place node at in
-      waits_by node.role node.held.bio node.count (total scene (named writer place) s) (total scene (masters was_master writer place) s)
-      (total scene (children was_master writer place) s) (total scene (legs_to_make scene.setup writer place) s)
-      (omega (arith, count, i.counts writer place, total_sum (refs scene.setup writer place) _ _ _ _ (refs_are scene.setup was_master writer place) scene s))
+      waits_by node.role node.held.bio node.count (total_weight scene (named writer place) s) (total_weight scene (masters was_master writer place) s)
+      (total_weight scene (children was_master writer place) s) (total_weight scene (legs_to_make scene.setup writer place) s)
+      (omega (arith, count, i.counts writer place, total_sum (references scene.setup writer place) _ _ _ _ (refs_are scene.setup was_master writer place) scene s))
       (sym own ∙ i.owns writer place)
       (omega (arith, own, t.all writer place))
       (λ same. no_masters writer place (sym is ∙ same))
@@ -159,7 +160,7 @@ module _ (scene : Scene) (s : State) (was_master : ℕ → Bool) (i : Kept scene
       → (above : Node) × (node_at (s.objects.book writer) parent ≡ Some above) × (is_master above.role ≡ is_leg node.role)
   parents writer place node parent at is =
       let up = open_at scene s i writer parent
-      (omega (arith, refers writer parent (parent_of node.role) is, node_part scene s i (refs scene.setup writer parent) writer place node at)) in
+      (omega (arith, refers writer parent (parent_of node.role) is, node_part scene s i (references scene.setup writer parent) writer place node at)) in
       let right : wrong_parent (mark writer) node.role ≡ 0 = omega (arith, t.right.1, node_part scene s i off writer place node at) in
       (up.0, up.1, kind writer parent up.0 up.1 ∙ parent_kind (mark writer) node.role parent right is)
 
@@ -167,7 +168,7 @@ module _ (scene : Scene) (s : State) (was_master : ℕ → Bool) (i : Kept scene
       → (above : Node) × (node_at (s.objects.book writer) parent ≡ Some above) × (was_master place ≡ true → is_master above.role ≡ false)
   carried place disk writer closed parent here is found =
       let up = open_at scene s i writer parent
-      (omega (arith, refers writer parent closed.parent found, task_part scene (refs scene.setup writer parent) s place (Completer disk (Carries writer closed)) here is)) in
+      (omega (arith, refers writer parent closed.parent found, task_part scene (references scene.setup writer parent) s place (Completer disk (Carries writer closed)) here is)) in
       let right : wrong_above (mark writer) (was_master place) closed.parent ≡ 0 = omega (arith, t.right.1, task_part scene off s place (Completer disk (Carries writer closed)) here is) in
       (up.0, up.1, λ same. kind writer parent up.0 up.1 ∙ above_kind (mark writer) (was_master place) closed.parent parent right found same)
 
@@ -175,14 +176,14 @@ module _ (scene : Scene) (s : State) (was_master : ℕ → Bool) (i : Kept scene
   named_open =
       each_part scene s (λ item. IsUnderOpen s item.bio.writer item.bio.node false)
       (λ spot item part.
-      let up = open_at scene s i item.bio.writer item.bio.node (omega (arith, names_one item, part (refs scene.setup item.bio.writer item.bio.node))) in
+      let up = open_at scene s i item.bio.writer item.bio.node (omega (arith, names_one item, part (references scene.setup item.bio.writer item.bio.node))) in
       (up.0, up.1, kind item.bio.writer item.bio.node up.0 up.1 ∙ is_false (mark item.bio.writer item.bio.node) (omega (arith, t.right.1, part off))))
 
   copied_open : EachCopied (λ bio master. IsUnderOpen s bio.writer master true) scene s
   copied_open =
       each_copied_part scene s i (λ bio master. IsUnderOpen s bio.writer master true)
       (λ bio master leg lt part.
-      let up = open_at scene s i bio.writer master (omega (arith, copied_times scene.setup bio master leg, lt, part (refs scene.setup bio.writer master))) in
+      let up = open_at scene s i bio.writer master (omega (arith, copied_times scene.setup bio master leg, lt, part (references scene.setup bio.writer master))) in
       (up.0, up.1, kind bio.writer master up.0 up.1 ∙ is_true (mark bio.writer master) (omega (arith, t.right.1, part off))))
 
   pub has_roles : HasRoles scene was_master s

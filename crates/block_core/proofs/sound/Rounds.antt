@@ -12,7 +12,7 @@ use Rattle.run_machine.specs.Scene.{Scene}
 use Rattle.run_machine.specs.Submissions.{Submission, rests}
 use Rattle.run_machine.specs.Tasks.{TaskState, Writer, Rescuer, Completer, Keeper, Keeping, Keeps, Stops, Duty, Resizes, Starts, Todo, Gathered, NoBio, Carries}
 use Rattle.run_machine.specs.Runs.{State}
-use Rattle.block_core.specs.Weights.{Weight, total, one, task_weight}
+use Rattle.block_core.specs.Weights.{Weight, total_weight, one, task_weight}
 use Rattle.block_core.proofs.moves.Moves.{Move, Can, after, with_submission, gathered_of}
 use Rattle.block_core.proofs.moves.Moves as moves
 use Rattle.block_core.proofs.moves.Sums.{upd-same, upd-other, one-same, one-other, same_or_not, below_or}
@@ -76,15 +76,15 @@ pub record TallyFits (rounds : List ℕ) (tally : TallyState) : Type 0 where
   pub present : tally.round < length tally.left
 
 pub record Tallied (rounds : List ℕ) (keeper : ℕ) (scene : Scene) (s : State) : Type 0 where
-  pub left : (r : ℕ) → slice_index_or s.objects.tally.left r 0 ≡ total scene (unfinished_of (is_of_round rounds r)) s
-  pub later : (r : ℕ) → s.objects.tally.round < r → total scene (begun_of (is_of_round rounds r)) s ≡ 0
+  pub left : (r : ℕ) → slice_index_or s.objects.tally.left r 0 ≡ total_weight scene (unfinished_of (is_of_round rounds r)) s
+  pub later : (r : ℕ) → s.objects.tally.round < r → total_weight scene (begun_of (is_of_round rounds r)) s ≡ 0
   pub tally : TallyFits rounds s.objects.tally
   pub tasks : (place : ℕ) → TaskRounds rounds keeper s.objects.tally.round place (s.task place)
 
 module _ (rounds : List ℕ) (keeper : ℕ) (scene : Scene) (s : State) (i : Tallied rounds keeper scene s) where
   -- what the carried top of a write is worth is in the sum
   carried_part : (w : Weight) (place : ℕ) (disk : DevId) (writer : ℕ) (closed : Closed) → place < scene.tasks → s.task place ≡ Completer disk (Carries writer closed)
-      → w.closed place writer closed ≤ total scene w s
+      → w.closed place writer closed ≤ total_weight scene w s
   carried_part w place disk writer closed lt is =
       let a : task_weight w place (s.task place) ≡ w.closed place writer closed = ap (task_weight w place) is in
       let b = part_of (task_weight w) scene.tasks s.task place lt in
@@ -239,7 +239,7 @@ module _ (rounds : List ℕ) (keeper : ℕ) (scene : Scene) (s : State) (i : Tal
     where
       by_round : (r : ℕ) → (r ≡ s.objects.tally.round) ⊎ (r ≢ s.objects.tally.round)
           → get_or (set s.objects.tally.left s.objects.tally.round (get_or s.objects.tally.left s.objects.tally.round 0 - 1)) r 0
-          ≡ total scene (unfinished_of (is_of_round rounds r)) (after scene s (moves.Ends place disk writer closed))
+          ≡ total_weight scene (unfinished_of (is_of_round rounds r)) (after scene s (moves.Ends place disk writer closed))
       by_round r (inl e) =
           let own = of_present place disk writer closed c in
           let now = s.objects.tally.round in

@@ -2,7 +2,7 @@
 use Rattle.std.proofs.Common.{◌≡◌, ◌+◌, ℕ, sym, ap, subst, arith}
 use Rattle.run_machine.specs.Scene.{Scene}
 use Rattle.run_machine.specs.Runs.{State}
-use Rattle.block_core.specs.Weights.{total}
+use Rattle.block_core.specs.Weights.{total_weight}
 use Rattle.block_core.proofs.moves.Moves.{place_of, after}
 use Rattle.block_core.proofs.sound.Facts.{IsIn, Fair, Kept}
 use Rattle.run_machine.specs.declared.event.Event.{Event}
@@ -25,12 +25,12 @@ step_keeps scene s f i place event new steps isin =
 
 -- and whether it tells a write done
 pub step_done : (scene : Scene) (s : State) (w : ℕ) → Fair scene → Kept scene s → (place : ℕ) (event : Event) (new : State) → Steps scene s place event new
-    → done_in w event.what + total scene (stage w) new ≡ total scene (stage w) s
+    → done_in w event.what + total_weight scene (stage w) new ≡ total_weight scene (stage w) s
 step_done scene s w f i place event new steps =
     let moved = step_is_move scene s f i place event new steps in
     let a : done_of w (what_of (request scene.setup (s.task place)) steps.reply) ≡ done_in w event.what = ap (done_of w) steps.told in
     let b = told_done w (request scene.setup (s.task place)) steps.reply event.what steps.told in
     let c : asked w (request scene.setup (s.task place)) ≡ asked w (request scene.setup (s.task (place_of moved.move))) = ap (λ p. asked w (request scene.setup (s.task p))) (sym moved.at) in
     let d = asked_by scene s w moved.move moved.can in
-    let e : total scene (stage w) new ≡ total scene (stage w) (after scene s moved.move) = ap (total scene (stage w)) moved.is in
+    let e : total_weight scene (stage w) new ≡ total_weight scene (stage w) (after scene s moved.move) = ap (total_weight scene (stage w)) moved.is in
     omega (arith, a, b, c, d, e, staged scene s w moved.move moved.can)

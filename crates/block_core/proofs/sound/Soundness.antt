@@ -8,7 +8,7 @@ use Rattle.run_machine.specs.Submissions.{Submission}
 use Rattle.run_machine.specs.Tasks.{TaskState, Writer, Rescuer, Completer, Carries, Keeper}
 use Rattle.run_machine.specs.Opened.{scene, start, setup as setup_in}
 use Rattle.run_machine.specs.Runs.{State}
-use Rattle.block_core.specs.Weights.{total}
+use Rattle.block_core.specs.Weights.{total_weight}
 use Rattle.block_core.specs.Fragments.{is_it}
 use Rattle.block_core.proofs.sound.CarriedLevels.{on_level, TaskOne, begins_one, stays_one}
 use Rattle.block_core.proofs.sound.LevelsKept.{stays_leveled}
@@ -43,7 +43,7 @@ use Rattle.block_core.specs.Roles.{masters}
 use Rattle.block_core.specs.Touches.{were_masters, none_was}
 
 -- the levels that all is on, as facts
-module _ (scene : Scene) (s : State) (i : Kept scene s) (level : ℕ → ℕ → ℕ) (off : total scene (off_levels level) s ≡ 0) where
+module _ (scene : Scene) (s : State) (i : Kept scene s) (level : ℕ → ℕ → ℕ) (off : total_weight scene (off_levels level) s ≡ 0) where
   pools_rise : HasLevels scene s
   pools_rise = record {
     level = level;
@@ -99,7 +99,7 @@ every_run_is_sound s ledger events state good naming run =
     runs_keep sc f g (Legged sc) (λ old m before after can held. stays_legged sc old before.kept before.placed held m can after.kept) (start s) events state first
     (record { tasks = λ place lt. begins_legless sc (start s) ((start s).task place) (o.tasks place) }) run in
     let fits =
-    runs_keep sc f g (λ st. total sc (misfits (unfit s)) st ≡ 0) (λ old m before after can none. no_misfits (unfit s) (unfit_follows s) sc old before.kept none m can) (start s) events state first
+    runs_keep sc f g (λ st. total_weight sc (misfits (unfit s)) st ≡ 0) (λ old m before after can none. no_misfits (unfit s) (unfit_follows s) sc old before.kept none m can) (start s) events state first
     (start_fits s ledger good) run in
     let all = fragments_add_up s ledger events state good naming run in
     record {

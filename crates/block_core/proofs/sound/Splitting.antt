@@ -12,7 +12,7 @@ use Rattle.run_machine.specs.Scene.{Scene}
 use Rattle.run_machine.specs.Submissions.{Want, Takes, Punts, Links, Driving, ToPush, ToCut, ToRecord, ToMaster, Doing, Rests, Drives, Copies, Breaks, Submission}
 use Rattle.run_machine.specs.Tasks.{TaskState, Writer, Rescuer, Completer, Keeper, Todo, Gathered, NoBio, HasBio, HasBoth, Carried, Empty, Brings, Carries, Fails}
 use Rattle.run_machine.specs.Runs.{State}
-use Rattle.block_core.specs.Weights.{Weight, Spot, Lined, Rescued, Pending, Brought, total, sum_at, weigh_option, want_weight, ask_weight, doing_weight, submission_weight, gathered_weight, carried_weight, task_weight, book_weight}
+use Rattle.block_core.specs.Weights.{Weight, Spot, Lined, Rescued, Pending, Brought, total_weight, sum_at, weigh_option, want_weight, ask_weight, doing_weight, submission_weight, gathered_weight, carried_weight, task_weight, book_weight}
 use Rattle.block_core.proofs.moves.Sums.{same_or_not}
 
 pub record IsSumOf (u a b x y : Weight) : Type 0 where
@@ -94,7 +94,7 @@ module _ (u a b x y : Weight) (is : IsSumOf u a b x y) where
       at_sum (λ place. weigh_option (u.node writer place)) (λ place. weigh_option (a.node writer place)) (λ place. weigh_option (b.node writer place))
       (λ place. weigh_option (x.node writer place)) (λ place. weigh_option (y.node writer place)) (length book.nodes) (node_at book) (node_sum writer)
 
-  pub total_sum : (scene : Scene) (s : State) → total scene u s ≡ total scene a s + total scene b s + total scene x s + total scene y s
+  pub total_sum : (scene : Scene) (s : State) → total_weight scene u s ≡ total_weight scene a s + total_weight scene b s + total_weight scene x s + total_weight scene y s
   total_sum scene s =
       omega (
         arith,
@@ -176,7 +176,7 @@ module _ (u v : Weight) (same : IsSameButClosed u v) where
   -- where they differ at one task alone
   pub total_but : (scene : Scene) (s : State) (place : ℕ) → place < scene.tasks
       → ((i : ℕ) → i ≢ place → (writer : ℕ) (closed : Closed) → u.closed i writer closed ≡ v.closed i writer closed)
-      → total scene u s + task_weight v place (s.task place) ≡ total scene v s + task_weight u place (s.task place)
+      → total_weight scene u s + task_weight v place (s.task place) ≡ total_weight scene v s + task_weight u place (s.task place)
   total_but scene s place lt is =
       omega (
         arith,
@@ -187,7 +187,7 @@ module _ (u v : Weight) (same : IsSameButClosed u v) where
       )
 
   -- and where they differ nowhere
-  pub total_like : (scene : Scene) (s : State) → ((i writer : ℕ) (closed : Closed) → u.closed i writer closed ≡ v.closed i writer closed) → total scene u s ≡ total scene v s
+  pub total_like : (scene : Scene) (s : State) → ((i writer : ℕ) (closed : Closed) → u.closed i writer closed ≡ v.closed i writer closed) → total_weight scene u s ≡ total_weight scene v s
   total_like scene s is =
       omega (
         arith,

@@ -14,7 +14,8 @@ use Rattle.run_machine.specs.Scene.{Setup, Scene, tree_at}
 use Rattle.run_machine.specs.Submissions.{ToMaster, Drives, first_length, legs_of, leg_at}
 use Rattle.run_machine.specs.Tasks.{Carried, Brings}
 use Rattle.run_machine.specs.Runs.{State, IsRun}
-use Rattle.block_core.specs.Weights.{Weight, total, one, task_weight, carried_weight, refs, under}
+use Rattle.block_core.specs.Weights.{Weight, total_weight, one, task_weight, carried_weight, under}
+use Rattle.block_core.proofs.moves.References.{references}
 use Rattle.block_core.specs.Touches.{touch_of, is_master, is_master_at, masters_after, were_masters}
 use Rattle.block_core.specs.Roles.{named, masters, children, legs_to_make}
 use Rattle.block_core.proofs.moves.Moves.{Move, place_of, touch_by, Can, after, lost, gained, limit_of, filled_of, vector_of, cut_lists, TellsNode}
@@ -36,7 +37,7 @@ use Rattle.block_core.proofs.images.MasterRecords.{zeros}
 use Rattle.block_core.proofs.sound.SumParts as parts
 
 -- what refers to a node
-pub refs_are : (setup : Setup) (was_master : ℕ → Bool) (w k : ℕ) → IsSumOf (refs setup w k) (named w k) (masters was_master w k) (children was_master w k) (legs_to_make setup w k)
+pub refs_are : (setup : Setup) (was_master : ℕ → Bool) (w k : ℕ) → IsSumOf (references setup w k) (named w k) (masters was_master w k) (children was_master w k) (legs_to_make setup w k)
 refs_are setup was_master w k = record {
   todo = λ writer todos taken. refl;
   bio = λ spot item. omega arith;
@@ -65,25 +66,25 @@ less_own : (writer key : ℕ) (status : Status) (part : Option (Item Pad)) (carr
 less_own writer key status part carried node t none = omega (arith, told_own writer key status part carried node t none)
 
 abbrev pub AreStoodFor : Scene → State → (ℕ → Bool) → Type 0
-AreStoodFor scene s was_master = (w k : ℕ) → total scene (masters was_master w k) s + own_of (node_at (s.objects.book w) k) ≤ 1
+AreStoodFor scene s was_master = (w k : ℕ) → total_weight scene (masters was_master w k) s + own_of (node_at (s.objects.book w) k) ≤ 1
 
 module _ (scene : Scene) (s : State) (i : Kept scene s) (was_master : ℕ → Bool) (all : AreStoodFor scene s was_master) where
   abbrev w_of : ℕ → ℕ → Weight
   w_of w k = masters was_master w k
 
   same : (m : Move) → Can scene s m → (w k : ℕ) → (after scene s m).objects.book ≡ s.objects.book → gained scene (w_of w k) s m ≤ lost scene (w_of w k) s m
-      → total scene (w_of w k) (after scene s m) + own_of (node_at ((after scene s m).objects.book w) k) ≤ 1
+      → total_weight scene (w_of w k) (after scene s m) + own_of (node_at ((after scene s m).objects.book w) k) ≤ 1
   same m c w k books le =
       let b : own_of (node_at ((after scene s m).objects.book w) k) ≡ own_of (node_at (s.objects.book w) k) = ap (λ (book : ℕ → BookState). own_of (node_at (book w) k)) books in
       omega (arith, b, all w k, delta scene (w_of w k) s m c, le)
 
   -- no master is under a vacant place
   at_vacant : (writer key : ℕ) → IsVacant (s.objects.book writer) key → (w k : ℕ)
-      → total scene (w_of w k) s + own_of (node_at (s.objects.book w) k) + one writer w * (one key k * 1) ≤ 1
+      → total_weight scene (w_of w k) s + own_of (node_at (s.objects.book w) k) + one writer w * (one key k * 1) ≤ 1
   at_vacant writer key v w k = elim (same_or_not writer w) [
     | inl e ↦ elim (same_or_not key k) [
       | inl also ↦
-          let P : ℕ → ℕ → Type 0 = λ a b. total scene (w_of a b) s + own_of (node_at (s.objects.book a) b) + one writer a * (one key b * 1) ≤ 1 in
+          let P : ℕ → ℕ → Type 0 = λ a b. total_weight scene (w_of a b) s + own_of (node_at (s.objects.book a) b) + one writer a * (one key b * 1) ≤ 1 in
           let none : own_of (node_at (s.objects.book writer) key) ≡ 0 = ap own_of (vacant_at (s.objects.book writer) key v).0 in
           let here : P writer key =
           rw (one-same writer, one-same key)
@@ -91,7 +92,7 @@ module _ (scene : Scene) (s : State) (i : Kept scene s) (was_master : ℕ → Bo
             arith,
             none,
             no_ref scene s i writer key v,
-            total_sum (refs scene.setup writer key) _ _ _ _ (refs_are scene.setup was_master writer key) scene s,
+            total_sum (references scene.setup writer key) _ _ _ _ (refs_are scene.setup was_master writer key) scene s,
           )) in
           subst (P w) also (subst (λ a. P a key) e here)
       | inr ne ↦ let z = one-other key k ne in omega (arith, all w k, ap (λ n. one writer w * (n * 1)) z)

@@ -5,7 +5,7 @@ use Rattle.bio_records.specs.Items.{Item}
 use Rattle.bio_books.specs.Books.{parent_of}
 use Rattle.run_machine.specs.Scene.{Scene}
 use Rattle.run_machine.specs.Runs.{State}
-use Rattle.block_core.specs.Weights.{Weight, total, no_weight}
+use Rattle.block_core.specs.Weights.{Weight, total_weight, no_weight}
 use Rattle.block_core.proofs.moves.Sums.{apart}
 
 -- a bio that names a node is of the node's write
@@ -29,4 +29,4 @@ strays write_of = record no_weight {
 
 -- there are writes of which all is
 abbrev pub NoneStrays : Scene → State → Type 0
-NoneStrays scene state = (write_of : ℕ → ℕ → ℕ) × (total scene (strays write_of) state ≡ 0)
+NoneStrays scene state = (write_of : ℕ → ℕ → ℕ) × (total_weight scene (strays write_of) state ≡ 0)

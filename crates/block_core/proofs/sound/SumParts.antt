@@ -21,7 +21,7 @@ use Rattle.bioset_pools.specs.Sets.{waits_first}
 use Rattle.run_machine.specs.Submissions.{Takes, Doing, Copies, rests, settled, goes_on, copies, legs_of}
 use Rattle.run_machine.specs.Tasks.{TaskState, Writer, Completer, Todo, Carried, Empty, Brings, Carries, Fails}
 use Rattle.run_machine.specs.Runs.{State}
-use Rattle.block_core.specs.Weights.{Weight, Lined, total, one, doing_weight, task_weight, submission_weight, carried_weight, elements_of_pool, holding_elements, names_node}
+use Rattle.block_core.specs.Weights.{Weight, Lined, total_weight, one, doing_weight, task_weight, submission_weight, carried_weight, elements_of_pool, holding_elements, names_node}
 use Rattle.block_core.proofs.moves.Moves.{limit_of, HasSubmission, gathered_of, filled_of, vector_of, cut_lists, IsTake, TellsNode, Hands, piece}
 use Rattle.block_core.proofs.moves.Sums.{weight-upd, one-same}
 use Rattle.block_core.proofs.moves.Totals.{task_part, submission_part as submission_in_task}
@@ -98,13 +98,13 @@ copies_weight w blind limit setup lists bio master leg =
 
 -- a submission's weight is a part of the whole
 pub submission_part : (scene : Scene) (w : Weight) (s : State) (place : ℕ) (x : TaskState) (doing : Doing) (lists : TaskLists) → place < scene.tasks → s.task place ≡ x
-    → HasSubmission x doing lists → doing_weight w (limit_of x) doing ≤ total scene w s
+    → HasSubmission x doing lists → doing_weight w (limit_of x) doing ≤ total_weight scene w s
 submission_part scene w s place x doing lists lt is h =
     omega (arith, submission_in_task w place x doing lists h, task_part scene w s place x lt is)
 
 -- A bio that a task's driver has names a node whose own part is away, and which is no master.
 pub named_away : (scene : Scene) (s : State) (bio : Item Pad) (node : Node) → Kept scene s → node_at (s.objects.book bio.bio.writer) bio.bio.node ≡ Some node
-    → names_node bio.bio.writer bio.bio.node bio ≤ total scene (named bio.bio.writer bio.bio.node) s → (node.held.bio ≡ None) × (own_part node.role None ≡ 1)
+    → names_node bio.bio.writer bio.bio.node bio ≤ total_weight scene (named bio.bio.writer bio.bio.node) s → (node.held.bio ≡ None) × (own_part node.role None ≡ 1)
 named_away scene s bio node i at part =
     let a : names_node bio.bio.writer bio.bio.node bio ≡ 1 = rw (one-same bio.bio.writer, one-same bio.bio.node) refl in
     let o = i.owns bio.bio.writer bio.bio.node in

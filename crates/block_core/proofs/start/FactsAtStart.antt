@@ -10,7 +10,8 @@ use Rattle.run_machine.specs.Scene.{Scene}
 use Rattle.run_machine.specs.Submissions.{rests}
 use Rattle.run_machine.specs.Tasks.{TaskState, Writer, Rescuer, Completer, Keeper, Keeps, Duty, Todo, NoBio, Empty}
 use Rattle.run_machine.specs.Runs.{State}
-use Rattle.block_core.specs.Weights.{Weight, Pending, Rescued, total, sum_at, weigh_option, task_weight, book_weight, elements_of_pool, refs, count_of}
+use Rattle.block_core.specs.Weights.{Weight, Pending, Rescued, total_weight, sum_at, weigh_option, task_weight, book_weight, elements_of_pool}
+use Rattle.block_core.proofs.moves.References.{references, awaited_ends}
 use Rattle.block_core.specs.Roles.{named}
 use Rattle.block_core.proofs.moves.Sums.{below_or}
 use Rattle.block_core.proofs.sound.Facts.{own_of, GoesOn, TaskFits, IsIn, Kept}
@@ -66,7 +67,7 @@ pub nodes_zero : (w : Weight) (writer : ℕ) (book : BookState) → ((k : ℕ) �
 nodes_zero w writer book h =
     sum_at-zero (λ place. weigh_option (w.node writer place)) (length book.nodes) (node_at book) (λ place. ap (weigh_option (w.node writer place)) (h place))
 
-pub total_zero : (scene : Scene) (s : State) (w : Weight) → ((n : ℕ) (todos : List Todo) → w.todo n todos NoBio ≡ 0) → IsStartState scene s → total scene w s ≡ 0
+pub total_zero : (scene : Scene) (s : State) (w : Weight) → ((n : ℕ) (todos : List Todo) → w.todo n todos NoBio ≡ 0) → IsStartState scene s → total_weight scene w s ≡ 0
 total_zero scene s w none o =
     omega (
       arith,
@@ -92,7 +93,7 @@ pub opened_kept : (scene : Scene) (s : State) → IsStartState scene s → Kept 
 opened_kept scene s o = record {
   pools = o.add_up;
   outs = λ p. o.pools p ∙ sym (total_zero scene s (elements_of_pool p) (λ n todos. refl) o);
-  counts = λ w k. ap count_of (o.books w k) ∙ sym (total_zero scene s (refs scene.setup w k) (λ n todos. refl) o);
+  counts = λ w k. ap awaited_ends (o.books w k) ∙ sym (total_zero scene s (references scene.setup w k) (λ n todos. refl) o);
   owns = λ w k. ap own_of (o.books w k) ∙ sym (total_zero scene s (named w k) (λ n todos. refl) o);
   inside = o.inside;
   tasks = λ place. begins_fit scene (s.task place) (o.tasks place);

@@ -3,7 +3,7 @@ use Rattle.std.proofs.Common.{◌≡◌, ◌+◌, ◌<◌, ◌≤◌, ℕ, zero,
 use Rattle.std.specs.Prelude.{sum_by}
 use Rattle.std.proofs.lemmas.List.Sums.{sum_by-cons}
 use Rattle.run_machine.specs.Tasks.{Todo}
-use Rattle.block_core.specs.Weights.{total, one}
+use Rattle.block_core.specs.Weights.{total_weight, one}
 use Rattle.block_core.proofs.moves.Sums.{one-same, one-other, same_or_not}
 use Rattle.std.specs.Prelude.{zip}
 use Rattle.std.specs.List.{range_with_len}
@@ -39,7 +39,7 @@ begins_sum w [] = refl
 begins_sum w (todo ∷ ts) = omega (arith, sum_by-cons (λ (todo : Todo). one todo.number w) todo ts, begins_sum w ts)
 
 -- each write is in stage once at most
-pub stage_at_start : (s : Scenario) (good : IsScenario s) (ledger : ℕ → LedgerId) (w : ℕ) → total (scene s ledger) (stage w) (start s) ≤ 1
+pub stage_at_start : (s : Scenario) (good : IsScenario s) (ledger : ℕ → LedgerId) (w : ℕ) → total_weight (scene s ledger) (stage w) (start s) ≤ 1
 stage_at_start s good ledger w =
     omega (
       arith,

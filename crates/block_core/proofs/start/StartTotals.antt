@@ -16,7 +16,7 @@ use Rattle.run_machine.specs.Scene.{Scene, is_disk}
 use Rattle.run_machine.specs.Submissions.{rests}
 use Rattle.run_machine.specs.Tasks.{TaskState, Writer, Rescuer, Completer, Keeper, Duty, Todo, NoBio, Empty}
 use Rattle.run_machine.specs.Opened.{Scenario, scene, start, tasks as opened_tasks, todos, todos_of, is_by, writers, duties, keepers, no_task, setup as setup_in, at as device_at}
-use Rattle.block_core.specs.Weights.{Weight, Pending, Rescued, total, sum_at, one, task_weight, book_weight}
+use Rattle.block_core.specs.Weights.{Weight, Pending, Rescued, total_weight, sum_at, one, task_weight, book_weight}
 use Rattle.block_core.specs.Scenarios.{IsScenario}
 use Rattle.block_core.proofs.moves.Sums.{one-same, one-other, same_or_not}
 use Rattle.block_core.proofs.start.FactsAtStart.{Begins, start_opened, nodes_zero, sum_at-zero, todos_all}
@@ -181,7 +181,7 @@ module _ (s : Scenario) (good : IsScenario s) (ledger : ℕ → LedgerId) where
   placed_sum G = places_sum G (opened_tasks s) no_task (length (opened_tasks s)) (omega arith) ∙ ap (sum_by G) (take_all (length (opened_tasks s)) (opened_tasks s) (omega arith))
 
   -- at the start everything is in the writers' hands
-  pub worth_at_start : (w : Weight) → total (scene s ledger) w (start s) ≡ sum_by (λ v. w.todo v (todos_of s v) NoBio) (writers s)
+  pub worth_at_start : (w : Weight) → total_weight (scene s ledger) w (start s) ≡ sum_by (λ v. w.todo v (todos_of s v) NoBio) (writers s)
   worth_at_start w =
       let o = start_opened s good ledger in
       omega (
@@ -199,7 +199,7 @@ module _ (s : Scenario) (good : IsScenario s) (ledger : ℕ → LedgerId) where
       keeper_none [] = refl
       keeper_none (duty ∷ ds) = refl
 
-  pub opened_total : (w : Weight) → (of : Todo → ℕ) → ((n : ℕ) (ts : List Todo) → w.todo n ts NoBio ≡ sum_by of ts) → total (scene s ledger) w (start s) ≡ sum_by of (todos s)
+  pub opened_total : (w : Weight) → (of : Todo → ℕ) → ((n : ℕ) (ts : List Todo) → w.todo n ts NoBio ≡ sum_by of ts) → total_weight (scene s ledger) w (start s) ≡ sum_by of (todos s)
   opened_total w of todo_is =
       let by : ℕ → ℕ = λ v. sum_by of (todos_of s v) in
       worth_at_start w

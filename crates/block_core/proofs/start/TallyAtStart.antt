@@ -6,7 +6,7 @@ use Rattle.std.proofs.lemmas.List.Sums.{sum_by-cons}
 use Rattle.elem_ledger.specs.Ledger.{LedgerId}
 use Rattle.run_machine.specs.Submissions.{rests}
 use Rattle.run_machine.specs.Tasks.{TaskState, Writer, Rescuer, Completer, Duty, Resizes, Starts, Todo, NoBio, Empty}
-use Rattle.block_core.specs.Weights.{total, one}
+use Rattle.block_core.specs.Weights.{total_weight, one}
 use Rattle.block_core.proofs.moves.Sums.{below_or}
 use Rattle.std.specs.Prelude.{nat_le, fold, max, zip}
 use Rattle.std.specs.List.{range_with_len, flat_map}
@@ -160,11 +160,11 @@ module _ (s : Scenario) (good : IsScenario s) (ledger : ℕ → LedgerId) where
       (keepers_fit s.rounds keeper_place keeper_place (duties s) refl (duties_fit s 0 (round_count s - 1)))))
 
   -- what all tasks have to begin
-  pub unfinished_at_start : (f : ℕ → ℕ) → total (scene s ledger) (unfinished_of f) (start s) ≡ all_worth f (todos s)
+  pub unfinished_at_start : (f : ℕ → ℕ) → total_weight (scene s ledger) (unfinished_of f) (start s) ≡ all_worth f (todos s)
   unfinished_at_start f = opened_total s good ledger (unfinished_of f) (λ (todo : Todo). f todo.number) (λ n ts. worth_sum f ts) ∙ sym (worth_sum f (todos s))
 
   -- and how many of it are of a round
-  round_at_start : (r : ℕ) → total (scene s ledger) (unfinished_of (is_of_round s.rounds r)) (start s) ≡ in_round s.rounds r
+  round_at_start : (r : ℕ) → total_weight (scene s ledger) (unfinished_of (is_of_round s.rounds r)) (start s) ≡ in_round s.rounds r
   round_at_start r =
       unfinished_at_start (is_of_round s.rounds r) ∙ todos_worth s.rounds r 0 (length s.writes) s.rounds s.writes (sym good.rounds) good.rounds own_rounds
 

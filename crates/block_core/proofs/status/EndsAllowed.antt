@@ -24,7 +24,7 @@ use Rattle.run_machine.specs.Scene.{Setup, Scene, tree_at}
 use Rattle.run_machine.specs.Submissions.{Links, ToPush, ToCut, ToMaster, Doing, Drives, Copies, rests, first_length, legs_of, leg_at}
 use Rattle.run_machine.specs.Tasks.{TaskState, Writer, HasBio, HasBoth}
 use Rattle.run_machine.specs.Runs.{State}
-use Rattle.block_core.specs.Weights.{Weight, Lined, Rescued, total, names_node}
+use Rattle.block_core.specs.Weights.{Weight, Lined, Rescued, total_weight, names_node}
 use Rattle.block_core.proofs.status.Marks.{is, bio_may, leg_may, todo_may, Mark, allowed, allowed_by, mismatch, above, unallowed, IsMarked}
 use Rattle.block_core.proofs.moves.Moves.{Move, Can, after, lost, gained, limit_of, HasSubmission, filled_of, cut_lists, piece}
 use Rattle.block_core.proofs.moves.Moves as moves
@@ -70,22 +70,22 @@ module _ (scene : Scene) (ends : Fragment → Status) (written : ℕ → Status 
         v.lands item.bio end there,
       )
 
-  module _ (s : State) (g : Ground setup) (i : Kept scene s) (a : Placed setup s) (counted : total scene (misfits over) s ≡ 0) (endings : (place : ℕ) → HasEnding ends (s.task place))
+  module _ (s : State) (g : Ground setup) (i : Kept scene s) (a : Placed setup s) (counted : total_weight scene (misfits over) s ≡ 0) (endings : (place : ℕ) → HasEnding ends (s.task place))
       (mark : ℕ → ℕ → Mark) (h : IsMarked scene ends written mark s) where
     -- a node that a driven bio names is no master
     driven_node : (place : ℕ) (x : TaskState) (bio : Item Pad) (doing : Doing) (lists : TaskLists) (node : Node) → place < scene.tasks → s.task place ≡ x → HasSubmission x doing lists
-        → names_node bio.bio.writer bio.bio.node bio ≤ total scene (named bio.bio.writer bio.bio.node) s
+        → names_node bio.bio.writer bio.bio.node bio ≤ total_weight scene (named bio.bio.writer bio.bio.node) s
         → node_at (s.objects.book bio.bio.writer) bio.bio.node ≡ Some node → (mark bio.bio.writer bio.bio.node).master ≡ false
     driven_node place x bio doing lists node here at submission part open_there =
         not_master node.role (mark bio.bio.writer bio.bio.node).master (named_away scene s bio node i open_there part).1 (by_role scene ends written s i endings mark h bio.bio.writer bio.bio.node node open_there)
 
     -- no end comes where it must not
-    same_off : (end : Status) (m : Move) → Can scene s m → gained scene (off_by mark end) s m ≤ lost scene (off_by mark end) s m → total scene (off_by mark end) (after scene s m) ≡ 0
+    same_off : (end : Status) (m : Move) → Can scene s m → gained scene (off_by mark end) s m ≤ lost scene (off_by mark end) s m → total_weight scene (off_by mark end) (after scene s m) ≡ 0
     same_off end m c le = omega (arith, h.fits end, delta scene (off_by mark end) s m c, le)
 
     more_off : (end : Status) (m : Move) → Can scene s m → (writer key : ℕ) (new : Mark) → IsVacant (s.objects.book writer) key
         → gained scene (off_by (with_mark mark writer key new) end) s m ≤ lost scene (off_by (with_mark mark writer key new) end) s m
-        → total scene (off_by (with_mark mark writer key new) end) (after scene s m) ≡ 0
+        → total_weight scene (off_by (with_mark mark writer key new) end) (after scene s m) ≡ 0
     more_off end m c writer key new vacant le =
         let marks = with_mark mark writer key new in
         omega (
@@ -110,7 +110,7 @@ module _ (scene : Scene) (ends : Fragment → Status) (written : ℕ → Status 
           le,
         )
 
-    pub off_after : (end : Status) (m : Move) → Can scene s m → total scene (off_by (marks_by setup ends mark m) end) (after scene s m) ≡ 0
+    pub off_after : (end : Status) (m : Move) → Can scene s m → total_weight scene (off_by (marks_by setup ends mark m) end) (after scene s m) ≡ 0
     -- takes, misses and punts
     off_after end (moves.TakesFirst place writer todo later move) c = same_off end (moves.TakesFirst place writer todo later move) c (omega arith)
     off_after end (moves.TakesVector place writer todo later item move) c = same_off end (moves.TakesVector place writer todo later item move) c (omega arith)

@@ -20,7 +20,7 @@ use Rattle.run_machine.specs.Scene.{Setup, Scene, tree_at}
 use Rattle.run_machine.specs.Submissions.{Links, ToPush, ToCut, ToMaster, Drives, Copies, rests, first_length, landed, legs_of, leg_at}
 use Rattle.run_machine.specs.Tasks.{Writer, HasBio, HasBoth, Carried}
 use Rattle.run_machine.specs.Runs.{State}
-use Rattle.block_core.specs.Weights.{Weight, Lined, total, one, names_node, under}
+use Rattle.block_core.specs.Weights.{Weight, Lined, total_weight, one, names_node, under}
 use Rattle.block_core.proofs.status.Marks.{is, bio_may, leg_may, todo_may, Mark, decides, lack, deciding, IsMarked}
 use Rattle.block_core.proofs.moves.Moves.{Move, Can, after, lost, gained, limit_of, filled_of, vector_of, cut_lists, piece}
 use Rattle.block_core.proofs.moves.Moves as moves
@@ -57,12 +57,12 @@ module _ (scene : Scene) (ends : Fragment → Status) (written : ℕ → Status 
       ap (λ n. n * decides master (bio_may setup ends at Ok)) (landed_same (λ (bio : Bio). one bio.writer w * one bio.node k) (λ to members bio. refl) (tree_at setup item.bio.dev) item.bio)
       ∙ ap (λ n. names_node w k item * decides master n) (v.lands item.bio Ok there)
 
-  module _ (s : State) (g : Ground setup) (i : Kept scene s) (a : Placed setup s) (counted : total scene (misfits over) s ≡ 0) (endings : (place : ℕ) → HasEnding ends (s.task place))
+  module _ (s : State) (g : Ground setup) (i : Kept scene s) (a : Placed setup s) (counted : total_weight scene (misfits over) s ≡ 0) (endings : (place : ℕ) → HasEnding ends (s.task place))
       (mark : ℕ → ℕ → Mark) (h : IsMarked scene ends written mark s) where
     -- what a node lacks still comes
     same_decided : (m : Move) → Can scene s m → (after scene s m).objects.book ≡ s.objects.book → (w k : ℕ)
         → lost scene (to_decide mark w k) s m ≤ gained scene (to_decide mark w k) s m
-        → lack (mark w k) (node_at ((after scene s m).objects.book w) k) ≤ total scene (to_decide mark w k) (after scene s m)
+        → lack (mark w k) (node_at ((after scene s m).objects.book w) k) ≤ total_weight scene (to_decide mark w k) (after scene s m)
     same_decided m c books w k le =
         omega (
           arith,
@@ -74,7 +74,7 @@ module _ (scene : Scene) (ends : Fragment → Status) (written : ℕ → Status 
 
     -- with a mark at a vacant place too
     still_decided : (writer key : ℕ) (new : Mark) → IsVacant (s.objects.book writer) key → (w k : ℕ)
-        → let marks = with_mark mark writer key new in lack (marks w k) (node_at (s.objects.book w) k) ≤ total scene (to_decide marks w k) s
+        → let marks = with_mark mark writer key new in lack (marks w k) (node_at (s.objects.book w) k) ≤ total_weight scene (to_decide marks w k) s
     still_decided writer key new vacant w k = elim (here_or writer w key k) [
       | inl same ↦
           let none : node_at (s.objects.book w) k ≡ None =
@@ -82,7 +82,7 @@ module _ (scene : Scene) (ends : Fragment → Status) (written : ℕ → Status 
           omega (arith, ap (lack (with_mark mark writer key new w k)) none)
       | inr other ↦
           let marks = with_mark mark writer key new in
-          let P : Mark → Type 0 = λ m. lack m (node_at (s.objects.book w) k) ≤ total scene (deciding setup ends marks m.master w k) s in
+          let P : Mark → Type 0 = λ m. lack m (node_at (s.objects.book w) k) ≤ total_weight scene (deciding setup ends marks m.master w k) s in
           subst P (sym (mark_other mark writer key new w k other))
           (omega (
             arith,
@@ -108,26 +108,26 @@ module _ (scene : Scene) (ends : Fragment → Status) (written : ℕ → Status 
         → let marks = with_mark mark writer key new in
         lack (marks w k) (node_at ((after scene s m).objects.book w) k) ≡ lack (marks w k) (node_at (s.objects.book w) k) + one writer w * (one key k * lack (marks w k) (Some node))
         → one writer w * (one key k * lack (marks w k) (Some node)) + lost scene (to_decide marks w k) s m ≤ gained scene (to_decide marks w k) s m
-        → lack (marks w k) (node_at ((after scene s m).objects.book w) k) ≤ total scene (to_decide marks w k) (after scene s m)
+        → lack (marks w k) (node_at ((after scene s m).objects.book w) k) ≤ total_weight scene (to_decide marks w k) (after scene s m)
     more_decided m c writer key new node vacant w k books le =
         omega (arith, still_decided writer key new vacant w k, delta scene (to_decide (with_mark mark writer key new) w k) s m c, books, le)
 
     told_here : (place : ℕ) (disk : DevId) (carried : Carried) (writer key : ℕ) (status : Status) (part : Option (Item Pad)) (node : Node)
         → (c : Can scene s (moves.Told place disk carried writer key status part node))
         → lack (mark writer key) (node_at ((after scene s (moves.Told place disk carried writer key status part node)).objects.book writer) key)
-        ≤ total scene (to_decide mark writer key) (after scene s (moves.Told place disk carried writer key status part node))
+        ≤ total_weight scene (to_decide mark writer key) (after scene s (moves.Told place disk carried writer key status part node))
     told_here place disk carried writer key status part node c =
         let m = moves.Told place disk carried writer key status part node in
         let w = to_decide mark writer key in
         let master : Bool = (mark writer key).master in
         let one_end : one writer writer * one key key * decides master (is Ok status) ≡ decides master (is Ok status) = rw (one-same writer, one-same key) (omega arith) in
-        let lacks : lack (mark writer key) (Some node) ≤ total scene w s = subst (λ found. lack (mark writer key) found ≤ total scene w s) c.4 (h.decided writer key) in
-        let comes = told_lacks (mark writer key) (h.fair writer key) node.role (by_role scene ends written s i endings mark h writer key node c.4) node.status status (total scene w (after scene s m))
+        let lacks : lack (mark writer key) (Some node) ≤ total_weight scene w s = subst (λ found. lack (mark writer key) found ≤ total_weight scene w s) c.4 (h.decided writer key) in
+        let comes = told_lacks (mark writer key) (h.fair writer key) node.role (by_role scene ends written s i endings mark h writer key node c.4) node.status status (total_weight scene w (after scene s m))
         (omega (arith, lacks, delta scene w s m c, told_weight scene ends written s i endings mark h master writer key place disk carried writer key status part c.0 c.1 c.2, one_end)) in
         omega (arith, comes, ap (lack (mark writer key)) (place_same s.objects.book writer key (Some (lowered (told node status part))) (within_book (s.objects.book writer) key node c.4)))
 
     pub decided_after : (m : Move) → Can scene s m → (w k : ℕ)
-        → lack (marks_by setup ends mark m w k) (node_at ((after scene s m).objects.book w) k) ≤ total scene (to_decide (marks_by setup ends mark m) w k) (after scene s m)
+        → lack (marks_by setup ends mark m w k) (node_at ((after scene s m).objects.book w) k) ≤ total_weight scene (to_decide (marks_by setup ends mark m) w k) (after scene s m)
     -- takes, misses and punts
     decided_after (moves.TakesFirst place writer todo later move) c w k = same_decided (moves.TakesFirst place writer todo later move) c refl w k (omega arith)
     decided_after (moves.TakesVector place writer todo later item move) c w k = same_decided (moves.TakesVector place writer todo later item move) c refl w k (omega arith)
@@ -287,7 +287,7 @@ module _ (scene : Scene) (ends : Fragment → Status) (written : ℕ → Status 
                 ap (lack (mark w k)) (place_other s.objects.book writer key (Some new) w k other),
               )
           | inl same ↦
-              let P : ℕ → ℕ → Type 0 = λ w k. lack (mark w k) (node_at ((after scene s m).objects.book w) k) ≤ total scene (to_decide mark w k) (after scene s m) in
+              let P : ℕ → ℕ → Type 0 = λ w k. lack (mark w k) (node_at ((after scene s m).objects.book w) k) ≤ total_weight scene (to_decide mark w k) (after scene s m) in
               subst (λ x. P x k) (sym same.0) (subst (P writer) (sym same.1) (told_here place disk carried writer key status part node c))
         ]
     -- drops that close a node
@@ -309,7 +309,7 @@ module _ (scene : Scene) (ends : Fragment → Status) (written : ℕ → Status 
                 ap (lack (mark w k)) (place_other s.objects.book writer key None w k other),
               )
           | inl same ↦
-              let P : ℕ → ℕ → Type 0 = λ w k. lack (mark w k) (node_at ((after scene s m).objects.book w) k) ≤ total scene (to_decide mark w k) (after scene s m) in
+              let P : ℕ → ℕ → Type 0 = λ w k. lack (mark w k) (node_at ((after scene s m).objects.book w) k) ≤ total_weight scene (to_decide mark w k) (after scene s m) in
               let gone = place_same s.objects.book writer key None (within_book (s.objects.book writer) key node c.4) in
               subst (λ x. P x k) (sym same.0) (subst (P writer) (sym same.1) (omega (arith, ap (lack (mark writer key)) gone)))
         ]

@@ -20,7 +20,7 @@ use Rattle.run_machine.specs.Tasks.{Todo}
 use Rattle.run_machine.specs.Opened.{Scenario}
 use Rattle.run_machine.specs.Runs.{State}
 use Rattle.block_core.specs.Touches.{is_master}
-use Rattle.block_core.specs.Weights.{Weight, Spot, Lined, Rescued, Pending, Brought, total, one, names_node, under, legs_left}
+use Rattle.block_core.specs.Weights.{Weight, Spot, Lined, Rescued, Pending, Brought, total_weight, one, names_node, under, legs_left}
 use Rattle.block_core.specs.Fragments.{offset_of, fragment_of}
 use Rattle.block_core.proofs.moves.Sums.{apart}
 
@@ -151,5 +151,5 @@ deciding setup ends mark master w k = record {
 -- With these marks no end comes where it must not, and what a node lacks still comes. So a node closes with an end of its run.
 pub record IsMarked (scene : Scene) (ends : Fragment → Status) (written : ℕ → Status → ℕ) (mark : ℕ → ℕ → Mark) (state : State) : Type 0 where
   pub fair : (w k : ℕ) → IsMark (mark w k)
-  pub fits : (end : Status) → total scene (unallowed scene.setup ends written mark end) state ≡ 0
-  pub decided : (w k : ℕ) → lack (mark w k) (node_at (state.objects.book w) k) ≤ total scene (deciding scene.setup ends mark (mark w k).master w k) state
+  pub fits : (end : Status) → total_weight scene (unallowed scene.setup ends written mark end) state ≡ 0
+  pub decided : (w k : ℕ) → lack (mark w k) (node_at (state.objects.book w) k) ≤ total_weight scene (deciding scene.setup ends mark (mark w k).master w k) state

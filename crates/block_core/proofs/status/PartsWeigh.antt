@@ -14,7 +14,7 @@ use Rattle.run_machine.specs.Scene.{Scene}
 use Rattle.run_machine.specs.Submissions.{Want, Takes, Punts, Links, Driving, ToPush, ToCut, ToRecord, ToMaster, Doing, Rests, Drives, Copies, Breaks, Submission}
 use Rattle.run_machine.specs.Tasks.{Todo, Gathered, NoBio, HasBio, HasBoth, Carried, Empty, Brings, Carries, Fails, TaskState, Writer, Rescuer, Completer, Keeper}
 use Rattle.run_machine.specs.Runs.{State}
-use Rattle.block_core.specs.Weights.{Weight, Spot, Lined, Rescued, Pending, Brought, sum_at, weigh_option, doing_weight, submission_weight, gathered_weight, want_weight, ask_weight, task_weight, book_weight, total}
+use Rattle.block_core.specs.Weights.{Weight, Spot, Lined, Rescued, Pending, Brought, sum_at, weigh_option, doing_weight, submission_weight, gathered_weight, want_weight, ask_weight, task_weight, book_weight, total_weight}
 use Rattle.block_core.specs.AtWork.{DoingHolds, SubmissionHolds, CarriedHolds, SubmissionOf, IsBrought, IsInDisk, IsAtWork}
 use Rattle.block_core.proofs.images.PlannedOnce.{term_in}
 use Rattle.block_core.proofs.moves.Totals.{part_of, task_part}
@@ -58,13 +58,13 @@ module _ (scene : Scene) (s : State) (w : Weight) where
   submission_of_task place (Keeper keeping) submission is = absurd is
 
   -- a submission that a task has
-  pub submission_within : (place : ℕ) (submission : Submission) → place < scene.tasks → SubmissionOf (s.task place) submission → (limit : ℕ) × (submission_weight w limit submission ≤ total scene w s)
+  pub submission_within : (place : ℕ) (submission : Submission) → place < scene.tasks → SubmissionOf (s.task place) submission → (limit : ℕ) × (submission_weight w limit submission ≤ total_weight scene w s)
   submission_within place submission lt is =
       let r = submission_of_task place (s.task place) submission is in
       let le = r.1 in
       (r.0, omega (arith, le, part_of (task_weight w) scene.tasks s.task place lt))
 
-  pub in_disk : (item : Item Pad) → IsInDisk scene s item → w.bio Pending item ≤ total scene w s
+  pub in_disk : (item : Item Pad) → IsInDisk scene s item → w.bio Pending item ≤ total_weight scene w s
   in_disk item (dev, lt, has) =
       omega (
         arith,
@@ -72,10 +72,10 @@ module _ (scene : Scene) (s : State) (w : Weight) where
         part_of (λ dev (disk : DiskState). sum_by (w.bio Pending) disk.pending) scene.setup.count s.objects.disk dev lt,
       )
 
-  pub is_brought : (item : Item Pad) → IsBrought scene s item → w.bio Brought item ≤ total scene w s
+  pub is_brought : (item : Item Pad) → IsBrought scene s item → w.bio Brought item ≤ total_weight scene w s
   is_brought item (place, disk, carried, lt, is, holds) = by_carried carried is holds
     where
-      by_carried : (carried : Carried) → s.task place ≡ Completer disk carried → CarriedHolds item carried → w.bio Brought item ≤ total scene w s
+      by_carried : (carried : Carried) → s.task place ≡ Completer disk carried → CarriedHolds item carried → w.bio Brought item ≤ total_weight scene w s
       by_carried Empty is holds = absurd holds
       by_carried (Brings bio status) is holds =
           let e : w.bio Brought bio ≡ w.bio Brought item = ap (w.bio Brought) holds in
@@ -84,7 +84,7 @@ module _ (scene : Scene) (s : State) (w : Weight) where
       by_carried (Fails breach kept) is holds = absurd holds
 
   -- a bio at work
-  pub at_work : (item : Item Pad) → IsAtWork scene s item → (spot : Spot) × (w.bio spot item ≤ total scene w s)
+  pub at_work : (item : Item Pad) → IsAtWork scene s item → (spot : Spot) × (w.bio spot item ≤ total_weight scene w s)
   at_work item (inl (place, submission, lt, is, holds)) =
       let r = submission_within place submission lt is in
       let le = r.1 in
@@ -96,7 +96,7 @@ module _ (scene : Scene) (s : State) (w : Weight) where
       by_doing limit (Copies bio master leg want) holds = absurd holds
       by_doing limit (Breaks breach kept) holds = absurd holds
 
-      by_submission : SubmissionHolds item submission → (limit : ℕ) → submission_weight w limit submission ≤ total scene w s → w.bio (Lined limit) item ≤ total scene w s
+      by_submission : SubmissionHolds item submission → (limit : ℕ) → submission_weight w limit submission ≤ total_weight scene w s → w.bio (Lined limit) item ≤ total_weight scene w s
       by_submission (inl driven) limit le = omega (arith, le, by_doing limit submission.doing driven)
       by_submission (inr (inl listed)) limit le = omega (arith, le, term_in (w.bio (Lined limit)) submission.lists.list0 item listed)
       by_submission (inr (inr listed)) limit le = omega (arith, le, term_in (w.bio (Lined limit)) submission.lists.list1 item listed)
@@ -232,7 +232,7 @@ module _ (scene : Scene) (s : State) (w : Weight) where
         let b = some_place (λ place. weigh_option (w.node r.0 place)) (length (s.objects.book r.0).nodes) (node_at (s.objects.book r.0)) r.2 in
         node_weighs r.0 b.0 (node_at (s.objects.book r.0) b.0) refl b.2
 
-    pub some_weighs : 1 ≤ total scene w s → Weighs
+    pub some_weighs : 1 ≤ total_weight scene w s → Weighs
     some_weighs some = elim (zero_or tasks_sum) [
       | inr more ↦ of_tasks more
       | inl none ↦ elim (zero_or rescued_sum) [

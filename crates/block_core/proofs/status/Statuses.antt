@@ -32,7 +32,7 @@ use Rattle.run_machine.specs.Opened.{Scenario, scene, start, todos, setup as set
 use Rattle.run_machine.specs.Requests as requests
 use Rattle.run_machine.specs.Requests.{Reply}
 use Rattle.run_machine.specs.Runs.{State, IsRun, Happens, HasEnded}
-use Rattle.block_core.specs.Weights.{total, one}
+use Rattle.block_core.specs.Weights.{total_weight, one}
 use Rattle.block_core.specs.Rounds.{round_of, is_of_round, tops, tops_left, all_worth, unfinished_of}
 use Rattle.block_core.specs.Scenarios.{IsScenario, IsNaming}
 use Rattle.block_core.proofs.status.Marks.{is, may, bio_may, todo_may, write_may, Mark, IsMark, lack, above, unallowed, IsMarked}
@@ -108,7 +108,7 @@ module _ (s : Scenario) (ledger : ℕ → LedgerId) (st : State) (own : (number 
 
 -- all that is known of statuses
 pub record HasStatuses (s : Scenario) (ledger : ℕ → LedgerId) (bios : ℕ → ℕ → Bio) (st : State) : Type 0 where
-  pub counted : total (scene s ledger) (misfits over) st ≡ 0
+  pub counted : total_weight (scene s ledger) (misfits over) st ≡ 0
   pub own : (number : ℕ) → IsOwn s number (st.objects.disk number)
   pub endings : (place : ℕ) → HasEnding (fault_of s.stack) (st.task place)
   pub mark : ℕ → ℕ → Mark
@@ -117,7 +117,7 @@ pub record HasStatuses (s : Scenario) (ledger : ℕ → LedgerId) (bios : ℕ �
   -- a write is unfinished, or its status is one that it may have
   pub all : length st.objects.tally.statuses ≡ length s.writes
   pub tallied : (number : ℕ) → number < length s.writes
-      → (1 ≤ total (scene s ledger) (stage number) st) ⊎ ((end : Status) × (slice_get st.objects.tally.statuses number ≡ Some end) × WriteMayEnd s number end)
+      → (1 ≤ total_weight (scene s ledger) (stage number) st) ⊎ ((end : Status) × (slice_get st.objects.tally.statuses number ≡ Some end) × WriteMayEnd s number end)
 
 -- what is left of a top node ends as its write may
 ends_given : (s : Scenario) (ledger : ℕ → LedgerId) (bios : ℕ → ℕ → Bio) (st : State) → HasStatuses s ledger bios st → (place : ℕ) (disk : DevId) (writer : ℕ) (closed : Closed)
@@ -147,7 +147,7 @@ module _ (s : Scenario) (ledger : ℕ → LedgerId) (f : Fair (scene s ledger)) 
   module _ (bios : ℕ → ℕ → Bio) (st : State) (i : Whole sc st) (t : HasStatuses s ledger bios st) where
     Tallied : Move → ℕ → Type 0
     Tallied m number =
-        (1 ≤ total sc (stage number) (after sc st m)) ⊎ ((end : Status) × (slice_get (after sc st m).objects.tally.statuses number ≡ Some end) × WriteMayEnd s number end)
+        (1 ≤ total_weight sc (stage number) (after sc st m)) ⊎ ((end : Status) × (slice_get (after sc st m).objects.tally.statuses number ≡ Some end) × WriteMayEnd s number end)
 
     same_tallied : (m : Move) → Can sc st m → (number : ℕ) → number < length s.writes → done_by number m ≡ 0 → (after sc st m).objects.tally.statuses ≡ st.objects.tally.statuses → Tallied m number
     unfolding Tallied
@@ -246,7 +246,7 @@ module _ (s : Scenario) (good : IsScenario s) (ledger : ℕ → LedgerId) where
   begins_ending (Completer disk carried) h = subst (λ c. HasEnding (fault_of s.stack) (Completer disk c)) (sym h.1) tt
   begins_ending (Keeper keeping) h = tt
 
-  start_off : (end : Status) → total (scene s ledger) (unallowed (setup_in s) (fault_of s.stack) (write_may s) (λ w k. plain) end) (start s) ≡ 0
+  start_off : (end : Status) → total_weight (scene s ledger) (unallowed (setup_in s) (fault_of s.stack) (write_may s) (λ w k. plain) end) (start s) ≡ 0
   start_off end =
       let of : Todo → ℕ = λ todo. todo_may (setup_in s) (fault_of s.stack) todo end - write_may s todo.number end in
       opened_total s good ledger (unallowed (setup_in s) (fault_of s.stack) (write_may s) (λ w k. plain) end) of (λ n ts. refl)
@@ -257,7 +257,7 @@ module _ (s : Scenario) (good : IsScenario s) (ledger : ℕ → LedgerId) where
       )) (own_writes s)
       ∙ sum_of_zero (todos s))
 
-  pub start_staged : (number : ℕ) → number < length s.writes → 1 ≤ total (scene s ledger) (stage number) (start s)
+  pub start_staged : (number : ℕ) → number < length s.writes → 1 ≤ total_weight (scene s ledger) (stage number) (start s)
   start_staged number lt =
       omega (
         arith,
@@ -366,7 +366,7 @@ module _ (s : Scenario) (ledger : ℕ → LedgerId) (events : List Event) (state
           | inr x ↦ x
           | inl some ↦
               let r : ℕ = round_of s.rounds number in
-              let none : total (scene s ledger) (unfinished_of (is_of_round s.rounds r)) state ≡ 0 = sym (tally.left r) ∙ zero_at state.objects.tally.left r ended.writes in
+              let none : total_weight (scene s ledger) (unfinished_of (is_of_round s.rounds r)) state ≡ 0 = sym (tally.left r) ∙ zero_at state.objects.tally.left r ended.writes in
               let u = unfinished_of (is_of_round s.rounds r) in
               absurd (omega (arith, some, none, within (stage number) u u u (stage_within s.rounds number) (scene s ledger) state))
         ];

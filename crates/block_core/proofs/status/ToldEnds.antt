@@ -13,7 +13,8 @@ use Rattle.bio_books.specs.Drops.{Closed, closed_of}
 use Rattle.run_machine.specs.Scene.{Setup, Scene, tree_at}
 use Rattle.run_machine.specs.Tasks.{TaskState, Writer, Rescuer, Completer, Keeper, Carried, Empty, Brings, Carries, Fails}
 use Rattle.run_machine.specs.Runs.{State}
-use Rattle.block_core.specs.Weights.{Weight, total, one, carried_weight, refs, names_node, under, legs_left, count_of}
+use Rattle.block_core.specs.Weights.{Weight, total_weight, one, carried_weight, names_node, under, legs_left}
+use Rattle.block_core.proofs.moves.References.{references, awaited_ends}
 use Rattle.block_core.specs.Fragments.{fragment_of}
 use Rattle.block_core.proofs.status.Marks.{is, bio_may, leg_may, Mark, IsMark, allowed, decides, lack, mismatch, above, unallowed, deciding, IsMarked}
 use Rattle.block_core.proofs.moves.Moves.{Can, after, TellsNode}
@@ -53,7 +54,7 @@ module _ (scene : Scene) (ends : Fragment → Status) (written : ℕ → Status 
   to_decide mark w k = deciding setup ends mark (mark w k).master w k
 
   -- what decides a node refers to it
-  deciding_within : (mark : ℕ → ℕ → Mark) → ((w k : ℕ) → IsMark (mark w k)) → (master : Bool) (w k : ℕ) → IsWithin (deciding setup ends mark master w k) (refs setup w k) (refs setup w k) (refs setup w k)
+  deciding_within : (mark : ℕ → ℕ → Mark) → ((w k : ℕ) → IsMark (mark w k)) → (master : Bool) (w k : ℕ) → IsWithin (deciding setup ends mark master w k) (references setup w k) (references setup w k) (references setup w k)
   deciding_within mark fair master w k = record {
     todo = λ writer todos taken. omega arith;
     bio = λ spot item. omega (arith, times_few (names_node w k item) (decides master (bio_may setup ends item.bio Ok)) (decides_few master (bio_may setup ends item.bio Ok) (few_yes _)));
@@ -131,14 +132,14 @@ module _ (scene : Scene) (ends : Fragment → Status) (written : ℕ → Status 
   closes place disk carried writer key status part node c =
       let m = moves.Closes place disk carried writer key status part node in
       let w : Weight = to_decide mark writer key in
-      let r : Weight = refs setup writer key in
+      let r : Weight = references setup writer key in
       let same : one writer writer * one key key ≡ 1 = rw (one-same writer, one-same key) refl in
-      let waits : total scene r s ≡ 1 = sym (i.counts writer key) ∙ ap count_of c.4 ∙ c.5 in
+      let waits : total_weight scene r s ≡ 1 = sym (i.counts writer key) ∙ ap awaited_ends c.4 ∙ c.5 in
       let refers = tells_refs setup writer key writer key status part carried c.2 in
       let closed : Closed = closed_of (told node status part) in
       -- nothing refers to it behind the event, so nothing decides it then
-      let none : total scene r (after scene s m) ≡ 0 = omega (arith, delta scene r s m c, waits, refers, same) in
-      let nothing : total scene w (after scene s m) ≡ 0 =
+      let none : total_weight scene r (after scene s m) ≡ 0 = omega (arith, delta scene r s m c, waits, refers, same) in
+      let nothing : total_weight scene w (after scene s m) ≡ 0 =
       omega (arith, none, within w r r r (deciding_within mark h.fair (mark writer key).master writer key) scene (after scene s m)) in
       let up : under writer key writer (parent_of node.role) ≡ 0 =
       omega (arith, none, task_part scene r (after scene s m) place (Completer disk (Carries writer closed)) c.0 (upd-same s.task place (Completer disk (Carries writer closed)))) in
@@ -147,7 +148,7 @@ module _ (scene : Scene) (ends : Fragment → Status) (written : ℕ → Status 
       let teller = told_weight (mark writer key).master writer key place disk carried writer key status part c.0 c.1 c.2 in
       let one_end : one writer writer * one key key * decides (mark writer key).master (is Ok status) ≡ decides (mark writer key).master (is Ok status) =
       ap (λ n. n * decides (mark writer key).master (is Ok status)) same ∙ omega arith in
-      let lacks : lack (mark writer key) (Some node) ≤ total scene w s = subst (λ found. lack (mark writer key) found ≤ total scene w s) c.4 (h.decided writer key) in
+      let lacks : lack (mark writer key) (Some node) ≤ total_weight scene w s = subst (λ found. lack (mark writer key) found ≤ total_weight scene w s) c.4 (h.decided writer key) in
       closes_given (mark writer key) (h.fair writer key) node.role (by_role writer key node c.4) node.status status (kept_allowed writer key node c.4)
       (told_may place disk carried writer key status part c.0 c.1 c.2)
       (omega (arith, lacks, teller, one_end, own, nothing, delta scene w s m c))

@@ -29,7 +29,7 @@ use Rattle.block_core.specs.Fragments.{fragment_of}
 use Rattle.block_core.specs.Touches.{is_master}
 use Rattle.block_core.specs.AtWork.{IsBrought, IsInDisk}
 use Rattle.block_core.specs.Values.{BioMayEnd, LegMayEnd, TodoMayEnd, IsAllowed, Decides, BioComes, LegComes, NodeComes, ClosedComes, Comes, NodeIsValued, EndsAsItsFragment, IsValued}
-use Rattle.block_core.specs.Weights.{Weight, one, names_node, under, legs_left, doing_weight, total}
+use Rattle.block_core.specs.Weights.{Weight, one, names_node, under, legs_left, doing_weight, total_weight}
 use Rattle.block_core.proofs.moves.Sums.{apart}
 use Rattle.block_core.proofs.moves.Totals.{task_part}
 use Rattle.block_core.proofs.sound.Facts.{Kept}
@@ -241,7 +241,7 @@ module _ (s : Scenario) (scene : Scene) (bios : ℕ → ℕ → Bio) (state : St
         let b = both (one writer w) (one parent k) a.0 in
         (one-eq writer w b.0, ap Some (one-eq parent k b.1), a.1)
 
-    still_comes : (master : Bool) → 1 ≤ total scene (to_come master) state → Comes scene ends bios state w k (Decides master)
+    still_comes : (master : Bool) → 1 ≤ total_weight scene (to_come master) state → Comes scene ends bios state w k (Decides master)
     still_comes master some = by_found (some_weighs scene state (to_come master) (of_work master) some)
       where
         by_found : Weighs scene state (to_come master) → Comes scene ends bios state w k (Decides master)
@@ -307,12 +307,12 @@ module _ (s : Scenario) (scene : Scene) (bios : ℕ → ℕ → Bio) (state : St
     decided_so is_decided =
         let m = is_master node.role in
         let some : 1 ≤ decides m (own Ok) = decides_one own (MayEnd (bios w k)) (bio_so (bios w k)) (bio_one (bios w k)) m is_decided in
-        let lacks : lack (mark w k) (Some node) ≤ total scene (to_come (mark w k).master) state =
-        subst (λ found. lack (mark w k) found ≤ total scene (to_come (mark w k).master) state) at (h.decided w k) in
-        let by_own : decides (mark w k).master (own Ok) - decides (mark w k).master (is Ok node.status) ≤ total scene (to_come (mark w k).master) state =
-        subst (λ (f : Status → ℕ). decides (mark w k).master (f Ok) - decides (mark w k).master (is Ok node.status) ≤ total scene (to_come (mark w k).master) state) (tied w k) lacks in
-        let by_role : decides m (own Ok) - decides m (is Ok node.status) ≤ total scene (to_come m) state =
-        subst (λ b. decides b (own Ok) - decides b (is Ok node.status) ≤ total scene (to_come b) state) kind by_own in
+        let lacks : lack (mark w k) (Some node) ≤ total_weight scene (to_come (mark w k).master) state =
+        subst (λ found. lack (mark w k) found ≤ total_weight scene (to_come (mark w k).master) state) at (h.decided w k) in
+        let by_own : decides (mark w k).master (own Ok) - decides (mark w k).master (is Ok node.status) ≤ total_weight scene (to_come (mark w k).master) state =
+        subst (λ (f : Status → ℕ). decides (mark w k).master (f Ok) - decides (mark w k).master (is Ok node.status) ≤ total_weight scene (to_come (mark w k).master) state) (tied w k) lacks in
+        let by_role : decides m (own Ok) - decides m (is Ok node.status) ≤ total_weight scene (to_come m) state =
+        subst (λ b. decides b (own Ok) - decides b (is Ok node.status) ≤ total_weight scene (to_come b) state) kind by_own in
         elim (zero_or (decides m (is Ok node.status))) [
           | inr kept ↦ inl (it_decides (λ end. is end node.status) (λ end. node.status ≡ end) (status_fact node.status) (status_one node.status) m kept)
           | inl none ↦ inr (still_comes m (omega (arith, some, by_role, none)))

@@ -13,7 +13,8 @@ use Rattle.run_machine.specs.Scene.{Setup, Scene}
 use Rattle.run_machine.specs.Tasks.{Completer, Carried, Empty, Carries}
 use Rattle.run_machine.specs.Objects.{done_one}
 use Rattle.run_machine.specs.Runs.{State}
-use Rattle.block_core.specs.Weights.{total, one, elements_of_pool, holding_elements, refs}
+use Rattle.block_core.specs.Weights.{total_weight, one, elements_of_pool, holding_elements}
+use Rattle.block_core.proofs.moves.References.{references}
 use Rattle.block_core.proofs.moves.Moves.{with_pool, with_book}
 use Rattle.block_core.proofs.moves.Totals.{task_part}
 use Rattle.block_core.proofs.moves.Sums.{upd-same, one-same, below_or}
@@ -55,7 +56,7 @@ module _ (scene : Scene) (s : State) (k : Kept scene s) where
 
   -- a node is told of an end
   pub drop_free : (place : ℕ) → place < scene.tasks → (disk : DevId) (carried : Carried) → s.task place ≡ Completer disk carried → (w key : ℕ) (status : Status) (part : Option (Item Pad))
-      → request setup (Completer disk carried) ≡ requests.Drop w key status part → 1 ≤ total scene (refs setup w key) s → HasFree scene s
+      → request setup (Completer disk carried) ≡ requests.Drop w key status part → 1 ≤ total_weight scene (references setup w key) s → HasFree scene s
   drop_free place here disk carried at w key status part asks some =
       let o = open_at scene s k w key some in by_count o.0 o.1 (below_or 1 o.0.count) o.2
     where
@@ -102,7 +103,7 @@ module _ (scene : Scene) (s : State) (k : Kept scene s) where
       let out = held_out place here disk w _ at r.share.no (omega (arith, one-same r.share.no)) in
       free_of scene s place here _ at requests.Did _ tt refl refl (with_pool s.objects r.share.no gives) (out, refl)
   carries_free place here disk w None None None (Some parent) write status at =
-      let part = task_part scene (refs setup w parent) s place _ here at in
+      let part = task_part scene (references setup w parent) s place _ here at in
       let both_one : one w w * one parent parent ≡ 1 = rw (one-same w, one-same parent) refl in
       drop_free place here disk _ at w parent status None refl (omega (arith, part, both_one))
   carries_free place here disk w None None None None write status at =

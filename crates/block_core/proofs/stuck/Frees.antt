@@ -13,7 +13,8 @@ use Rattle.run_machine.specs.Submissions.{Doing, Rests, Drives, Copies, Breaks, 
 use Rattle.run_machine.specs.Tasks.{TaskState, Writer, Rescuer, Completer, Keeper, Todo, Gathered, NoBio, HasBio, HasBoth, Empty, Brings, Carries, Fails, filled_vector}
 use Rattle.run_machine.specs.Objects.{clear_bio, clear_vector}
 use Rattle.run_machine.specs.Runs.{State}
-use Rattle.block_core.specs.Weights.{one, refs}
+use Rattle.block_core.specs.Weights.{one}
+use Rattle.block_core.proofs.moves.References.{references}
 use Rattle.block_core.proofs.moves.Moves.{with_pool, with_book}
 use Rattle.block_core.proofs.moves.Totals.{task_part}
 use Rattle.block_core.proofs.moves.Sums.{upd-same, one-same, below_or}
@@ -149,7 +150,7 @@ module _ (scene : Scene) (s : State) (n : Needs scene.setup) (k : Kept scene s) 
           by_submission (inr busy) = or_map (busy_rescuer dev.0 submission.doing busy) (submission_free scene s n k r numbers place here (Rescuer dev submission) at submission.doing submission.lists refl busy fits.1 t)
       by_task (Completer disk Empty) at fits t post = complete_free scene s k place here disk at
       by_task (Completer disk (Brings bio status)) at fits t post =
-          let part = task_part scene (refs setup bio.bio.writer bio.bio.node) s place (Completer disk (Brings bio status)) here at in
+          let part = task_part scene (references setup bio.bio.writer bio.bio.node) s place (Completer disk (Brings bio status)) here at in
           let both_one : one bio.bio.writer bio.bio.writer * one bio.bio.node bio.bio.node ≡ 1 = rw (one-same bio.bio.writer, one-same bio.bio.node) refl in
           inl (drop_free scene s k place here disk (Brings bio status) at bio.bio.writer bio.bio.node status (Some bio) refl (omega (arith, part, both_one)))
       by_task (Completer disk (Carries w closed)) at fits t post =

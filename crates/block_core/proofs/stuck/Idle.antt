@@ -14,7 +14,8 @@ use Rattle.run_machine.specs.Scene.{Scene}
 use Rattle.run_machine.specs.Submissions.{Doing, Rests, Drives, Copies, Breaks, Submission}
 use Rattle.run_machine.specs.Tasks.{TaskState, Writer, Rescuer, Completer, Keeper, Todo, Gathered, NoBio, HasBio, HasBoth, Empty, Brings, Carries, Fails}
 use Rattle.run_machine.specs.Runs.{State}
-use Rattle.block_core.specs.Weights.{Weight, Rescued, Pending, total, sum_at, one, weigh_option, submission_weight, task_weight, book_weight, elements_of_pool, refs, names_node, under, legs_left, count_of}
+use Rattle.block_core.specs.Weights.{Weight, Rescued, Pending, total_weight, sum_at, one, weigh_option, submission_weight, task_weight, book_weight, elements_of_pool, names_node, under, legs_left}
+use Rattle.block_core.proofs.moves.References.{references, awaited_ends}
 use Rattle.block_core.proofs.moves.Moves.{HasSubmission}
 use Rattle.block_core.proofs.moves.Sums.{one-same, within_book, below_or}
 use Rattle.block_core.proofs.sound.Facts.{DoingFits, TaskFits, Kept}
@@ -50,18 +51,18 @@ open_in_books scene s i writer key node at = elim (below_or writer scene.books) 
 ]
 
 -- what is referred to is open, and waits for an end
-pub open_at : (scene : Scene) (s : State) → Kept scene s → (writer key : ℕ) → 1 ≤ total scene (refs scene.setup writer key) s
+pub open_at : (scene : Scene) (s : State) → Kept scene s → (writer key : ℕ) → 1 ≤ total_weight scene (references scene.setup writer key) s
     → (node : Node) × (node_at (s.objects.book writer) key ≡ Some node) × (1 ≤ node.count)
 open_at scene s i writer key some = by_node (node_at (s.objects.book writer) key) refl
   where
     by_node : (found : Option Node) → node_at (s.objects.book writer) key ≡ found → (node : Node) × (node_at (s.objects.book writer) key ≡ Some node) × (1 ≤ node.count)
-    by_node None at = absurd (let count : count_of (node_at (s.objects.book writer) key) ≡ 0 = ap count_of at in omega (arith, some, count, i.counts writer key))
+    by_node None at = absurd (let count : awaited_ends (node_at (s.objects.book writer) key) ≡ 0 = ap awaited_ends at in omega (arith, some, count, i.counts writer key))
     by_node (Some node) at =
-        let count : count_of (node_at (s.objects.book writer) key) ≡ node.count = ap count_of at in
+        let count : awaited_ends (node_at (s.objects.book writer) key) ≡ node.count = ap awaited_ends at in
         (node, at, omega (arith, some, count, i.counts writer key))
 
 pub node_part : (scene : Scene) (s : State) → Kept scene s → (w : Weight) (writer key : ℕ) (node : Node) → node_at (s.objects.book writer) key ≡ Some node
-    → w.node writer key node ≤ total scene w s
+    → w.node writer key node ≤ total_weight scene w s
 node_part scene s i w writer key node at =
     let same : weigh_option (w.node writer key) (node_at (s.objects.book writer) key) ≡ w.node writer key node = ap (weigh_option (w.node writer key)) at in
     omega (
@@ -91,7 +92,7 @@ module _ (scene : Scene) (s : State) (i : Kept scene s) (level : ℕ → ℕ →
       by_parent on (Some parent) is =
           let refers : under writer parent writer (parent_of node.role) ≡ 1 =
           ap (under writer parent writer) is ∙ (ap (λ n. n * one parent parent) (one-same writer) ∙ ap (λ n. 1 * n) (one-same parent)) in
-          let up = open_at scene s i writer parent (omega (arith, refers, node_part scene s i (refs scene.setup writer parent) writer key node at)) in
+          let up = open_at scene s i writer parent (omega (arith, refers, node_part scene s i (references scene.setup writer parent) writer key node at)) in
           on parent up.0 up.1 (omega (arith, lt, down writer key node parent at is))
 
   pub none_open : (writer key : ℕ) → node_at (s.objects.book writer) key ≡ None
@@ -103,8 +104,8 @@ module _ (scene : Scene) (s : State) (i : Kept scene s) (level : ℕ → ℕ →
           (sum_at (λ place (found : Option Node). level writer place) (length (s.objects.book writer).nodes) (node_at (s.objects.book writer)) + 1) writer key node at (omega arith))
 
   -- so nothing refers to a node
-  no_ref : (writer key : ℕ) → total scene (refs scene.setup writer key) s ≡ 0
-  no_ref writer key = let count : count_of (node_at (s.objects.book writer) key) ≡ 0 = ap count_of (none_open writer key) in omega (arith, count, i.counts writer key)
+  no_ref : (writer key : ℕ) → total_weight scene (references scene.setup writer key) s ≡ 0
+  no_ref writer key = let count : awaited_ends (node_at (s.objects.book writer) key) ≡ 0 = ap awaited_ends (none_open writer key) in omega (arith, count, i.counts writer key)
 
   names_one : (item : Item Pad) → names_node item.bio.writer item.bio.node item ≡ 1
   names_one item = ap (λ n. n * one item.bio.node item.bio.node) (one-same item.bio.writer) ∙ ap (λ n. 1 * n) (one-same item.bio.node)
@@ -115,10 +116,10 @@ module _ (scene : Scene) (s : State) (i : Kept scene s) (level : ℕ → ℕ →
   no_submission place x Rests lists here is h fits = (refl, fits)
   no_submission place x (Breaks breach kept) lists here is h fits = absurd fits
   no_submission place x (Drives bio ask) lists here is h fits =
-      let w = refs scene.setup bio.bio.writer bio.bio.node in
+      let w = references scene.setup bio.bio.writer bio.bio.node in
       absurd (omega (arith, names_one bio, no_ref bio.bio.writer bio.bio.node, task_part scene w s place x here is, submission_part w place x (Drives bio ask) lists h))
   no_submission place x (Copies bio master leg want) lists here is h fits =
-      let w = refs scene.setup bio.writer master in
+      let w = references scene.setup bio.writer master in
       let left = legs_left scene.setup bio leg in
       let refers : one bio.writer bio.writer * one master master * left ≡ left =
       ap (λ k. k * one master master * left) (one-same bio.writer) ∙ (ap (λ k. 1 * k * left) (one-same master) ∙ omega arith) in
@@ -139,7 +140,7 @@ module _ (scene : Scene) (s : State) (i : Kept scene s) (level : ℕ → ℕ →
         arith,
         names_one bio,
         no_ref bio.bio.writer bio.bio.node,
-        task_part scene (refs scene.setup bio.bio.writer bio.bio.node) s place (Completer disk (Brings bio status)) here is,
+        task_part scene (references scene.setup bio.bio.writer bio.bio.node) s place (Completer disk (Brings bio status)) here is,
       ))
   task_home q place (Completer disk (Carries writer closed)) here is fits = absurd (by_parent closed.parent refl)
     where
@@ -148,7 +149,7 @@ module _ (scene : Scene) (s : State) (i : Kept scene s) (level : ℕ → ℕ →
       by_parent (Some parent) same =
           let refers : under writer parent writer closed.parent ≡ 1 =
           ap (under writer parent writer) same ∙ (ap (λ n. n * one parent parent) (one-same writer) ∙ ap (λ n. 1 * n) (one-same parent)) in
-          omega (arith, refers, no_ref writer parent, task_part scene (refs scene.setup writer parent) s place (Completer disk (Carries writer closed)) here is)
+          omega (arith, refers, no_ref writer parent, task_part scene (references scene.setup writer parent) s place (Completer disk (Carries writer closed)) here is)
   task_home q place (Completer disk (Fails breach kept)) here is fits = refl
   task_home q place (Keeper keeping) here is fits = refl
 
@@ -159,7 +160,7 @@ module _ (scene : Scene) (s : State) (i : Kept scene s) (level : ℕ → ℕ →
       by_list : (bios : List (Item Pad)) → s.objects.rescue dev ≡ bios → sum_by ((elements_of_pool q).bio Rescued) bios ≡ 0
       by_list [] is = refl
       by_list (bio ∷ bios) is =
-          let w = refs scene.setup bio.bio.writer bio.bio.node in
+          let w = references scene.setup bio.bio.writer bio.bio.node in
           let same : sum_by (w.bio Rescued) (s.objects.rescue dev) ≡ sum_by (w.bio Rescued) (bio ∷ bios) = ap (sum_by (w.bio Rescued)) is in
           absurd (omega (
             arith,
@@ -176,7 +177,7 @@ module _ (scene : Scene) (s : State) (i : Kept scene s) (level : ℕ → ℕ →
       by_list : (bios : List (Item Pad)) → (s.objects.disk dev).pending ≡ bios → sum_by ((elements_of_pool q).bio Pending) bios ≡ 0
       by_list [] is = refl
       by_list (bio ∷ bios) is =
-          let w = refs scene.setup bio.bio.writer bio.bio.node in
+          let w = references scene.setup bio.bio.writer bio.bio.node in
           let same : sum_by (w.bio Pending) (s.objects.disk dev).pending ≡ sum_by (w.bio Pending) (bio ∷ bios) = ap (sum_by (w.bio Pending)) is in
           absurd (omega (
             arith,

@@ -11,7 +11,7 @@ use Rattle.run_machine.specs.Opened.{Scenario, scene, start, round_count, writes
 use Rattle.run_machine.specs.Runs.{State, IsRun, HasFree, HasEnded, unfinished}
 use Rattle.block_core.specs.Scenarios.{IsScenario, IsNaming, EveryPoolKeepsSome, AreSorted}
 use Rattle.block_core.specs.Stuck.{NoStateIsStuck, NoAllowedStateIsStuck, EachRunGoesOnOrHasEnded}
-use Rattle.block_core.specs.Weights.{count_of}
+use Rattle.block_core.proofs.moves.References.{awaited_ends}
 use Rattle.block_core.proofs.moves.Devices.{ground}
 use Rattle.block_core.proofs.moves.StepMoves.{step_is_move}
 use Rattle.block_core.proofs.sound.Facts.{Fair}
@@ -45,7 +45,7 @@ module _ (scene : Scene) (f : Fair scene) (g : Ground scene.setup) where
       let c = runs_counted 0 s events new i t run in
       record {
         outs = λ q. let le = c.outs q in omega (arith, le, few);
-        ends = λ w k node at. let le : node.count ≤ 0 + length events + 8 = subst (λ o. count_of o ≤ 0 + length events + 8) at (c.ends w k) in omega (arith, le, few);
+        ends = λ w k node at. let le : node.count ≤ 0 + length events + 8 = subst (λ o. awaited_ends o ≤ 0 + length events + 8) at (c.ends w k) in omega (arith, le, few);
       }
 
 module _ (s : Scenario) (ledger : ℕ → LedgerId) (good : IsScenario s) (naming : IsNaming ledger) where
@@ -90,7 +90,7 @@ module _ (s : Scenario) (ledger : ℕ → LedgerId) (good : IsScenario s) (namin
       let sc = scene s ledger in
       let g = ground s.stack good.stack (setup_in s).places in
       let o = start_opened s good ledger in
-      let counted : Counted 0 (start s) = record { outs = λ q. let z = o.pools q in omega (arith, z); ends = λ w k. let z : count_of (node_at ((start s).objects.book w) k) ≡ 0 = ap count_of (o.books w k) in omega (arith, z) } in
+      let counted : Counted 0 (start s) = record { outs = λ q. let z = o.pools q in omega (arith, z); ends = λ w k. let z : awaited_ends (node_at ((start s).objects.book w) k) ≡ 0 = ap awaited_ends (o.books w k) in omega (arith, z) } in
       let numbers = few_numbers sc fair g (start s) events state whole counted run few in
       run_free_by rescuers reserves ordered events state run numbers some
 

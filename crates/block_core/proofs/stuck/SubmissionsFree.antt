@@ -14,7 +14,8 @@ use Rattle.run_machine.specs.Submissions.{Takes, Punts as WantsPunt, Links, ToPu
 use Rattle.run_machine.specs.Tasks.{TaskState}
 use Rattle.run_machine.specs.Objects.{clear_bio, clear_slip}
 use Rattle.run_machine.specs.Runs.{State}
-use Rattle.block_core.specs.Weights.{one, refs, doing_weight, legs_left}
+use Rattle.block_core.specs.Weights.{one, doing_weight, legs_left}
+use Rattle.block_core.proofs.moves.References.{references}
 use Rattle.block_core.proofs.moves.Moves.{limit_of, HasSubmission, with_pool, with_book}
 use Rattle.block_core.proofs.moves.Sums.{one-same}
 use Rattle.block_core.proofs.sound.Facts.{DoingFits, Kept}
@@ -66,8 +67,8 @@ module _ (scene : Scene) (s : State) (n : Needs scene.setup) (k : Kept scene s) 
 
   -- the node that a submission names is open
   named : (place : ℕ) → place < scene.tasks → (x : TaskState) → s.task place ≡ x → (doing : Doing) (lists : TaskLists) → HasSubmission x doing lists → (w key : ℕ)
-      → 1 ≤ doing_weight (refs setup w key) (limit_of x) doing → (node : Node) × (node_at (s.objects.book w) key ≡ Some node) × (1 ≤ node.count)
-  named place here x at doing lists h w key some = open_at scene s k w key (omega (arith, task_part scene (refs setup w key) s place x here at, submission_part (refs setup w key) place x doing lists h, some))
+      → 1 ≤ doing_weight (references setup w key) (limit_of x) doing → (node : Node) × (node_at (s.objects.book w) key ≡ Some node) × (1 ≤ node.count)
+  named place here x at doing lists h w key some = open_at scene s k w key (omega (arith, task_part scene (references setup w key) s place x here at, submission_part (references setup w key) place x doing lists h, some))
 
   -- and a place of its book is vacant where it still needs one
   opens : (place : ℕ) → place < scene.tasks → (x : TaskState) → s.task place ≡ x → (doing : Doing) (lists : TaskLists) → HasSubmission x doing lists → (w key : ℕ) (node : Node)

@@ -13,7 +13,8 @@ use Rattle.run_machine.specs.Scene.{Setup, Scene}
 use Rattle.run_machine.specs.Submissions.{Doing, Rests, Drives, Copies, Breaks, Submission, rests}
 use Rattle.run_machine.specs.Tasks.{TaskState, Writer, Rescuer, Completer, Keeper, Todo, Gathered, NoBio, HasBio, HasBoth, Empty, Brings, Carries, Fails}
 use Rattle.run_machine.specs.Runs.{State}
-use Rattle.block_core.specs.Weights.{Weight, Pending, Rescued, Lined, total, sum_at, one, weigh_option, doing_weight, task_weight, submission_weight, book_weight, elements_of_pool, holding_elements, refs, names_node, under, legs_left, count_of}
+use Rattle.block_core.specs.Weights.{Weight, Pending, Rescued, Lined, total_weight, sum_at, one, weigh_option, doing_weight, task_weight, submission_weight, book_weight, elements_of_pool, holding_elements, names_node, under, legs_left}
+use Rattle.block_core.proofs.moves.References.{references, awaited_ends}
 use Rattle.block_core.proofs.moves.Sums.{apart}
 use Rattle.block_core.proofs.sound.Facts.{DoingFits, SubmissionFits, TaskFits, Kept}
 use Rattle.block_core.proofs.sound.TaskSubmissions.{IsBusy}
@@ -32,7 +33,7 @@ pub record Known (scene : Scene) (s : State) (level : ℕ → ℕ → ℕ) : Typ
   pub placed : Placed scene.setup s
   pub waits : Waits scene.setup s
   pub alive : (w k : ℕ) → IsAlive (node_at (s.objects.book w) k)
-  pub levels : total scene (off_levels level) s ≡ 0
+  pub levels : total_weight scene (off_levels level) s ≡ 0
   -- each pool that a task can wait at keeps an element
   pub mins : (number : ℕ) → IsPool scene.setup number → 1 ≤ (s.objects.pool number).facts.min
 
@@ -170,7 +171,7 @@ module _ (scene : Scene) (s : State) (level : ℕ → ℕ → ℕ) (known : Know
       lower setup s (2 * bio.dev.0 + 1) (level w k) (omega (arith, a, none)) below
 
   -- what weighs something weighs it in a task, in a rescuer's list or in a node
-  found_at : {X : Type 0} (u : Weight) → ((n : ℕ) (todos : List Todo) (taken : Gathered) → u.todo n todos taken ≡ 0) → 1 ≤ total scene u s → (Has u → X)
+  found_at : {X : Type 0} (u : Weight) → ((n : ℕ) (todos : List Todo) (taken : Gathered) → u.todo n todos taken ≡ 0) → 1 ≤ total_weight scene u s → (Has u → X)
       → ((item : Item Pad) → Below setup s (min item.share.no 64) → 1 ≤ u.bio Rescued item → off.bio Rescued item ≡ 0 → X)
       → ((v j : ℕ) → v < scene.books → j < length (s.objects.book v).nodes → 1 ≤ weigh_option (u.node v j) (node_at (s.objects.book v) j) → X) → X
   found_at u todos some by_task by_rescue by_node =
@@ -196,20 +197,20 @@ module _ (scene : Scene) (s : State) (level : ℕ → ℕ → ℕ) (known : Know
   pub node_waits : (fuel w k : ℕ) (node : Node) → node_at (s.objects.book w) k ≡ Some node → level w k < fuel → Below setup s (level w k)
   node_waits zero w k node at lt = absurd (omega (arith, lt))
   node_waits (suc fuel) w k node at lt =
-      let u = refs setup w k in
+      let u = references setup w k in
       let alive : 1 ≤ node.count = subst IsAlive at (known.alive w k) in
-      let counted : count_of (node_at (s.objects.book w) k) ≡ node.count = ap count_of at in
-      let some : 1 ≤ total scene u s = let all = known.kept.counts w k in omega (arith, alive, counted, all) in
+      let counted : awaited_ends (node_at (s.objects.book w) k) ≡ node.count = ap awaited_ends at in
+      let some : 1 ≤ total_weight scene u s = let all = known.kept.counts w k in omega (arith, alive, counted, all) in
       found_at u (λ n todos taken. refl) some by_task (λ item below some none. named_below w k item below some none)
       (λ v j known_book inside h. by_node v j known_book inside (node_at (s.objects.book v) j) refl h (λ w2 k2 node2 at2 lt2. node_waits fuel w2 k2 node2 at2 lt2))
     where
-      by_task : Has (refs setup w k) → Below setup s (level w k)
+      by_task : Has (references setup w k) → Below setup s (level w k)
       by_task (inl (limit, inl (item, below, some, none))) = named_below w k item below some none
       by_task (inl (limit, inr (bio, master, leg, below, some, none))) = copied_below w k bio master leg below some none
       by_task (inr (item, some, home, empty)) = absurd (omega (arith, some))
 
       by_node : (v j : ℕ) → v < scene.books → j < length (s.objects.book v).nodes → (found : Option Node) → node_at (s.objects.book v) j ≡ found
-          → 1 ≤ weigh_option ((refs setup w k).node v j) found → ((w2 k2 : ℕ) (node2 : Node) → node_at (s.objects.book w2) k2 ≡ Some node2 → level w2 k2 < fuel → Below setup s (level w2 k2))
+          → 1 ≤ weigh_option ((references setup w k).node v j) found → ((w2 k2 : ℕ) (node2 : Node) → node_at (s.objects.book w2) k2 ≡ Some node2 → level w2 k2 < fuel → Below setup s (level w2 k2))
           → Below setup s (level w k)
       by_node v j known_book inside None is h again = absurd (omega (arith, h))
       by_node v j known_book inside (Some child) is h again = by_parent (parent_of child.role) h (off_node v j child known_book inside is).0
@@ -253,7 +254,7 @@ module _ (scene : Scene) (s : State) (level : ℕ → ℕ → ℕ) (known : Know
   pub out_below : (q : ℕ) → 1 ≤ (s.objects.pool q).facts.out → Below setup s q
   out_below q out =
       let u = elements_of_pool q in
-      let some : 1 ≤ total scene u s = let all = known.kept.outs q in omega (arith, out, all) in
+      let some : 1 ≤ total_weight scene u s = let all = known.kept.outs q in omega (arith, out, all) in
       found_at u (λ n todos taken. refl) some by_task
       (λ item below some none. let same = one-eq item.share.no q some in lower setup s (min item.share.no 64) q (omega (arith, same)) below)
       (λ v j known_book inside h. by_node v j known_book inside (node_at (s.objects.book v) j) refl h)

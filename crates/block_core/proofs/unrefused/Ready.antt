@@ -22,7 +22,8 @@ use Rattle.run_machine.specs.Requests.{Request, Reply, Opening}
 use Rattle.run_machine.specs.Tasks.{TaskState, Writer, Rescuer, Completer, Keeper, Keeping, Keeps, Stops, Resizes, Starts, Todo, Gathered, NoBio, HasBio, HasBoth, Carried, Empty, Brings, Carries, Fails, request, with_bio, needs_vector}
 use Rattle.run_machine.specs.Objects.{Objects, Serves}
 use Rattle.run_machine.specs.Runs.{State}
-use Rattle.block_core.specs.Weights.{one, task_weight, refs, count_of, legs_left}
+use Rattle.block_core.specs.Weights.{one, task_weight, legs_left}
+use Rattle.block_core.proofs.moves.References.{references, awaited_ends}
 use Rattle.block_core.specs.Rooms.{need_at, todo_need, legs_need, room, HasRoomInBooks}
 use Rattle.block_core.specs.Breaks.{is_refusal}
 use Rattle.block_core.proofs.moves.Moves.{HasSubmission}
@@ -206,12 +207,12 @@ IsSmall scene = (writer : ℕ) → 1 + scene.setup.places writer + scene.tasks <
 
 -- no node waits for more ends than its own part, one for each place of its book, and one for each task
 pub ends_few : (scene : Scene) (s : State) → Kept scene s → HasRoomInBooks scene s → (writer key : ℕ)
-    → count_of (node_at (s.objects.book writer) key) ≤ 1 + scene.setup.places writer + scene.tasks
+    → awaited_ends (node_at (s.objects.book writer) key) ≤ 1 + scene.setup.places writer + scene.tasks
 ends_few scene s i r writer key =
     omega (
       arith,
       i.counts writer key,
-      within (refs scene.setup writer key) (named writer key) (room scene.setup writer) carrying (refs_within scene.setup writer key) scene s,
+      within (references scene.setup writer key) (named writer key) (room scene.setup writer) carrying (refs_within scene.setup writer key) scene s,
       own_few (node_at (s.objects.book writer) key),
       i.owns writer key,
       r.room writer,
@@ -221,10 +222,10 @@ ends_few scene s i r writer key =
 module _ (scene : Scene) (s : State) (n : Needs scene.setup) (small : IsSmall scene) (i : Kept scene s) (a : Placed scene.setup s) (r : HasRoomInBooks scene s)
     (place : ℕ) (here : place < scene.tasks) where
   -- a node that a task refers to is open
-  is_open : (x : TaskState) (writer key : ℕ) → s.task place ≡ x → 1 ≤ task_weight (refs scene.setup writer key) place x → IsOpenAt (s.objects.book writer) key
+  is_open : (x : TaskState) (writer key : ℕ) → s.task place ≡ x → 1 ≤ task_weight (references scene.setup writer key) place x → IsOpenAt (s.objects.book writer) key
   is_open x writer key is more =
-      let o = open_at scene s i writer key (omega (arith, more, task_part scene (refs scene.setup writer key) s place x here is)) in
-      let count : count_of (node_at (s.objects.book writer) key) ≡ o.0.count = ap count_of o.1 in
+      let o = open_at scene s i writer key (omega (arith, more, task_part scene (references scene.setup writer key) s place x here is)) in
+      let count : awaited_ends (node_at (s.objects.book writer) key) ≡ o.0.count = ap awaited_ends o.1 in
       record { node = o.0; is = o.1; waits = o.2; few = omega (arith, count, ends_few scene s i r writer key, small writer) }
 
   -- a book with an open node is one of the books
@@ -246,7 +247,7 @@ module _ (scene : Scene) (s : State) (n : Needs scene.setup) (small : IsSmall sc
       let need = cut_need scene.setup n bio (Links hand) (tree_at scene.setup bio.bio.dev) refl d.1.0.0 d.3 in
       let all : one writer writer * need_at scene.setup bio.bio ≡ need_at scene.setup bio.bio = ap (λ k. k * need_at scene.setup bio.bio) (one-same writer) ∙ omega arith in
       let names_it : one writer writer * one key key ≡ 1 = ap (λ k. k * one key key) (one-same writer) ∙ (ap (λ k. 1 * k) (one-same key)) in
-      let stands = is_open x writer key is (omega (arith, names_it, submission_part (refs scene.setup writer key) place x doing lists h)) in
+      let stands = is_open x writer key is (omega (arith, names_it, submission_part (references scene.setup writer key) place x doing lists h)) in
       (has_vacant scene s r place x writer here is (in_books writer key stands) (omega (arith, need, all, submission_part (room scene.setup writer) place x doing lists h)), stands)
   ready_submission x (Drives bio ToRecord) lists is h = tt
   ready_submission x (Drives bio (ToMaster slip)) lists is h =
@@ -258,7 +259,7 @@ module _ (scene : Scene) (s : State) (n : Needs scene.setup) (small : IsSmall sc
       let need = mirror_need (tree_at scene.setup bio.bio.dev) bio.bio.range bio.bio.dev.0 slip d.3 there.some in
       let all : one writer writer * need_at scene.setup bio.bio ≡ need_at scene.setup bio.bio = ap (λ k. k * need_at scene.setup bio.bio) (one-same writer) ∙ omega arith in
       let names_it : one writer writer * one key key ≡ 1 = ap (λ k. k * one key key) (one-same writer) ∙ (ap (λ k. 1 * k) (one-same key)) in
-      let stands = is_open x writer key is (omega (arith, names_it, submission_part (refs scene.setup writer key) place x doing lists h)) in
+      let stands = is_open x writer key is (omega (arith, names_it, submission_part (references scene.setup writer key) place x doing lists h)) in
       (has_vacant scene s r place x writer here is (in_books writer key stands) (omega (arith, need, all, submission_part (room scene.setup writer) place x doing lists h)), stands)
   ready_submission x (Copies bio master leg (Takes waits)) lists is h = tt
   ready_submission x (Copies bio master leg Punts) lists is h = tt
@@ -270,7 +271,7 @@ module _ (scene : Scene) (s : State) (n : Needs scene.setup) (small : IsSmall sc
       let all : one writer writer * legs_need scene.setup bio leg ≡ legs_need scene.setup bio leg = ap (λ k. k * legs_need scene.setup bio leg) (one-same writer) ∙ omega arith in
       let left = legs_left scene.setup bio leg in
       let refers : one writer writer * one master master * left ≡ left = ap (λ k. k * one master master * left) (one-same writer) ∙ (ap (λ k. 1 * k * left) (one-same master) ∙ omega arith) in
-      let stands = is_open x writer master is (omega (arith, refers, lt, submission_part (refs scene.setup writer master) place x doing lists h)) in
+      let stands = is_open x writer master is (omega (arith, refers, lt, submission_part (references scene.setup writer master) place x doing lists h)) in
       (has_vacant scene s r place x writer here is (in_books writer master stands) (omega (arith, few, lt, all, submission_part (room scene.setup writer) place x doing lists h)), stands)
 
   -- a writer that has still to begin a write

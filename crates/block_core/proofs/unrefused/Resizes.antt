@@ -10,7 +10,7 @@ use Rattle.run_machine.specs.Submissions.{Submission}
 use Rattle.run_machine.specs.Requests as requests
 use Rattle.run_machine.specs.Tasks.{Writer, Completer, Keeper, Keeps, Resizes, Duty, Todo, Gathered, NoBio, HasBio, HasBoth, Carries}
 use Rattle.run_machine.specs.Runs.{State, IsLet}
-use Rattle.block_core.specs.Weights.{total, one}
+use Rattle.block_core.specs.Weights.{total_weight, one}
 use Rattle.block_core.proofs.sound.OffLevels.{AreLeveled, off_levels, parent_off}
 use Rattle.block_core.proofs.sound.EventStages.{top_is}
 use Rattle.block_core.specs.Rounds.{round_of, is_of_round, tops, tops_left, unfinished_of, begun_of}
@@ -23,7 +23,7 @@ use Rattle.block_core.proofs.unrefused.NoneFails.{GoesOnCarrying}
 
 -- levels go down from each node to those under it
 module _ (scene : Scene) (s : State) (i : Kept scene s) where
-  pub goes_down : (level : ℕ → ℕ → ℕ) → total scene (off_levels level) s ≡ 0 → GoesDown s level
+  pub goes_down : (level : ℕ → ℕ → ℕ) → total_weight scene (off_levels level) s ≡ 0 → GoesDown s level
   goes_down level on writer key node parent at is =
       let off : parent_off level writer key (parent_of node.role) ≡ parent_off level writer key (Some parent) = ap (parent_off level writer key) is in
       omega (arith, on, off, node_part scene s i (off_levels level) writer key node at)
@@ -32,7 +32,7 @@ module _ (rounds : List ℕ) (keeper : ℕ) (scene : Scene) (s : State) (i : Kep
     (on : (place : ℕ) → GoesOnCarrying (s.task place)) (past : slice_index_or s.objects.tally.left s.objects.tally.round 0 ≡ 0) where
   -- no write of the rounds up to the present one is unfinished, and nothing is begun of a later one
   abbrev IsOver : ℕ → Type 0
-  IsOver round = (total scene (unfinished_of (is_of_round rounds round)) s ≡ 0) ⊎ (total scene (begun_of (is_of_round rounds round)) s ≡ 0)
+  IsOver round = (total_weight scene (unfinished_of (is_of_round rounds round)) s ≡ 0) ⊎ (total_weight scene (begun_of (is_of_round rounds round)) s ≡ 0)
 
   over : (round : ℕ) → IsOver round
   over round = elim (by_order round s.objects.tally.round) [

@@ -10,7 +10,7 @@ use Rattle.run_machine.specs.Runs.{State}
 use Rattle.block_core.specs.Rounds.{round_of, is_of_round}
 use Rattle.block_core.specs.Scenarios.{IsScenario, IsNaming}
 use Rattle.block_core.specs.Dones.{times_done}
-use Rattle.block_core.specs.Weights.{total, one}
+use Rattle.block_core.specs.Weights.{total_weight, one}
 use Rattle.block_core.proofs.sound.DoneOnce.{stage}
 use Rattle.block_core.proofs.moves.Devices.{ground}
 use Rattle.block_core.proofs.sound.Facts.{Fair}
@@ -70,7 +70,7 @@ module _ (s : Scenario) (ledger : ℕ → LedgerId) (good : IsScenario s) (namin
       now : ℕ
       now = state.objects.tally.round
 
-      times : (w : ℕ) → times_done w events + total sc (stage w) state ≡ total sc (stage w) (start s)
+      times : (w : ℕ) → times_done w events + total_weight sc (stage w) state ≡ total_weight sc (stage w) (start s)
       times w = runs_done sc fair g w (start s) events state begun run
 
       own : (place : ℕ) (duties : List Duty) → state.task place ≡ Keeper (Keeps duties) → DutiesFit s.rounds now duties
@@ -86,17 +86,17 @@ module _ (s : Scenario) (ledger : ℕ → LedgerId) (good : IsScenario s) (namin
           let none_left = none (length s.writes) (omega arith) in
           omega (arith, t.left now, worth_nothing sc state whole.kept (is_of_round s.rounds now) (length s.writes) of_present, none_left)
         where
-          none : (w : ℕ) → length s.writes ≤ w → total sc (stage w) state ≡ 0
+          none : (w : ℕ) → length s.writes ≤ w → total_weight sc (stage w) state ≡ 0
           none w ge = omega (arith, times w, none_at_start s good ledger w ge)
 
-          of_present : (n : ℕ) → 1 ≤ is_of_round s.rounds now n → total sc (stage n) state ≡ 0
+          of_present : (n : ℕ) → 1 ≤ is_of_round s.rounds now n → total_weight sc (stage n) state ≡ 0
           of_present n some = by_two (below_or n (length s.writes))
             where
               is_now : (round_of s.rounds n ≡ now) ⊎ (round_of s.rounds n ≢ now) → round_of s.rounds n ≡ now
               is_now (inl e) = e
               is_now (inr ne) = let z = one-other (round_of s.rounds n) now ne in absurd (omega (arith, z, some))
 
-              by_two : (n < length s.writes) ⊎ (length s.writes ≤ n) → total sc (stage n) state ≡ 0
+              by_two : (n < length s.writes) ⊎ (length s.writes ≤ n) → total_weight sc (stage n) state ≡ 0
               by_two (inl lt) =
                   let e = is_now (same_or_not (round_of s.rounds n) now) in
                   let any = h n lt (omega (arith, e)) in

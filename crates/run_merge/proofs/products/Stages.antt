@@ -10,7 +10,7 @@ use Rattle.run_machine.specs.Opened.{Scenario, scene, start}
 use Rattle.run_machine.specs.Runs.{State}
 use Rattle.block_core.specs.Rounds.{tops, tops_left, all_worth, unfinished_of}
 use Rattle.block_core.specs.Scenarios.{IsScenario}
-use Rattle.block_core.specs.Weights.{total, one}
+use Rattle.block_core.specs.Weights.{total_weight, one}
 use Rattle.block_core.proofs.stuck.NothingWaits.{zero_or}
 use Rattle.block_core.proofs.sound.DoneOnce.{to_begin, stage}
 use Rattle.block_core.proofs.sound.Dones.{stage_is}
@@ -43,16 +43,16 @@ some_numbered w a (suc n) (r ∷ rs) (x ∷ ws) ge lt few fewer =
     by_two (inr ne) more = omega (arith, more ne)
 
 module _ (s : Scenario) (good : IsScenario s) (ledger : ℕ → LedgerId) where
-  pub some_at_start : (w : ℕ) → w < length s.writes → 1 ≤ total (scene s ledger) (stage w) (start s)
+  pub some_at_start : (w : ℕ) → w < length s.writes → 1 ≤ total_weight (scene s ledger) (stage w) (start s)
   some_at_start w lt =
-      let is = ap (λ u. total (scene s ledger) u (start s)) (stage_is w) in
+      let is = ap (λ u. total_weight (scene s ledger) u (start s)) (stage_is w) in
       let same = good.rounds in
       let some = some_numbered w 0 (length s.writes) s.rounds s.writes (omega arith) (omega (arith, lt)) (omega (arith, same)) (omega arith) in
       omega (arith, is, unfinished_at_start s good ledger (λ n. one n w), some)
 
-  pub none_at_start : (w : ℕ) → length s.writes ≤ w → total (scene s ledger) (stage w) (start s) ≡ 0
+  pub none_at_start : (w : ℕ) → length s.writes ≤ w → total_weight (scene s ledger) (stage w) (start s) ≡ 0
   none_at_start w le =
-      ap (λ u. total (scene s ledger) u (start s)) (stage_is w) ∙ unfinished_at_start s good ledger (λ n. one n w)
+      ap (λ u. total_weight (scene s ledger) u (start s)) (stage_is w) ∙ unfinished_at_start s good ledger (λ n. one n w)
       ∙ none_numbered w 0 (length s.writes) s.rounds s.writes (omega (arith, le))
 
 -- A write in stage is worth no more than all unfinished ones, where it is worth one or more;
@@ -64,9 +64,9 @@ todos_within : (g h : ℕ → ℕ) → ((n : ℕ) → g n ≤ h n) → (ts : Lis
 todos_within g h le [] = omega arith
 todos_within g h le (todo ∷ ts) = omega (arith, le todo.number, todos_within g h le ts)
 
-pub stage_within : (scene : Scene) (s : State) (i : Kept scene s) (f : ℕ → ℕ) (w : ℕ) → ((n : ℕ) → one n w ≤ f n) → total scene (stage w) s ≤ total scene (unfinished_of f) s
+pub stage_within : (scene : Scene) (s : State) (i : Kept scene s) (f : ℕ → ℕ) (w : ℕ) → ((n : ℕ) → one n w ≤ f n) → total_weight scene (stage w) s ≤ total_weight scene (unfinished_of f) s
 stage_within scene s i f w le =
-    let is = ap (λ u. total scene u s) (stage_is w) in
+    let is = ap (λ u. total_weight scene u s) (stage_is w) in
     omega (
       arith,
       is,
@@ -95,8 +95,8 @@ none_on_top : (worth top : ℕ) → (worth ≡ 0) ⊎ (1 ≤ worth) → (1 ≤ w
 none_on_top worth top (inl z) none = let a = ap (λ n. top * n) z in omega (arith, a)
 none_on_top worth top (inr some) none = let a = ap (λ n. n * worth) (none some) in omega (arith, a)
 
-pub worth_nothing : (scene : Scene) (s : State) (i : Kept scene s) (f : ℕ → ℕ) (w : ℕ) → ((n : ℕ) → 1 ≤ f n → total scene (stage n) s ≡ 0)
-    → total scene (unfinished_of f) s ≤ total scene (stage w) s
+pub worth_nothing : (scene : Scene) (s : State) (i : Kept scene s) (f : ℕ → ℕ) (w : ℕ) → ((n : ℕ) → 1 ≤ f n → total_weight scene (stage n) s ≡ 0)
+    → total_weight scene (unfinished_of f) s ≤ total_weight scene (stage w) s
 worth_nothing scene s i f w none = under_in_all scene s i (unfinished_of f) (stage w) (record {
   todo = λ writer ts taken part.
       let z = none_to_begin f ts (λ n some. let a = part (stage n) in let b = none n some in omega (arith, a, b)) in omega (arith, z);

@@ -14,7 +14,8 @@ use Rattle.run_machine.specs.Scene.{Scene, Setup}
 use Rattle.run_machine.specs.Submissions.{Doing, Rests, Drives, Copies, Breaks, Submission}
 use Rattle.run_machine.specs.Tasks.{Carried, Empty, Brings, Carries, Fails, TaskState, Writer, Rescuer, Completer, Keeper}
 use Rattle.run_machine.specs.Runs.{State}
-use Rattle.block_core.specs.Weights.{Weight, Rescued, Pending, total, one, names_node as refers, under, refs, legs_left, doing_weight, submission_weight, carried_weight, task_weight}
+use Rattle.block_core.specs.Weights.{Weight, Rescued, Pending, total_weight, one, names_node as refers, under, legs_left, doing_weight, submission_weight, carried_weight, task_weight}
+use Rattle.block_core.proofs.moves.References.{references}
 use Rattle.block_core.proofs.moves.VacantMarks.{with_mark, mark_still, mark_other, no_ref, elsewhere, no_factor}
 use Rattle.block_core.proofs.moves.Totals.{part_of}
 use Rattle.block_core.proofs.stuck.Idle.{node_part}
@@ -43,7 +44,7 @@ module _ (setup : Setup) (to : Places) (writer key place : ℕ) where
       let rest = items_still items (omega (arith, none, sum_by-cons (refers writer key) item items)) in
       λ k. first k ∷ rest k
 
-  doing_still : (limit gone : ℕ) (doing : Doing) → HasLeg setup doing → doing_weight (refs setup writer key) limit doing ≡ 0 → doing_to new gone doing ≡ doing_to to gone doing
+  doing_still : (limit gone : ℕ) (doing : Doing) → HasLeg setup doing → doing_weight (references setup writer key) limit doing ≡ 0 → doing_to new gone doing ≡ doing_to to gone doing
   doing_still limit gone Rests has none = refl
   doing_still limit gone (Breaks breach kept) has none = refl
   doing_still limit gone (Drives bio ask) has none = ap (λ item. Drives item (ask_to ask)) (item_still bio (omega (arith, none)))
@@ -52,7 +53,7 @@ module _ (setup : Setup) (to : Places) (writer key place : ℕ) where
       let part : one bio.writer writer * one master key * legs_left setup bio leg ≡ 0 = omega (arith, none) in
       ap (λ m. Copies (record bio { node = gone }) m leg (want_to want)) (still bio.writer master (no_factor (one bio.writer writer * one master key) (legs_left setup bio leg) left part))
 
-  submission_still : (limit gone : ℕ) (submission : Submission) → HasLeg setup submission.doing → submission_weight (refs setup writer key) limit submission ≡ 0 → submission_to new gone submission ≡ submission_to to gone submission
+  submission_still : (limit gone : ℕ) (submission : Submission) → HasLeg setup submission.doing → submission_weight (references setup writer key) limit submission ≡ 0 → submission_to new gone submission ≡ submission_to to gone submission
   submission_still limit gone submission has none =
       let doing = doing_still limit gone submission.doing has (omega (arith, none)) in
       let first = items_still submission.lists.list0 (omega (arith, none)) in
@@ -63,14 +64,14 @@ module _ (setup : Setup) (to : Places) (writer key place : ℕ) where
   parent_still v None none = refl
   parent_still v (Some parent) none = ap Some (still v parent none)
 
-  carried_still : (task gone : ℕ) (carried : Carried) → carried_weight (refs setup writer key) task carried ≡ 0 → carried_to new gone carried ≡ carried_to to gone carried
+  carried_still : (task gone : ℕ) (carried : Carried) → carried_weight (references setup writer key) task carried ≡ 0 → carried_to new gone carried ≡ carried_to to gone carried
   carried_still task gone Empty none = refl
   carried_still task gone (Brings bio status) none = ap (λ item. Brings item status) (item_still bio none)
   carried_still task gone (Carries v closed) none =
       ap (λ p. Carries v (record closed { held = holding_to gone closed.held; parent = p })) (parent_still v closed.parent none)
   carried_still task gone (Fails breach kept) none = refl
 
-  task_still : (at gone : ℕ) (x : TaskState) → TaskHasLeg setup x → task_weight (refs setup writer key) at x ≡ 0 → task_to new gone x ≡ task_to to gone x
+  task_still : (at gone : ℕ) (x : TaskState) → TaskHasLeg setup x → task_weight (references setup writer key) at x ≡ 0 → task_to new gone x ≡ task_to to gone x
   task_still at gone (Writer number todo taken submission) has none = ap (Writer number todo (taken_to taken)) (submission_still 32 gone submission has (omega (arith, none)))
   task_still at gone (Rescuer dev submission) has none = ap (Rescuer dev) (submission_still dev.0 gone submission has none)
   task_still at gone (Completer disk carried) has none = ap (Completer disk) (carried_still at gone carried none)
@@ -104,11 +105,11 @@ book_still to new named opened book other alike same like = record {
 
 module _ (scene : Scene) (s other : State) (i : Kept scene s) (to : Places) (names : Names) (alike : StatesAlike scene to names s other)
     (writer key : ℕ) (vacant : IsVacant (s.objects.book writer) key) (place : ℕ) where
-  abbrev none : total scene (refs scene.setup writer key) s ≡ 0
+  abbrev none : total_weight scene (references scene.setup writer key) s ≡ 0
   none = no_ref scene s i writer key vacant
 
   abbrev r : Weight
-  r = refs scene.setup writer key
+  r = references scene.setup writer key
 
   under_none : (v k : ℕ) (node : Node) → node_at (s.objects.book v) k ≡ Some node → under writer key v (parent_of node.role) ≡ 0
   under_none v k node at = omega (arith, none, node_part scene s i r v k node at)

@@ -15,7 +15,7 @@ use Rattle.run_machine.specs.Opened.{scene, start, setup as setup_in}
 use Rattle.run_machine.specs.Runs.{State, Steps, IsRun}
 use Rattle.block_core.specs.Rooms.{HasRoomInBooks}
 use Rattle.block_core.specs.Touches.{Touch, Opens, Shuts, Passes, touch_of}
-use Rattle.block_core.specs.Weights.{total}
+use Rattle.block_core.specs.Weights.{total_weight}
 use Rattle.block_core.proofs.moves.Devices.{ground}
 use Rattle.block_core.proofs.moves.Moves.{Move, Can, after, touch_by}
 use Rattle.block_core.proofs.moves.Moves as moves
@@ -190,7 +190,7 @@ module _ (scene : Scene) (f : Fair scene) (g : Ground scene.setup) (n : Needs sc
         roomy = runs_roomy scene f g n s (event ∷ []) new u.whole u.roomy (new, (place, steps), refl);
         left = λ w.
             let spent = opens_of_those scene s g n u.whole.kept u.whole.placed w moved.move moved.can in
-            let state = ap (total scene (to_open scene.setup w)) moved.is in
+            let state = ap (total_weight scene (to_open scene.setup w)) moved.is in
             let had = u.left w in
             omega (arith, spent, state, had, same w, opened_after names told.what w);
         none = λ w at_place le.

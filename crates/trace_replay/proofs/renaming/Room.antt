@@ -9,7 +9,7 @@ use Rattle.run_machine.specs.Maps.{upd}
 use Rattle.run_machine.specs.Scene.{Setup, Scene}
 use Rattle.run_machine.specs.Runs.{State, Steps}
 use Rattle.block_core.specs.Touches.{Touch, Opens, Shuts, Passes, touch_of}
-use Rattle.block_core.specs.Weights.{Weight, one, total}
+use Rattle.block_core.specs.Weights.{Weight, one, total_weight}
 use Rattle.block_core.specs.Rooms.{room, HasRoomInBooks}
 use Rattle.block_core.proofs.moves.Moves.{Move, Can, after, touch_by}
 use Rattle.block_core.proofs.moves.Moves as moves
@@ -38,7 +38,7 @@ none_worth Passes = refl
 
 module _ (scene : Scene) (s : State) (g : Ground scene.setup) (n : Needs scene.setup) (i : Kept scene s) (a : Placed scene.setup s) where
   -- behind each event there is one less to open for each node that it opens
-  pub opens_of_those : (w : ℕ) (m : Move) → Can scene s m → total scene (to_open scene.setup w) (after scene s m) + opens w (touch_by m) ≤ total scene (to_open scene.setup w) s
+  pub opens_of_those : (w : ℕ) (m : Move) → Can scene s m → total_weight scene (to_open scene.setup w) (after scene s m) + opens w (touch_by m) ≤ total_weight scene (to_open scene.setup w) s
   opens_of_those w m c = omega (arith, delta scene (to_open scene.setup w) s m c, spends scene s g n i a w (λ writer. 0) m c, none_worth (touch_by m))
 
 -- an event that opens a node finds its place vacant
@@ -118,7 +118,7 @@ opened_after names (what.Round round) w = omega arith
 
 -- the nodes that were opened and those that are still to be opened have places
 abbrev pub HasLeft : Scene → Names → State → Type 0
-HasLeft scene names s = (w : ℕ) → names.opened w + total scene (to_open scene.setup w) s ≤ scene.setup.places w
+HasLeft scene names s = (w : ℕ) → names.opened w + total_weight scene (to_open scene.setup w) s ≤ scene.setup.places w
 
 module _ (scene : Scene) (f : Fair scene) (g : Ground scene.setup) (n : Needs scene.setup) (s : State) (i : Kept scene s) (a : Placed scene.setup s) (names : Names) (left : HasLeft scene names s)
     (place : ℕ) (event : Event) (new : State) (steps : Steps scene s place event new) where
@@ -127,7 +127,7 @@ module _ (scene : Scene) (f : Fair scene) (g : Ground scene.setup) (n : Needs sc
       let moved = step_is_move scene s f i place event new steps in
       let spent = opens_of_those scene s g n i a w moved.move moved.can in
       let touch = ap (opens w) moved.touches in
-      let state = ap (total scene (to_open scene.setup w)) moved.is in
+      let state = ap (total_weight scene (to_open scene.setup w)) moved.is in
       let had = left w in
       omega (arith, spent, touch, state, opened_after names event.what w, had)
 
@@ -142,7 +142,7 @@ module _ (scene : Scene) (f : Fair scene) (g : Ground scene.setup) (n : Needs sc
       (finds_vacant scene s writer key moved.move moved.can touch, omega (arith, spent, one_more, one-same writer, had))
 
 -- where no node was opened, all that are to be opened have places
-pub room_left : (scene : Scene) (s : State) → Kept scene s → HasRoomInBooks scene s → (w : ℕ) → 0 + total scene (to_open scene.setup w) s ≤ scene.setup.places w
+pub room_left : (scene : Scene) (s : State) → Kept scene s → HasRoomInBooks scene s → (w : ℕ) → 0 + total_weight scene (to_open scene.setup w) s ≤ scene.setup.places w
 room_left scene s i roomy w =
     let has = roomy.room w in
     omega (
