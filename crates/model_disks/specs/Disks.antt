@@ -1,5 +1,5 @@
 -- A disk of the model, as contracts see it.
-use Rattle.std.specs.Prelude.{◌≡◌, ◌+◌, ◌%◌, ◌^◌, ◌<◌, ◌≤◌, ℕ, List, sum, sum_by}
+use Rattle.std.specs.Prelude.{◌≡◌, ◌+◌, ◌-◌, ◌%◌, ◌^◌, ◌<◌, ◌≤◌, ℕ, List, length, min, sum, sum_by}
 use Rattle.stack_base.specs.declared.ids.DevId.{DevId}
 use Rattle.stack_base.specs.declared.ids.Bad.{Bad}
 use Rattle.stack_base.specs.declared.ids.Status.TheVariants as status
@@ -15,6 +15,10 @@ pub record DiskState : Type 0 where
   pub image : List (List ℕ)
   -- the bios that wait in it, in the order of their pushes
   pub pending : List (Item Pad)
+
+-- how many bios wait in a disk, as far as 64 bits tell
+abbrev pub waiting_count : DiskState → ℕ
+waiting_count disk = min (length disk.pending) (2 ^ 64 - 1)
 
 -- the sum of all words of an image, modulo 2 ^ 64
 abbrev pub sum_of_words : List (List ℕ) → ℕ

@@ -57,13 +57,13 @@ pub struct Done {
 }
 
 impl Disk {
-    ghost use Rattle.std.specs.Prelude.{◌≡◌, ◌+◌, ◌-◌, ◌*◌, ◌/◌, ◌%◌, ◌^◌, ◌<◌, ◌≤◌, ℕ, [], ◌++◌, length, take, drop, map, min, reverse, slice_index_or, All, IfOk, MatchOption};
+    ghost use Rattle.std.specs.Prelude.{◌≡◌, ◌+◌, ◌*◌, ◌/◌, ◌%◌, ◌<◌, ◌≤◌, ℕ, [], ◌++◌, length, take, drop, map, reverse, slice_index_or, All, IfOk, MatchOption};
     ghost use Rattle.std.specs.Borrow.{sem};
     ghost use Rattle.std.specs.Io.BufRead.{Rests};
     ghost use Rattle.std.specs.List.{concat};
     ghost use Rattle.stack_base.specs.Words.{is_written, zero_sector};
     ghost use Rattle.bio_records.specs.Items.{item_of, plain_of, IsAlone};
-    ghost use Rattle.model_disks.specs.Disks.{IsBadRange, sum_of_words};
+    ghost use Rattle.model_disks.specs.Disks.{IsBadRange, sum_of_words, waiting_count};
     ghost use Rattle.model_disks.specs.Moves.{blank_disk, pushed, Completes};
     ghost use Rattle.model_disks.specs.Runs.{EndsInWord, IsApart, IsNextRun};
     ghost use Rattle.model_disks.specs.contracts.disk.Disk.{the_row};
@@ -148,7 +148,7 @@ impl Disk {
 
     /// How many bios wait, or `u64::MAX` where there are more.
     pub fn pending(&self) -> u64
-        ensures { result ≡ min (length self.now.pending) (2 ^ 64 - 1) }
+        ensures { result ≡ waiting_count self.now }
     {
         self.pending.len()
     }

@@ -1,10 +1,10 @@
 -- A disk as a thing.
-use Rattle.std.specs.Prelude.{◌≡◌, ◌≢◌, ◌≤◌, ◌-◌, ◌^◌, ℕ, length, min, Option, None, Some, IfErr, Result, Ok, Err}
+use Rattle.std.specs.Prelude.{◌≡◌, ◌≢◌, ◌≤◌, ◌-◌, ℕ, min, Option, None, Some, IfErr, Result, Ok, Err}
 use Rattle.elem_ledger.specs.declared.element.Element.{Element}
 use Rattle.bio_records.specs.declared.bio.Pad.{Pad}
 use Rattle.bio_records.specs.declared.body.BioBody.{BioBody}
 use Rattle.bio_records.specs.Items.{item_of, IsAlone}
-use Rattle.model_disks.specs.Disks.{DiskState}
+use Rattle.model_disks.specs.Disks.{DiskState, waiting_count}
 use Rattle.model_disks.specs.Moves.{pushed, Completes}
 use Rattle.model_disks.specs.declared.disk.Done.{Done as DoneBio}
 use Rattle.task_steps.specs.declared.objects.Unmade.{Unmade}
@@ -44,10 +44,6 @@ abbrev pub DiskServes : DiskState → Request → Reply → DiskState → Type 0
 DiskServes old (Push bio) Did new = (bio.bio.dev.0 ≡ old.dev.0) × (new ≡ pushed bio old)
 DiskServes old (Complete disk) (Completed index bio status) new = (disk.0 ≡ old.dev.0) × Completes old index bio status new
 DiskServes old request reply new = ⊥
-
--- how many bios wait in a disk, as far as 64 bits tell
-abbrev pub waiting_count : DiskState → ℕ
-waiting_count disk = min (length disk.pending) (2 ^ 64 - 1)
 
 -- where none waits, nothing needs a ticket
 abbrev pub DiskLooks : ThingState DiskState → Request → Reply → ThingState DiskState → Type 0

@@ -1,5 +1,5 @@
 -- The objects of one thread: what they are as the objects of a run, and what holds of them between calls.
-use Rattle.std.specs.Prelude.{◌≡◌, ◌⊎◌, ◌+◌, ◌-◌, ◌^◌, ◌%◌, ◌<◌, ◌≤◌, ◌==◌, ◌||◌, if◌then◌else◌, ℕ, Bool, true, Option, None, Some, [], length, map, filter, min}
+use Rattle.std.specs.Prelude.{◌≡◌, ◌⊎◌, ◌+◌, ◌%◌, ◌<◌, ◌≤◌, ◌==◌, ◌||◌, if◌then◌else◌, ℕ, Bool, true, Option, None, Some, [], length, map, filter}
 use Rattle.std.specs.List.{range_with_len}
 use Rattle.elem_ledger.specs.Ledger.{LedgerId}
 use Rattle.fail_script.specs.Script.{only_tail}
@@ -16,7 +16,7 @@ use Rattle.mempool_core.specs.Pool.{LedgerPool}
 use Rattle.bioset_pools.specs.Sets.{bios_of}
 use Rattle.bio_records.specs.Rescue.{Rescue}
 use Rattle.bio_books.specs.Books.{BookState}
-use Rattle.model_disks.specs.Disks.{DiskState}
+use Rattle.model_disks.specs.Disks.{DiskState, waiting_count}
 use Rattle.model_disks.specs.Moves as disk
 use Rattle.task_core.specs.declared.plain.Plain.{Plain}
 use Rattle.task_core.specs.declared.plain.tally.Tally.{Tally}
@@ -126,9 +126,9 @@ PlainServes old request reply new =
 
 -- how many bios wait in a disk, as a look tells it
 abbrev pub PlainFinds : Plain → Plain → DevId → ℕ → Type 0
-PlainFinds old new dev pending = pending ≡ min (length ((objects_of old).disk dev.0).pending) (2 ^ 64 - 1)
+PlainFinds old new dev pending = pending ≡ waiting_count ((objects_of old).disk dev.0)
 
 -- the bio at the chosen place is completed, which nobody took meanwhile
 abbrev pub PlainPicks : Plain → Plain → DevId → ℕ → ℕ → Option ℕ → Type 0
-PlainPicks old new dev pending chosen (Some index) = (pending ≡ min (length ((objects_of old).disk dev.0).pending) (2 ^ 64 - 1)) × (index ≡ chosen)
+PlainPicks old new dev pending chosen (Some index) = (pending ≡ waiting_count ((objects_of old).disk dev.0)) × (index ≡ chosen)
 PlainPicks old new dev pending chosen None = ⊥

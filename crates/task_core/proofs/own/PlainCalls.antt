@@ -12,7 +12,7 @@ use Rattle.bio_records.specs.Rescue.{Rescue}
 use Rattle.bio_books.specs.Books.{BookState}
 use Rattle.bio_books.specs.Links.{Linked}
 use Rattle.bio_books.specs.Drops.{DropOutcome, Drops}
-use Rattle.model_disks.specs.Disks.{DiskState}
+use Rattle.model_disks.specs.Disks.{DiskState, waiting_count}
 use Rattle.model_disks.specs.Moves.{pushed, Completes}
 use Rattle.task_core.specs.declared.plain.Plain.{Plain}
 use Rattle.run_machine.specs.Maps.{upd}
@@ -104,7 +104,7 @@ module _ (plain : Plain) (holds : Holds plain) (disk : DevId) (is : IsTrue (has_
   pub waiting_in : (objects_of plain).disk disk.0 ≡ entry
   waiting_in = disk_there plain holds disk.0 i is place entry value
 
-  pub nothing_waits : min (length entry.pending) (2 ^ 64 - 1) ≡ 0
+  pub nothing_waits : waiting_count entry ≡ 0
       → Serves (stage_of plain).ledger (objects_of plain) (Complete disk) Nothing (objects_of plain)
   nothing_waits none =
       (ap (λ (d : DiskState). d.pending) waiting_in ∙ none_of entry.pending (no_least (length entry.pending) none), refl)

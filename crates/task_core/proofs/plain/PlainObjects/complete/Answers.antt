@@ -1,6 +1,6 @@
-use Rattle.std.proofs.Common.{◌-◌, ◌^◌, inl, inr, ap, sym, refl, length, min, ◌∙◌, arith}
+use Rattle.std.proofs.Common.{inl, inr, ap, sym, refl, ◌∙◌, arith}
 use Rattle.bio_records.specs.Items.{item_of}
-use Rattle.model_disks.specs.Disks.{DiskState}
+use Rattle.model_disks.specs.Disks.{waiting_count}
 use Rattle.task_core.proofs.own.PlainCalls.{waiting_in, nothing_waits, complete_served, complete_owed, complete_kept}
 use Rattle.task_core.proofs.plain.PlainObjects.complete.Goals as goal
 
@@ -22,13 +22,13 @@ returns-clause-owed g c =
 pub returns-then-pending-eq0-clause-chosen : goal.returns-then-pending-eq0-clause-chosen
 returns-then-pending-eq0-clause-chosen g c = (
   c.pending-pending.result,
-  c.pending-pending.ensures ∙ ap (λ (d : DiskState). min (length d.pending) (2 ^ 64 - 1)) (sym (waiting_in c.args.self.now c.requires.holds c.args.disk c.requires.fits c.place-at.result c.place-at.ensures c.index.result.now c.index.ensures)),
+  c.pending-pending.ensures ∙ ap waiting_count (sym (waiting_in c.args.self.now c.requires.holds c.args.disk c.requires.fits c.place-at.result c.place-at.ensures c.index.result.now c.index.ensures)),
   inl (c.if-pending-eq0.true, refl, refl),
 )
 
 pub returns-clause-chosen : goal.returns-clause-chosen
 returns-clause-chosen g c =
-    let found = c.pending-pending.ensures ∙ ap (λ (d : DiskState). min (length d.pending) (2 ^ 64 - 1)) (sym (waiting_in c.args.self.now c.requires.holds c.args.disk c.requires.fits c.place-at.result c.place-at.ensures c.index.result.now c.index.ensures)) in (
+    let found = c.pending-pending.ensures ∙ ap waiting_count (sym (waiting_in c.args.self.now c.requires.holds c.args.disk c.requires.fits c.place-at.result c.place-at.ensures c.index.result.now c.index.ensures)) in (
       c.pending-pending.result,
       found,
       inr (omega (arith, c.if-pending-eq0.false), (c.choose-index.result, c.choose-index.ensures.chooses, (found, refl))),
