@@ -184,15 +184,20 @@ tally_in rounds writes = record { round = 0; left = left_in rounds; statuses = r
 abbrev pub opened_disk : Stack → ℕ → DiskState
 opened_disk stack dev = disk.blank_disk (at dev) (size (tree stack dev)) (bads_of stack dev)
 
--- pools are full, disks are zeros, nothing waits, no node is open and every write is unfinished
-abbrev pub objects : Scenario → Objects
-objects s = record {
-  pool = λ number. opened (reserve_of s.stack (pool_of number)) (script_at s.scripts number);
+-- the objects of a stack as they are opened, with so many places in each book and this tally: pools are full, disks are zeros, nothing waits
+-- and no node is open
+abbrev pub opened_objects : Stack → List (PoolId × Answers) → (ℕ → ℕ) → TallyState → Objects
+opened_objects stack scripts places tally = record {
+  pool = λ number. opened (reserve_of stack (pool_of number)) (script_at scripts number);
   rescue = λ dev. [];
-  disk = opened_disk s.stack;
-  book = λ writer. record { writer = writer; nodes = replicate (places_of s writer) None };
-  tally = tally_in s.rounds s.writes;
+  disk = opened_disk stack;
+  book = λ writer. record { writer = writer; nodes = replicate (places writer) None };
+  tally = tally;
 }
+
+-- those of a scenario, in which every write is unfinished
+abbrev pub objects : Scenario → Objects
+objects s = opened_objects s.stack s.scripts (places_of s) (tally_in s.rounds s.writes)
 
 -- no task behind the last
 abbrev pub no_task : TaskState

@@ -27,18 +27,32 @@ pub record Stage : Type 0 where
   pub ledger : ℕ → LedgerId
   pub most : ℕ → ℕ
 
+-- which objects there are, by the routing alone
 -- a writer with a write has a book, with a place for the write's node at least
+abbrev pub has_book_in : Routing → ℕ → Bool
+has_book_in routing writer = nat_lt 0 (places_at routing.places writer)
+
+abbrev pub has_rescuer_in : Routing → ℕ → Bool
+has_rescuer_in routing dev = is_device (routing_setup routing) dev && (routing_setup routing).rescuer dev
+
+abbrev pub has_disk_in : Routing → ℕ → Bool
+has_disk_in routing = is_disk (routing_setup routing)
+
+abbrev pub has_mirror_in : Routing → ℕ → Bool
+has_mirror_in routing dev = is_device (routing_setup routing) dev && is_mirror ((routing_setup routing).tree dev)
+
+-- and the same of the objects of a run
 abbrev pub has_book : Stage → ℕ → Bool
-has_book stage writer = nat_lt 0 (places_at stage.routing.places writer)
+has_book stage writer = has_book_in stage.routing writer
 
 abbrev pub has_rescuer : Stage → DevId → Bool
-has_rescuer stage dev = is_device (routing_setup stage.routing) dev.0 && (routing_setup stage.routing).rescuer dev.0
+has_rescuer stage dev = has_rescuer_in stage.routing dev.0
 
 abbrev pub has_disk : Stage → DevId → Bool
-has_disk stage dev = is_disk (routing_setup stage.routing) dev.0
+has_disk stage dev = has_disk_in stage.routing dev.0
 
 abbrev pub has_mirror : Stage → DevId → Bool
-has_mirror stage dev = is_device (routing_setup stage.routing) dev.0 && is_mirror ((routing_setup stage.routing).tree dev.0)
+has_mirror stage dev = has_mirror_in stage.routing dev.0
 
 -- the writers have a set, and so has each device but a disk
 abbrev pub is_set : Stage → SetId → Bool

@@ -14,11 +14,11 @@ use Rattle.run_machine.specs.Events.{pool_of}
 use Rattle.run_machine.specs.Objects.{Objects}
 use Rattle.task_core.specs.opened.OfOne.{IsOpened, scenario_in}
 use Rattle.run_machine.specs.Opened.{Scenario, at, objects, reserve_of, script_at}
-use Rattle.task_core.specs.opened.Openings.{has_pool, uses_slips}
+use Rattle.task_core.specs.opened.Openings.{has_pool}
 use Rattle.task_core.specs.Plains.{objects_of, stage_of}
 use Rattle.task_steps.specs.Routed.{Routing, routing_setup}
 use Rattle.run_machine.specs.Scene.{has_set}
-use Rattle.task_steps.specs.Stage.{Stage, is_pool}
+use Rattle.task_steps.specs.Stage.{Stage, is_pool, has_mirror_in}
 use Rattle.task_core.proofs.opened.Behind.{no_set_keeps, no_slips_keep, scripts_alone}
 use Rattle.plain_core.specs.opening.Opening.{CanOpen, new_pool}
 use Rattle.plain_core.proofs.opening_lemmas.Readable.{can_open}
@@ -53,7 +53,7 @@ not_odd m e = grind (e, arith, nat_tests)
 
 module _ (routing : Routing) (stage : Stage) (same : stage.routing ≡ routing) (number : ℕ) where
   abbrev has_by : Bool → Bool → Bool → Bool → Bool
-  has_by a b c d = b || (a || c && has_set (routing_setup routing) (number / 2)) || d && uses_slips routing (number / 2)
+  has_by a b c d = b || (a || c && has_set (routing_setup routing) (number / 2)) || d && has_mirror_in routing (number / 2)
 
   by_bools : (a b c d : Bool) → (c ≡ true → d ≡ false) → is_pool (record stage { routing = routing }) (pool_by number a b c) ≡ false → has_by a b c d ≡ false
   by_bools true b c d apart none = absurd (true≢false none)

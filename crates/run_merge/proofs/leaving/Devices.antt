@@ -19,6 +19,7 @@ use Rattle.run_machine.specs.Scene.{is_device, is_disk, has_set, is_mirror, keep
 use Rattle.task_core.specs.Leaving.{disk_at, disks_from, falling_from, pools_at}
 use Rattle.task_core.proofs.opened.Filling.{filter_more}
 use Rattle.task_steps.specs.Routed.{Routing, routing_setup}
+use Rattle.task_steps.specs.Stage.{has_mirror_in}
 use Rattle.run_merge.specs.Falling.{DevicePools, at_number, below, with_facts, falling_below}
 
 keeps_by : (n : ℕ) (k : Kind) (trees : List Tree) → keeps_data (over n k trees) ≡ kinds.is_disk_kind k
@@ -39,9 +40,6 @@ mirrors_by n (kind.Zoned chunk) trees = refl
 mirrors_by n (kind.Limit longest chunk) trees = refl
 mirrors_by n (kind.Mirror records) trees = refl
 
-abbrev pub has_records : Routing → ℕ → Bool
-has_records r n = is_device (routing_setup r) n && is_mirror ((routing_setup r).tree n)
-
 module _ (r : Routing) (good : IsStack r.stack) (n : ℕ) (device : Device) (found : slice_get r.stack.devices.items n ≡ Some device) where
   there : is_device (routing_setup r) n ≡ true
   there = lt-ltb n (length r.stack.devices.items) (slice_get_within r.stack.devices.items n device found)
@@ -58,7 +56,7 @@ module _ (r : Routing) (good : IsStack r.stack) (n : ℕ) (device : Device) (fou
   pub set_is : has_set (routing_setup r) n ≡ kinds.is_stacked_kind device.kind
   set_is = ap (λ b. b && not (keeps_data (tree r.stack n))) there ∙ ap not keeps_here
 
-  pub records_is : has_records r n ≡ kinds.is_mirror_kind device.kind
+  pub records_is : has_mirror_in r n ≡ kinds.is_mirror_kind device.kind
   records_is = ap (λ b. b && is_mirror (tree r.stack n)) there ∙ ap is_mirror tree_here
       ∙ mirrors_by n device.kind (map (λ (m : DevId). tree r.stack m.0) device.members.items)
 
@@ -67,7 +65,7 @@ module _ (r : Routing) (n : ℕ) (past : length r.stack.devices.items ≤ n) whe
   pub no_set : has_set (routing_setup r) n ≡ false
   no_set = ap (λ b. b && not (keeps_data (tree r.stack n))) (le-ltb n (length r.stack.devices.items) past)
 
-  pub no_records : has_records r n ≡ false
+  pub no_records : has_mirror_in r n ≡ false
   no_records = ap (λ b. b && is_mirror (tree r.stack n)) (le-ltb n (length r.stack.devices.items) past)
 
 -- the disks of devices are those that tests find

@@ -31,7 +31,8 @@ use Rattle.shared_objects.specs.Left.{HasClosed}
 use Rattle.shared_objects.specs.declared.closed.Closed.{Closed}
 use Rattle.run_merge.specs.Falling.{DevicePools, row_of, at_number, below, sets_below, records_below, with_facts, falling_below, facts_left}
 use Rattle.run_merge.specs.Outcomes.{state_in, shared_scenario}
-use Rattle.run_merge.proofs.leaving.Devices.{has_records, disk_is, set_is, records_is, no_set, no_records, disks_found, below_is, below_past, falls, none_falls}
+use Rattle.run_merge.proofs.leaving.Devices.{disk_is, set_is, records_is, no_set, no_records, disks_found, below_is, below_past, falls, none_falls}
+use Rattle.task_steps.specs.Stage.{has_mirror_in}
 use Rattle.run_merge.proofs.leaving.FoundByKey.{map_alike}
 use Rattle.run_merge.proofs.leaving.PoolRows.{of_bios, of_records, all_small, all_sets, all_records, all_disks}
 
@@ -79,7 +80,7 @@ module _ (closed : Closed) (has : HasClosed closed) where
   abbrev pub pools_in : DevicePools
   pools_in = record {
     has_set = has_set (routing_setup (stage_of closed.told.value.objects).routing);
-    is_mirror = has_records (stage_of closed.told.value.objects).routing;
+    is_mirror = has_mirror_in (stage_of closed.told.value.objects).routing;
     facts = λ pool. ((state_in closed).objects.pool (pool_number pool)).facts;
   }
 
@@ -91,10 +92,10 @@ module _ (closed : Closed) (has : HasClosed closed) where
       below_past (has_set (routing_setup routing)) (λ n. (Of (at n), pools_in.facts (Bios (at n)))) count 32 (λ m past. no_set routing m past) few
       ∙ below_is (has_set (routing_setup routing)) (λ n. (Of (at n), pools_in.facts (Bios (at n)))) count
 
-  records_are : records_below pools_in 32 ≡ map (λ n. (at n, pools_in.facts (Records (at n)))) (filter (has_records routing) (range_with_len 0 count))
+  records_are : records_below pools_in 32 ≡ map (λ n. (at n, pools_in.facts (Records (at n)))) (filter (has_mirror_in routing) (range_with_len 0 count))
   records_are =
-      below_past (has_records routing) (λ n. (at n, pools_in.facts (Records (at n)))) count 32 (λ m past. no_records routing m past) few
-      ∙ below_is (has_records routing) (λ n. (at n, pools_in.facts (Records (at n)))) count
+      below_past (has_mirror_in routing) (λ n. (at n, pools_in.facts (Records (at n)))) count 32 (λ m past. no_records routing m past) few
+      ∙ below_is (has_mirror_in routing) (λ n. (at n, pools_in.facts (Records (at n)))) count
 
   -- what was found of each pool
   abbrev vecs_left : ThingState LedgerPool
@@ -138,8 +139,8 @@ module _ (closed : Closed) (has : HasClosed closed) where
   records_row =
       all_records routing (λ shut. thing_of shut.thing) (λ n. unasked (no_pool plain.stage.value.stack plain.vecs.ledger n)) closed.records.items
       (has.order.records ∙ has.opened.rows.records.order) (λ thing. thing.object.state.facts)
-      ∙ map_alike slips_found slips_named (filter (has_records routing) (range_with_len 0 count))
-      (All-weaker (λ n. n < 32) (λ n. slips_found n ≡ slips_named n) slips_same (filter (has_records routing) (range_with_len 0 count)) (small (has_records routing)))
+      ∙ map_alike slips_found slips_named (filter (has_mirror_in routing) (range_with_len 0 count))
+      (All-weaker (λ n. n < 32) (λ n. slips_found n ≡ slips_named n) slips_same (filter (has_mirror_in routing) (range_with_len 0 count)) (small (has_mirror_in routing)))
       ∙ sym records_are
 
   pub vecs_is : facts_left closed.vecs ≡ pools_in.facts FsVecs

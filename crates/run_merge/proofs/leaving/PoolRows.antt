@@ -13,11 +13,11 @@ use Rattle.run_machine.specs.Opened.{at}
 use Rattle.run_machine.specs.Scene.{has_set, is_disk}
 use Rattle.task_core.specs.Plains.{is_bios_number, by_kind}
 use Rattle.task_core.specs.Tables.{look_up}
-use Rattle.task_core.specs.opened.Openings.{itself, set_index, uses_set, slip_index, uses_slips}
+use Rattle.task_core.specs.opened.Openings.{itself, set_index, has_set_at, slip_index}
+use Rattle.task_steps.specs.Stage.{has_mirror_in}
 use Rattle.task_steps.specs.Routed.{Routing, routing_setup}
 use Rattle.shared_objects.specs.Holding.{set_key, slip_key}
 use Rattle.run_merge.proofs.Fronts.{has_some}
-use Rattle.run_merge.proofs.leaving.Devices.{has_records}
 use Rattle.run_merge.proofs.leaving.FoundByKey.{AreDistinct, looked, numbers_apart, pairs}
 
 -- numbers of pools
@@ -75,15 +75,15 @@ module _ (r : Routing) where
   count = length r.stack.devices.items
 
   -- the sets behind that of the writers have the numbers of devices
-  shifted : (k n : ℕ) → map set_index (filter (uses_set r) (range_with_len (k + 1) n)) ≡ map (λ d. 2 * d) (filter (has_set (routing_setup r)) (range_with_len k n))
+  shifted : (k n : ℕ) → map set_index (filter (has_set_at r) (range_with_len (k + 1) n)) ≡ map (λ d. 2 * d) (filter (has_set (routing_setup r)) (range_with_len k n))
   shifted k zero = refl
-  shifted k (suc n) = by_test (uses_set r (k + 1)) (has_set (routing_setup r) k) (ap (uses_set r) next) (shifted (k + 1) n)
+  shifted k (suc n) = by_test (has_set_at r (k + 1)) (has_set (routing_setup r) k) (ap (has_set_at r) next) (shifted (k + 1) n)
     where
       next : k + 1 ≡ suc k
       next = omega arith
 
       xs : List ℕ
-      xs = filter (uses_set r) (range_with_len (k + 1 + 1) n)
+      xs = filter (has_set_at r) (range_with_len (k + 1 + 1) n)
 
       ys : List ℕ
       ys = filter (has_set (routing_setup r)) (range_with_len (k + 1) n)
@@ -98,7 +98,7 @@ module _ (r : Routing) where
 
   -- the row of the sets' pools of bios
   module _ {X Y : Type 0} (value : X → Y) (none : ℕ → Y) (row : List (SetId × X))
-      (keys : map (λ (e : SetId × X). set_key e.0) row ≡ map set_index (filter (uses_set r) (range_with_len 0 (suc count)))) where
+      (keys : map (λ (e : SetId × X). set_key e.0) row ≡ map set_index (filter (has_set_at r) (range_with_len 0 (suc count)))) where
     abbrev set_of : ℕ → Y
     set_of = look_up (λ (e : SetId × X). set_key e.0) (λ (e : SetId × X). value e.1) none row
 
@@ -153,15 +153,15 @@ module _ (r : Routing) where
 
   -- the row of the pools of records
   module _ {X Y : Type 0} (value : X → Y) (none : ℕ → Y) (row : List (DevId × X))
-      (keys : map (λ (e : DevId × X). slip_key e.0) row ≡ map slip_index (filter (uses_slips r) (range_with_len 0 count))) where
+      (keys : map (λ (e : DevId × X). slip_key e.0) row ≡ map slip_index (filter (has_mirror_in r) (range_with_len 0 count))) where
     abbrev records_of : ℕ → Y
     records_of = look_up (λ (e : DevId × X). slip_key e.0) (λ (e : DevId × X). value e.1) none row
 
     abbrev mirrors : List ℕ
-    mirrors = filter (has_records r) (range_with_len 0 count)
+    mirrors = filter (has_mirror_in r) (range_with_len 0 count)
 
     records_apart : AreDistinct (map (λ (e : DevId × X). slip_key e.0) row)
-    records_apart = subst AreDistinct (sym keys) (numbers_apart (λ d. 2 * d + 1) odd_apart (has_records r) 0 count)
+    records_apart = subst AreDistinct (sym keys) (numbers_apart (λ d. 2 * d + 1) odd_apart (has_mirror_in r) 0 count)
 
     pub all_records : {F : Type 0} (final : Y → F) → map {B = DevId × F} (λ (e : DevId × X). (e.0, final (value e.1))) row
         ≡ map {B = DevId × F} (λ n. (at n, final (records_of (2 * n + 1)))) mirrors

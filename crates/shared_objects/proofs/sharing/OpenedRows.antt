@@ -16,14 +16,14 @@ use Rattle.task_core.specs.declared.plain.Plain.{Plain}
 use Rattle.task_core.specs.opened.Filled.{AreMade}
 use Rattle.task_core.specs.opened.NewTasks.{reserves_in}
 use Rattle.task_core.specs.opened.OfOne.{IsOpened}
-use Rattle.task_core.specs.opened.Openings.{itself, set_index, slip_index, uses_book, uses_disk, uses_list, uses_set, uses_slips, IsNewBook, IsNewDisk, IsNewList, IsNewRecords, IsNewSet}
+use Rattle.task_core.specs.opened.Openings.{itself, set_index, slip_index, has_set_at, IsNewBook, IsNewDisk, IsNewList, IsNewRecords, IsNewSet}
 use Rattle.task_core.specs.ObjectsOf.{IsBookOf, IsDiskOf}
 use Rattle.task_core.specs.Plains.{bios_at, book_number, disk_number, is_bios_number, list_number, no_book, no_pool, objects_of, pool_at, records_at, records_number, set_number, stage_of}
 use Rattle.run_machine.specs.Opened.{opened_disk}
 use Rattle.task_core.specs.Tables.{is_entry_of, look_up}
 use Rattle.task_core.proofs.NumberTests.{is_itself}
 use Rattle.task_core.proofs.PoolLemmas.{stands_for_bios, stands_for_records}
-use Rattle.task_steps.specs.Stage.{AreServed}
+use Rattle.task_steps.specs.Stage.{AreServed, has_disk_in, has_rescuer_in, has_book_in, has_mirror_in}
 use Rattle.object_things.specs.Pools.{IsPoolOf}
 use Rattle.shared_objects.specs.Opening.{CanShare, IsPoolAt}
 use Rattle.shared_objects.proofs.row_lemmas.CallsApart.{all_more}
@@ -139,7 +139,7 @@ module _ (o : Opened) (opened : IsOpened o) where
 
   bios : All (λ (entry : SetId × LedgerPool). IsPoolAt (stage_of plain) (set_number entry) entry.1) plain.bios.items
   bios = λ k d lt.
-      let is = each_entry set_number set_index (uses_set plain.stage.value) (by_set count few)
+      let is = each_entry set_number set_index (has_set_at plain.stage.value) (by_set count few)
       (IsNewSet plain.stage.value o.accepted.value.scripts.items (reserves_in o.work.value.resizes.items)) (suc count) plain.bios.items plain.index.bios opened.rows.bios k d lt in
       let entry : SetId × LedgerPool = get_or plain.bios.items k d in
       let kind = set_kind count is.index few is.below in
@@ -150,7 +150,7 @@ module _ (o : Opened) (opened : IsOpened o) where
 
   records : All (λ (entry : DevId × LedgerPool). IsPoolAt (stage_of plain) (records_number entry) entry.1) plain.records.items
   records = λ k d lt.
-      let is = each_entry records_number slip_index (uses_slips plain.stage.value) by_slips
+      let is = each_entry records_number slip_index (has_mirror_in plain.stage.value) by_slips
       (IsNewRecords plain.stage.value o.accepted.value.scripts.items (reserves_in o.work.value.resizes.items)) count plain.records.items plain.index.records opened.rows.records k d lt in
       let entry : DevId × LedgerPool = get_or plain.records.items k d in
       let kind = slip_kind count is.index few is.below in
@@ -161,7 +161,7 @@ module _ (o : Opened) (opened : IsOpened o) where
 
   lists : All (λ (entry : DevId × Rescue). AreServed (stage_of plain) entry.1.bios × (entry.1.dev.0 ≡ entry.0.0)) plain.lists.items
   lists = λ k d lt.
-      let is = each_entry list_number itself (uses_list plain.stage.value) by_itself IsNewList count plain.lists.items plain.index.lists opened.rows.lists k d lt in
+      let is = each_entry list_number itself (has_rescuer_in plain.stage.value) by_itself IsNewList count plain.lists.items plain.index.lists opened.rows.lists k d lt in
       let entry : DevId × Rescue = get_or plain.lists.items k d in (
         subst (AreServed (stage_of plain)) (looked_up list_number (λ (e : DevId × Rescue). e.1.bios) (λ dev. []) plain.lists.items is.index entry is.found) (opened.one.holds.objects.rescue is.index),
         ap (λ (e : DevId × Rescue). e.1.dev.0) is.made ∙ sym (ap (λ (e : DevId × Rescue). e.0.0) is.made),
@@ -169,14 +169,14 @@ module _ (o : Opened) (opened : IsOpened o) where
 
   disks : All (λ (disk : DiskState). IsDiskOf (stage_of plain) disk.dev.0 disk) plain.disks.items
   disks = λ k d lt.
-      let is = each_entry disk_number itself (uses_disk plain.stage.value) by_itself (IsNewDisk plain.stage.value) count plain.disks.items plain.index.disks opened.rows.disks k d lt in
+      let is = each_entry disk_number itself (has_disk_in plain.stage.value) by_itself (IsNewDisk plain.stage.value) count plain.disks.items plain.index.disks opened.rows.disks k d lt in
       let disk : DiskState = get_or plain.disks.items k d in
       subst (λ n. IsDiskOf (stage_of plain) n disk) (sym is.keyed)
       (subst (IsDiskOf (stage_of plain) is.index) (looked_up disk_number (λ (e : DiskState). e) (opened_disk plain.stage.value.stack) plain.disks.items is.index disk is.found) (opened.one.holds.objects.disk is.index))
 
   books : All (λ (entry : ℕ × BookState). IsBookOf (stage_of plain) entry.1.writer entry.1 × (entry.1.writer ≡ entry.0)) plain.books.items
   books = λ k d lt.
-      let is = each_entry book_number itself (uses_book plain.stage.value) by_itself (IsNewBook plain.stage.value) 8 plain.books.items plain.index.books opened.rows.books k d lt in
+      let is = each_entry book_number itself (has_book_in plain.stage.value) by_itself (IsNewBook plain.stage.value) 8 plain.books.items plain.index.books opened.rows.books k d lt in
       let entry : ℕ × BookState = get_or plain.books.items k d in
       let here : IsBookOf (stage_of plain) is.index entry.1 =
       subst (IsBookOf (stage_of plain) is.index) (looked_up book_number (λ (e : ℕ × BookState). e.1) no_book plain.books.items is.index entry is.found) (opened.one.holds.objects.book is.index) in

@@ -30,7 +30,8 @@ use Rattle.work_text.proofs.Fit.{work_is_fit}
 use Rattle.task_core.specs.opened.NewTasks.{AreServableWrites, reserves_in}
 use Rattle.run_machine.specs.ReadBehind.{IsReadBehind}
 use Rattle.run_machine.specs.Opened.{at, records_of as records_at, reserve_of}
-use Rattle.task_core.specs.opened.Openings.{uses_set, uses_slips}
+use Rattle.task_core.specs.opened.Openings.{has_set_at}
+use Rattle.task_steps.specs.Stage.{has_mirror_in}
 use Rattle.task_steps.specs.Routed.{Routing, copies_bios, keeps, routing_setup}
 use Rattle.run_machine.specs.Scene.{has_set, is_mirror, keeps_data}
 use Rattle.task_core.proofs.NumberTests.{clash, is_below, below_by, and_parts}
@@ -48,7 +49,7 @@ module _ (routing : Routing) (good : IsStack routing.stack) (fit : IsFitStack ro
     | inr past ↦ let lt = below_by dev (length routing.stack.devices.items) below in absurd (omega (arith, lt, past.0))
   ]
 
-  pub sets_kept : (dev : ℕ) → uses_set routing (suc dev) ≡ true → 1 ≤ reserve_of routing.stack (Bios (at dev))
+  pub sets_kept : (dev : ℕ) → has_set_at routing (suc dev) ≡ true → 1 ≤ reserve_of routing.stack (Bios (at dev))
   sets_kept dev used =
       let parts = and_parts (nat_lt dev (length routing.stack.devices.items)) (not (keeps_data (tree routing.stack dev))) used in
       let device = device_at dev parts.0 in
@@ -56,7 +57,7 @@ module _ (routing : Routing) (good : IsStack routing.stack) (fit : IsFitStack ro
       subst (λ n. 1 ≤ n) (sym (ap (λ o. option_map_or (λ (d : Device). d.reserve) o 0) device.1))
       (bios_kept device.0.kind device.0.reserve device.0.rescuer keeps_none (fit.devices dev device.0 device.1).reserves)
 
-  pub slips_are_kept : (dev : ℕ) → uses_slips routing dev ≡ true → 1 ≤ reserve_of routing.stack (Records (at dev))
+  pub slips_are_kept : (dev : ℕ) → has_mirror_in routing dev ≡ true → 1 ≤ reserve_of routing.stack (Records (at dev))
   slips_are_kept dev used =
       let parts = and_parts (nat_lt dev (length routing.stack.devices.items)) (is_mirror (tree routing.stack dev)) used in
       let device = device_at dev parts.0 in
@@ -81,7 +82,7 @@ module _ (routing : Routing) (good : IsStack routing.stack) (fit : IsFitStack ro
           ap (λ o. option_map_or (λ (d : Device). d.reserve) o 0) q
           ∙ disks_keep_none device.kind device.reserve device.rescuer (keeps_it device q (keeps (shape_of device.kind)) refl) (fit.devices dev device q).reserves
 
-  pub no_slips_keep : (dev : ℕ) → uses_slips routing dev ≡ false → reserve_of routing.stack (Records (at dev)) ≡ 0
+  pub no_slips_keep : (dev : ℕ) → has_mirror_in routing dev ≡ false → reserve_of routing.stack (Records (at dev)) ≡ 0
   no_slips_keep dev none = by_found (slice_get routing.stack.devices.items dev) refl
     where
       copies_none : (device : Device) → slice_get routing.stack.devices.items dev ≡ Some device → (b : Bool) → copies_bios (shape_of device.kind) ≡ b → b ≡ false
@@ -89,7 +90,7 @@ module _ (routing : Routing) (good : IsStack routing.stack) (fit : IsFitStack ro
       copies_none device q true e =
           let below = is_below dev (length routing.stack.devices.items) (slice_get_within routing.stack.devices.items dev device q) in
           let copies_all = mirror_by routing.stack good dev device q (shape_of device.kind) refl ∙ e in
-          absurd (clash (uses_slips routing dev) (rw (below, copies_all) refl) none)
+          absurd (clash (has_mirror_in routing dev) (rw (below, copies_all) refl) none)
 
       by_found : (o : Option Device) → slice_get routing.stack.devices.items dev ≡ o → reserve_of routing.stack (Records (at dev)) ≡ 0
       by_found None q = ap (λ o. option_map_or (λ (d : Device). records_at d.kind) o 0) q

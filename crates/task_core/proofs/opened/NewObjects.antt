@@ -30,12 +30,12 @@ use Rattle.run_machine.specs.Events.{pool_of}
 use Rattle.task_core.specs.opened.Filled.{AreMade}
 use Rattle.run_machine.specs.Objects.{Objects, TallyState}
 use Rattle.task_core.specs.ObjectsOf.{AreObjectsOf, IsNodeOf}
-use Rattle.run_machine.specs.Opened.{at, reserve_of, script_at, opened_disk}
-use Rattle.task_core.specs.opened.Openings.{has_pool, opened_objects, widest, AreOpened, IsNewPool, set_at, set_index, uses_set, IsNewSet, AreSets, slip_index, uses_slips, IsNewRecords, AreRecords, itself, uses_disk, IsNewDisk, AreDisks, uses_list, IsNewList, AreLists, uses_book, IsNewBook, AreBooks}
+use Rattle.run_machine.specs.Opened.{at, reserve_of, script_at, opened_disk, opened_objects}
+use Rattle.task_core.specs.opened.Openings.{has_pool, widest, AreOpened, IsNewPool, set_at, set_index, has_set_at, IsNewSet, AreSets, slip_index, IsNewRecords, AreRecords, itself, IsNewDisk, AreDisks, IsNewList, AreLists, IsNewBook, AreBooks}
 use Rattle.task_core.specs.Plains.{set_number, records_number, no_pool, list_number, disk_number, book_number, no_book, by_kind, pool_at, tally_of, objects_of, stage_of, AreEntered}
 use Rattle.task_steps.specs.Routed.{Routing, places_at, routing_setup}
 use Rattle.run_machine.specs.Scene.{has_set}
-use Rattle.task_steps.specs.Stage.{Stage, IsServed}
+use Rattle.task_steps.specs.Stage.{Stage, IsServed, has_disk_in, has_rescuer_in, has_book_in, has_mirror_in}
 use Rattle.task_core.specs.Tables.{look_up, IsEntryAt, AreAt}
 use Rattle.run_machine.proofs.Frames.{pools_are_numbered}
 use Rattle.task_core.proofs.NumberTests.{lt_or, below_by, same_by, apart_by, and_parts}
@@ -76,22 +76,22 @@ module _ {E : Type 0} (key : E → ℕ) (is_used : ℕ → Bool) (IsMade : ℕ �
   order_made = all.order ∙ map-id (filter is_used (range_with_len 0 bound))
 
 module _ (routing : Routing) where
-  disk_below : (n : ℕ) → uses_disk routing n ≡ true → n < length routing.stack.devices.items
+  disk_below : (n : ℕ) → has_disk_in routing n ≡ true → n < length routing.stack.devices.items
   disk_below n used = below_by n (length routing.stack.devices.items) (and_parts (nat_lt n (length routing.stack.devices.items)) _ used).0
 
-  list_below : (n : ℕ) → uses_list routing n ≡ true → n < length routing.stack.devices.items
+  list_below : (n : ℕ) → has_rescuer_in routing n ≡ true → n < length routing.stack.devices.items
   list_below n used = below_by n (length routing.stack.devices.items) (and_parts (nat_lt n (length routing.stack.devices.items)) _ used).0
 
   disks_are : (disks : List DiskState) (table : List ℕ) → AreDisks routing (length routing.stack.devices.items) disks table
       → look_up disk_number (λ disk. disk) (opened_disk routing.stack) disks ≡ opened_disk routing.stack
   disks_are disks table all =
-      look_made disk_number (uses_disk routing) (IsNewDisk routing) (length routing.stack.devices.items) disks table all disk_below (λ disk. disk)
+      look_made disk_number (has_disk_in routing) (IsNewDisk routing) (length routing.stack.devices.items) disks table all disk_below (λ disk. disk)
       (opened_disk routing.stack) (opened_disk routing.stack) (λ n disk made. made) (λ n unused. refl)
 
   lists_are : (lists : List (DevId × Rescue)) (table : List ℕ) → AreLists routing (length routing.stack.devices.items) lists table
       → ◌≡◌ {A = ℕ → List (Item Pad)} (look_up list_number (λ entry. entry.1.bios) (λ dev. []) lists) (λ dev. [])
   lists_are lists table all =
-      look_made list_number (uses_list routing) IsNewList (length routing.stack.devices.items) lists table all list_below (λ entry. entry.1.bios)
+      look_made list_number (has_rescuer_in routing) IsNewList (length routing.stack.devices.items) lists table all list_below (λ entry. entry.1.bios)
       (λ dev. []) (λ dev. []) (λ n entry made. ap (λ (e : DevId × Rescue). e.1.bios) made) (λ n unused. refl)
 
   abbrev new_book : ℕ → BookState
@@ -104,10 +104,10 @@ module _ (routing : Routing) where
       wrong : (places : ℕ) → nat_lt 0 (suc places) ≡ false → ⊥
       wrong places e = grind (e, arith, nat_tests)
 
-  books_are : (books : List (ℕ × BookState)) (table : List ℕ) → AreBooks routing 8 books table → ((n : ℕ) → uses_book routing n ≡ true → n < 8)
+  books_are : (books : List (ℕ × BookState)) (table : List ℕ) → AreBooks routing 8 books table → ((n : ℕ) → has_book_in routing n ≡ true → n < 8)
       → ◌≡◌ {A = ℕ → BookState} (look_up book_number (λ entry. entry.1) no_book books) new_book
   books_are books table all below =
-      look_made book_number (uses_book routing) (IsNewBook routing) 8 books table all below (λ entry. entry.1) no_book new_book
+      look_made book_number (has_book_in routing) (IsNewBook routing) 8 books table all below (λ entry. entry.1) no_book new_book
       (λ n entry made. ap (λ (e : ℕ × BookState). e.1) made) (λ n unused. none_there n (places_at routing.places n) unused)
 
 -- what a pool of a number is, as it was opened
@@ -139,7 +139,7 @@ module _ (routing : Routing) (good : IsStack routing.stack) (scripts : List (Poo
   set_below : (dev : ℕ) → has_set (routing_setup routing) dev ≡ true → dev < length routing.stack.devices.items
   set_below dev used = below_by dev (length routing.stack.devices.items) (and_parts (nat_lt dev (length routing.stack.devices.items)) _ used).0
 
-  slips_below : (dev : ℕ) → uses_slips routing dev ≡ true → dev < length routing.stack.devices.items
+  slips_below : (dev : ℕ) → has_mirror_in routing dev ≡ true → dev < length routing.stack.devices.items
   slips_below dev used = below_by dev (length routing.stack.devices.items) (and_parts (nat_lt dev (length routing.stack.devices.items)) _ used).0
 
   abbrev bios_found : List (SetId × LedgerPool) → ℕ → LedgerPool
@@ -149,10 +149,10 @@ module _ (routing : Routing) (good : IsStack routing.stack) (scripts : List (Poo
   records_found records = look_up records_number (λ entry. entry.1) (no_pool routing.stack some) records
 
   module _ (bios : List (SetId × LedgerPool)) (table : List ℕ) (all : AreSets routing scripts reserves (suc (length routing.stack.devices.items)) bios table) where
-    set_is : (index : ℕ) → index < suc (length routing.stack.devices.items) → uses_set routing index ≡ true → IsOfStack (bios_of (set_at index))
+    set_is : (index : ℕ) → index < suc (length routing.stack.devices.items) → has_set_at routing index ≡ true → IsOfStack (bios_of (set_at index))
         → IsPoolOf routing scripts reserves (set_index index) (bios_found bios (set_index index))
     set_is index lt used known =
-        look_used set_number set_index (uses_set routing) (IsNewSet routing scripts reserves) (suc (length routing.stack.devices.items)) bios table all
+        look_used set_number set_index (has_set_at routing) (IsNewSet routing scripts reserves) (suc (length routing.stack.devices.items)) bios table all
         (IsPoolOf routing scripts reserves (set_index index)) (λ entry. entry.1) (no_pool routing.stack some) index lt used
         (λ entry made. made_is (bios_of (set_at index)) entry.1 known made)
 
@@ -165,11 +165,11 @@ module _ (routing : Routing) (good : IsStack routing.stack) (scripts : List (Poo
     unused_set : (number : ℕ) → number ≢ 65 → has_set (routing_setup routing) (number / 2) ≡ false → has_pool routing number ≡ false
         → IsPoolOf routing scripts reserves number (bios_found bios number)
     unused_set number apart none no_pool_is =
-        look_other set_number set_index (uses_set routing) (IsNewSet routing scripts reserves) (suc (length routing.stack.devices.items)) bios table all
+        look_other set_number set_index (has_set_at routing) (IsNewSet routing scripts reserves) (suc (length routing.stack.devices.items)) bios table all
         (IsPoolOf routing scripts reserves number) (λ entry. entry.1) (no_pool routing.stack some) number (λ i lt used e. absurd (clash i e used))
         (none_is number no_pool_is)
       where
-        clash : (i : ℕ) → set_index i ≡ number → uses_set routing i ≡ true → ⊥
+        clash : (i : ℕ) → set_index i ≡ number → has_set_at routing i ≡ true → ⊥
         clash zero e used = apart (sym e)
         clash (suc dev) e used =
             let half : number / 2 ≡ dev = omega (arith, e) in
@@ -189,28 +189,28 @@ module _ (routing : Routing) (good : IsStack routing.stack) (scripts : List (Poo
         cc_false e = cc
 
   module _ (records : List (DevId × LedgerPool)) (table : List ℕ) (all : AreRecords routing scripts reserves (length routing.stack.devices.items) records table) where
-    device_slips : (number dev : ℕ) → 2 * dev + 1 ≡ number → uses_slips routing dev ≡ true → IsPoolOf routing scripts reserves number (records_found records number)
+    device_slips : (number dev : ℕ) → 2 * dev + 1 ≡ number → has_mirror_in routing dev ≡ true → IsPoolOf routing scripts reserves number (records_found records number)
     device_slips number dev is used =
         let lt = slips_below dev used in
         let few = good.few in
         subst (λ n. IsPoolOf routing scripts reserves n (records_found records n)) is
-        (look_used records_number slip_index (uses_slips routing) (IsNewRecords routing scripts reserves) (length routing.stack.devices.items) records table all
+        (look_used records_number slip_index (has_mirror_in routing) (IsNewRecords routing scripts reserves) (length routing.stack.devices.items) records table all
         (IsPoolOf routing scripts reserves (slip_index dev)) (λ entry. entry.1) (no_pool routing.stack some) dev lt used
         (λ entry made. made_is (Records (at dev)) entry.1 (omega (arith, lt, few)) made))
 
-    unused_slips : (number : ℕ) → uses_slips routing (number / 2) ≡ false → has_pool routing number ≡ false
+    unused_slips : (number : ℕ) → has_mirror_in routing (number / 2) ≡ false → has_pool routing number ≡ false
         → IsPoolOf routing scripts reserves number (records_found records number)
     unused_slips number none no_pool_is =
-        look_other records_number slip_index (uses_slips routing) (IsNewRecords routing scripts reserves) (length routing.stack.devices.items) records table all
+        look_other records_number slip_index (has_mirror_in routing) (IsNewRecords routing scripts reserves) (length routing.stack.devices.items) records table all
         (IsPoolOf routing scripts reserves number) (λ entry. entry.1) (no_pool routing.stack some) number (λ i lt used e. absurd (clash i e used))
         (none_is number no_pool_is)
       where
-        clash : (dev : ℕ) → slip_index dev ≡ number → uses_slips routing dev ≡ true → ⊥
+        clash : (dev : ℕ) → slip_index dev ≡ number → has_mirror_in routing dev ≡ true → ⊥
         clash dev e used =
             let half : number / 2 ≡ dev = omega (arith, e) in
-            let is : uses_slips routing (number / 2) ≡ true = ap (uses_slips routing) half ∙ used in cc
+            let is : has_mirror_in routing (number / 2) ≡ true = ap (has_mirror_in routing) half ∙ used in cc
 
-    slips_entered : (number : ℕ) (odd : Bool) → (number % 2 == 1) ≡ odd → (odd && uses_slips routing (number / 2)) ≡ true
+    slips_entered : (number : ℕ) (odd : Bool) → (number % 2 == 1) ≡ odd → (odd && has_mirror_in routing (number / 2)) ≡ true
         → IsEntryAt records_number table records number
     slips_entered number true r is =
         let one_left = same_by (number % 2) 1 r in
@@ -238,7 +238,7 @@ module _ (routing : Routing) (good : IsStack routing.stack) (scripts : List (Poo
         is_one n e = grind (e, arith, nat_tests)
 
     pool_by : (number : ℕ) (vec fs even set slips : Bool) → (number == 64) ≡ vec → (number == 65) ≡ fs → (number % 2 == 0) ≡ even
-        → has_set (routing_setup routing) (number / 2) ≡ set → uses_slips routing (number / 2) ≡ slips
+        → has_set (routing_setup routing) (number / 2) ≡ set → has_mirror_in routing (number / 2) ≡ slips
         → IsPoolOf routing scripts reserves number (if vec then vecs else if fs || even then bios_found bios number else records_found records number)
     pool_by number true fs even set slips q r s t u =
         subst (λ n. IsPoolOf routing scripts reserves n vecs) (sym (same_by number 64 q)) (made_is FsVecs vecs tt vecs_made)
@@ -259,7 +259,7 @@ module _ (routing : Routing) (good : IsStack routing.stack) (scripts : List (Poo
 
     pub pool_is : (number : ℕ) → IsPoolOf routing scripts reserves number (by_kind vecs (bios_found bios) (records_found records) number)
     pool_is number =
-        pool_by number (number == 64) (number == 65) (number % 2 == 0) (has_set (routing_setup routing) (number / 2)) (uses_slips routing (number / 2)) refl refl refl refl refl
+        pool_by number (number == 64) (number == 65) (number % 2 == 0) (has_set (routing_setup routing) (number / 2)) (has_mirror_in routing (number / 2)) refl refl refl refl refl
 
 abbrev objects_with : (ℕ → PoolState) → (ℕ → List (Item Pad)) → (ℕ → DiskState) → (ℕ → BookState) → TallyState → Objects
 objects_with pool rescue disk book tally = record { pool = pool; rescue = rescue; disk = disk; book = book; tally = tally }
@@ -285,7 +285,7 @@ module _ (plain : Plain) (good : IsStack plain.stage.value.stack) (scripts : Lis
       pool_is routing good scripts reserves no_other plain.vecs.ledger plain.vecs vecs plain.bios.items plain.index.bios bios plain.records.items
       plain.index.records records
 
-  book_below : (n : ℕ) → uses_book routing n ≡ true → n < 8
+  book_below : (n : ℕ) → has_book_in routing n ≡ true → n < 8
   book_below n used = by_length (lt_or n 8)
     where
       past : (places : List ℕ) (n : ℕ) → length places ≤ n → get_or places n 0 ≡ 0
@@ -300,27 +300,27 @@ module _ (plain : Plain) (good : IsStack plain.stage.value.stack) (scripts : Lis
           let some = below_by 0 (places_at routing.places n) used in
           absurd (omega (arith, none, some))
 
-  pub objects_are : objects_of plain ≡ opened_objects routing scripts (tally_of plain.tally)
+  pub objects_are : objects_of plain ≡ opened_objects routing.stack scripts (places_at routing.places) (tally_of plain.tally)
   objects_are =
       let tally = tally_of plain.tally in
       let given = objects_of plain in
-      let pools : ◌≡◌ {A = ℕ → PoolState} given.pool (opened_objects routing scripts tally).pool = λ i number. (each_pool number).state i in
+      let pools : ◌≡◌ {A = ℕ → PoolState} given.pool (opened_objects routing.stack scripts (places_at routing.places) tally).pool = λ i number. (each_pool number).state i in
       ap (λ pool. objects_with pool given.rescue given.disk given.book tally) pools
-      ∙ ap (λ rescue. objects_with (opened_objects routing scripts tally).pool rescue given.disk given.book tally) (lists_are routing plain.lists.items plain.index.lists lists)
-      ∙ ap (λ disk. objects_with (opened_objects routing scripts tally).pool (λ dev. []) disk given.book tally) (disks_are routing plain.disks.items plain.index.disks disks)
-      ∙ ap (λ book. objects_with (opened_objects routing scripts tally).pool (λ dev. []) (opened_disk routing.stack) book tally) (books_are routing plain.books.items plain.index.books books book_below)
+      ∙ ap (λ rescue. objects_with (opened_objects routing.stack scripts (places_at routing.places) tally).pool rescue given.disk given.book tally) (lists_are routing plain.lists.items plain.index.lists lists)
+      ∙ ap (λ disk. objects_with (opened_objects routing.stack scripts (places_at routing.places) tally).pool (λ dev. []) disk given.book tally) (disks_are routing plain.disks.items plain.index.disks disks)
+      ∙ ap (λ book. objects_with (opened_objects routing.stack scripts (places_at routing.places) tally).pool (λ dev. []) (opened_disk routing.stack) book tally) (books_are routing plain.books.items plain.index.books books book_below)
 
   entered : AreEntered plain
   entered = record {
     bios = λ number is. sets_entered routing good scripts reserves no_other plain.vecs.ledger plain.bios.items plain.index.bios bios number (number == 65) (number % 2 == 0) refl refl is;
     records = λ number is. slips_entered routing good scripts reserves no_other plain.vecs.ledger plain.records.items plain.index.records records number (number % 2 == 1) refl is;
-    lists = enters_made list_number (uses_list routing) IsNewList (length routing.stack.devices.items) plain.lists.items plain.index.lists lists (list_below routing);
-    disks = enters_made disk_number (uses_disk routing) (IsNewDisk routing) (length routing.stack.devices.items) plain.disks.items plain.index.disks disks (disk_below routing);
-    books = enters_made book_number (uses_book routing) (IsNewBook routing) 8 plain.books.items plain.index.books books book_below;
-    order = order_made disk_number (uses_disk routing) (IsNewDisk routing) (length routing.stack.devices.items) plain.disks.items plain.index.disks disks (disk_below routing);
+    lists = enters_made list_number (has_rescuer_in routing) IsNewList (length routing.stack.devices.items) plain.lists.items plain.index.lists lists (list_below routing);
+    disks = enters_made disk_number (has_disk_in routing) (IsNewDisk routing) (length routing.stack.devices.items) plain.disks.items plain.index.disks disks (disk_below routing);
+    books = enters_made book_number (has_book_in routing) (IsNewBook routing) 8 plain.books.items plain.index.books books book_below;
+    order = order_made disk_number (has_disk_in routing) (IsNewDisk routing) (length routing.stack.devices.items) plain.disks.items plain.index.disks disks (disk_below routing);
   }
 
-  new_objects : AreObjectsOf stage (opened_objects routing scripts (tally_of plain.tally))
+  new_objects : AreObjectsOf stage (opened_objects routing.stack scripts (places_at routing.places) (tally_of plain.tally))
   new_objects = record {
     rescue = λ dev. All-nil (IsServed stage);
     disk = λ dev. record {

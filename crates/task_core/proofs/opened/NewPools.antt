@@ -9,7 +9,8 @@ use Rattle.stack_base.specs.declared.stack.Device.{Device}
 use Rattle.stack_base.specs.declared.stack.Stack.{Stack}
 use Rattle.stack_base.specs.PoolId.{pool_number}
 use Rattle.run_machine.specs.Opened.{reserve_of}
-use Rattle.task_core.specs.opened.Openings.{widest, set_index, slip_index, uses_set, uses_slips}
+use Rattle.task_core.specs.opened.Openings.{widest, set_index, slip_index, has_set_at}
+use Rattle.task_steps.specs.Stage.{has_mirror_in}
 use Rattle.task_steps.specs.Routed.{Routing, routing_setup}
 use Rattle.run_machine.specs.Scene.{keeps_data, is_mirror}
 use Rattle.task_core.proofs.NumberTests.{is_below}
@@ -25,11 +26,11 @@ widest_least (reserve ∷ reserves) number most = by_case (widest_least reserves
     by_case same more false q = rw (q) same
 
 pub set_used : (routing : Routing) (dev : ℕ) → dev < length routing.stack.devices.items → keeps_data ((routing_setup routing).tree dev) ≡ false
-    → uses_set routing (suc dev) ≡ true
+    → has_set_at routing (suc dev) ≡ true
 set_used routing dev lt keeps = rw (is_below dev (length routing.stack.devices.items) lt, keeps) refl
 
 pub slips_used : (routing : Routing) (dev : ℕ) → dev < length routing.stack.devices.items → is_mirror ((routing_setup routing).tree dev) ≡ true
-    → uses_slips routing dev ≡ true
+    → has_mirror_in routing dev ≡ true
 slips_used routing dev lt mirror = rw (is_below dev (length routing.stack.devices.items) lt, mirror) refl
 
 pub reserve_is : (stack : Stack) (dev : DevId) (device : Device) → slice_get stack.devices.items dev.0 ≡ Some device

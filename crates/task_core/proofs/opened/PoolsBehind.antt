@@ -24,10 +24,10 @@ use Rattle.decl_text.specs.Known.{Declared, bios_pool_of, pool_if, records_pool_
 use Rattle.decl_text.specs.declared.item.What.{What}
 use Rattle.work_text.specs.Fit.{IsPoolIn}
 use Rattle.run_machine.specs.Opened.{records_of as records_at}
-use Rattle.task_core.specs.opened.Openings.{has_pool, uses_slips}
+use Rattle.task_core.specs.opened.Openings.{has_pool}
 use Rattle.task_steps.specs.Routed.{Routing, copies_bios, keeps, routing_setup}
 use Rattle.run_machine.specs.Scene.{has_set, is_mirror, keeps_data}
-use Rattle.task_steps.specs.Stage.{Stage, is_pool}
+use Rattle.task_steps.specs.Stage.{Stage, is_pool, has_mirror_in}
 use Rattle.task_core.proofs.NumberTests.{is_below}
 
 -- kinds
@@ -125,7 +125,7 @@ module _ (routing : Routing) (good : IsStack routing.stack) where
       let keeps_none = data_by routing.stack good dev.0 told.0 told.1 (shape_of told.0.kind) refl ∙ kind_sets told.0.kind dev.0 (Bios dev) told.2 in
       rw (is_below dev.0 (length routing.stack.devices.items) lt, keeps_none) refl
 
-  slips_in : (dev : DevId) → IsPoolIn (shown_devices routing.stack) (Records dev) → uses_slips routing dev.0 ≡ true
+  slips_in : (dev : DevId) → IsPoolIn (shown_devices routing.stack) (Records dev) → has_mirror_in routing dev.0 ≡ true
   slips_in dev is =
       let told = told_device records_pool_of routing.stack dev.0 (Records dev) is in
       let lt = slice_get_within routing.stack.devices.items dev.0 told.0 told.1 in
@@ -164,14 +164,14 @@ module _ (routing : Routing) (good : IsStack routing.stack) where
       let even = even_is dev.0 in
       let both : (2 * dev.0 % 2 == 0 && has_set (routing_setup routing) (2 * dev.0 / 2)) ≡ true = rw (even, set) refl in
       or_middle (2 * dev.0 == 64) (2 * dev.0 == 65) (2 * dev.0 % 2 == 0 && has_set (routing_setup routing) (2 * dev.0 / 2))
-      (2 * dev.0 % 2 == 1 && uses_slips routing (2 * dev.0 / 2)) both
+      (2 * dev.0 % 2 == 1 && has_mirror_in routing (2 * dev.0 / 2)) both
   pool_there (Records dev) is =
       let half : (2 * dev.0 + 1) / 2 ≡ dev.0 = omega arith in
-      let slips : uses_slips routing ((2 * dev.0 + 1) / 2) ≡ true = ap (uses_slips routing) half ∙ slips_in dev is in
+      let slips : has_mirror_in routing ((2 * dev.0 + 1) / 2) ≡ true = ap (has_mirror_in routing) half ∙ slips_in dev is in
       let odd = odd_is dev.0 in
-      let both : ((2 * dev.0 + 1) % 2 == 1 && uses_slips routing ((2 * dev.0 + 1) / 2)) ≡ true = rw (odd, slips) refl in
+      let both : ((2 * dev.0 + 1) % 2 == 1 && has_mirror_in routing ((2 * dev.0 + 1) / 2)) ≡ true = rw (odd, slips) refl in
       or_last (2 * dev.0 + 1 == 64 || (2 * dev.0 + 1 == 65 || (2 * dev.0 + 1) % 2 == 0 && has_set (routing_setup routing) ((2 * dev.0 + 1) / 2)))
-      ((2 * dev.0 + 1) % 2 == 1 && uses_slips routing ((2 * dev.0 + 1) / 2)) both
+      ((2 * dev.0 + 1) % 2 == 1 && has_mirror_in routing ((2 * dev.0 + 1) / 2)) both
 
 -- one that objects of the stack have
 pub pool_known : (stage : Stage) → IsStack stage.routing.stack → (pool : PoolId) → IsPoolIn (shown_devices stage.routing.stack) pool

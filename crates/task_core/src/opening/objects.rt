@@ -10,7 +10,8 @@ ghost use Rattle.run_machine.specs.Opened.{at, reserve_of, script_at};
 ghost use Rattle.fail_script.specs.Script.{only_tail};
 ghost use Rattle.task_core.specs.Plains.{tally_of};
 ghost use Rattle.task_core.specs.opened.Filled.{IsEntered};
-ghost use Rattle.task_core.specs.opened.Openings.{has_pool, AreOpened, uses_set, uses_slips, AreDisks, NextDisk, AreLists, NextList, AreBooks, NextBook};
+ghost use Rattle.task_core.specs.opened.Openings.{has_pool, AreOpened, has_set_at, AreDisks, NextDisk, AreLists, NextList, AreBooks, NextBook};
+ghost use Rattle.task_steps.specs.Stage.{has_mirror_in};
 ghost use Rattle.task_steps.specs.Routed.{routing_setup};
 ghost use Rattle.run_machine.specs.Scene.{keeps_data};
 
@@ -208,8 +209,8 @@ pub fn open_objects(
     requires stack { IsStack stack.now }
     requires bios { 1 ≤ stack.now.fs_bios }
     requires vecs { 1 ≤ stack.now.fs_vecs }
-    requires sets { (dev : ℕ) → uses_set routes.now (suc dev) ≡ true → 1 ≤ reserve_of stack.now (Bios (at dev)) }
-    requires records { (dev : ℕ) → uses_slips routes.now dev ≡ true → 1 ≤ reserve_of stack.now (Records (at dev)) }
+    requires sets { (dev : ℕ) → has_set_at routes.now (suc dev) ≡ true → 1 ≤ reserve_of stack.now (Bios (at dev)) }
+    requires records { (dev : ℕ) → has_mirror_in routes.now dev ≡ true → 1 ≤ reserve_of stack.now (Records (at dev)) }
     requires bads { (dev : ℕ) → All (IsBadRange (size (tree stack.now dev))) (bads_of stack.now dev) }
     requires scripts { All (λ script. pool_number script.0 < 2 ^ 32) scripts.now }
     requires reserves { All (λ reserve. pool_number reserve.0 < 2 ^ 32) reserves.now }

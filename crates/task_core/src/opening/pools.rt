@@ -5,7 +5,8 @@ ghost use Rattle.stack_base.specs.Tree.{tree};
 ghost use Rattle.stack_base.specs.PoolId.{pool_number};
 ghost use Rattle.stack_base.specs.declared.ids.PoolId.TheVariants.{Bios, Records};
 ghost use Rattle.run_machine.specs.Opened.{at, reserve_of, script_at};
-ghost use Rattle.task_core.specs.opened.Openings.{device_count, widest, IsOpenPool, uses_set, AreSets, NextSet, uses_slips, AreRecords, NextRecords};
+ghost use Rattle.task_core.specs.opened.Openings.{device_count, widest, IsOpenPool, has_set_at, AreSets, NextSet, AreRecords, NextRecords};
+ghost use Rattle.task_steps.specs.Stage.{has_mirror_in};
 ghost use Rattle.task_steps.specs.Routed.{routing_setup};
 ghost use Rattle.run_machine.specs.Scene.{is_mirror};
 
@@ -101,7 +102,7 @@ fn open_set(
     requires same { routes.now.stack ≡ stack.now }
     requires stack { IsStack stack.now }
     requires device { dev.0 < length stack.now.devices.items }
-    requires some { uses_set routes.now (suc dev.0) ≡ true → 1 ≤ reserve_of stack.now (Bios dev) }
+    requires some { has_set_at routes.now (suc dev.0) ≡ true → 1 ≤ reserve_of stack.now (Bios dev) }
     requires scripts { All (λ script. pool_number script.0 < 2 ^ 32) scripts.now }
     requires reserves { All (λ reserve. pool_number reserve.0 < 2 ^ 32) reserves.now }
     requires few { length bios.old.items ≤ dev.0 + 1 }
@@ -127,7 +128,7 @@ pub(crate) fn open_sets(
     requires same { routes.now.stack ≡ stack.now }
     requires stack { IsStack stack.now }
     requires first { 1 ≤ stack.now.fs_bios }
-    requires some { (dev : ℕ) → uses_set routes.now (suc dev) ≡ true → 1 ≤ reserve_of stack.now (Bios (at dev)) }
+    requires some { (dev : ℕ) → has_set_at routes.now (suc dev) ≡ true → 1 ≤ reserve_of stack.now (Bios (at dev)) }
     requires scripts { All (λ script. pool_number script.0 < 2 ^ 32) scripts.now }
     requires reserves { All (λ reserve. pool_number reserve.0 < 2 ^ 32) reserves.now }
     ensures { IfOk result (λ bios. AreSets routes.now scripts.now reserves.now (suc (device_count stack.now)) bios.items table.new) }
@@ -192,7 +193,7 @@ fn open_slips(
     requires same { routes.now.stack ≡ stack.now }
     requires stack { IsStack stack.now }
     requires device { dev.0 < length stack.now.devices.items }
-    requires some { uses_slips routes.now dev.0 ≡ true → 1 ≤ reserve_of stack.now (Records dev) }
+    requires some { has_mirror_in routes.now dev.0 ≡ true → 1 ≤ reserve_of stack.now (Records dev) }
     requires scripts { All (λ script. pool_number script.0 < 2 ^ 32) scripts.now }
     requires reserves { All (λ reserve. pool_number reserve.0 < 2 ^ 32) reserves.now }
     requires few { length records.old.items ≤ dev.0 }
@@ -217,7 +218,7 @@ pub(crate) fn open_records(
 ) -> Result<Vec<(DevId, Pool<Slip>)>, AllocError>
     requires same { routes.now.stack ≡ stack.now }
     requires stack { IsStack stack.now }
-    requires some { (dev : ℕ) → uses_slips routes.now dev ≡ true → 1 ≤ reserve_of stack.now (Records (at dev)) }
+    requires some { (dev : ℕ) → has_mirror_in routes.now dev ≡ true → 1 ≤ reserve_of stack.now (Records (at dev)) }
     requires scripts { All (λ script. pool_number script.0 < 2 ^ 32) scripts.now }
     requires reserves { All (λ reserve. pool_number reserve.0 < 2 ^ 32) reserves.now }
     ensures { IfOk result (λ records. AreRecords routes.now scripts.now reserves.now (device_count stack.now) records.items table.new) }

@@ -1,6 +1,7 @@
 use Rattle.std.proofs.Common.{◌<◌, length, ap, ◌∙◌, arith}
 use Rattle.stack_base.specs.declared.stack.Stack.{Stack}
-use Rattle.task_core.specs.opened.Openings.{itself, uses_list, IsNewList}
+use Rattle.task_core.specs.opened.Openings.{itself, IsNewList}
+use Rattle.task_steps.specs.Stage.{has_rescuer_in}
 use Rattle.task_core.specs.Plains.{list_number}
 use Rattle.task_core.proofs.opened.Filling.{one_more, not_itself}
 use Rattle.task_core.proofs.opening.objects.open_lists.Goals as goal
@@ -14,6 +15,6 @@ opening-preserved c =
     let long = c.opening.invariant.long in
     let inside : c.opening.number < length c.opening.table = omega (few, same, len, test, long, arith) in
     let more =
-    one_more list_number itself (uses_list c.args.routes.now) IsNewList c.opening.number c.opening.lists.items c.opening.table c.opening.invariant.opened
+    one_more list_number itself (has_rescuer_in c.args.routes.now) IsNewList c.opening.number c.opening.lists.items c.opening.table c.opening.invariant.opened
     c.open_list.new.lists.items c.open_list.new.table (λ i lt. not_itself i c.opening.number lt) inside c.in_ok-open_list.ensures in
     record { opened = more.0; long = more.1 ∙ long }

@@ -4,7 +4,7 @@ use Rattle.stack_base.specs.declared.ids.PoolId.TheVariants.{FsBios}
 use Rattle.stack_base.specs.declared.ids.SetId.{SetId}
 use Rattle.stack_base.specs.declared.ids.SetId.TheVariants.{Fs}
 use Rattle.mempool_core.specs.Pool.{LedgerPool}
-use Rattle.task_core.specs.opened.Openings.{set_index, uses_set, IsNewSet, AreSets, NextSet, IsOpenPool}
+use Rattle.task_core.specs.opened.Openings.{set_index, has_set_at, IsNewSet, AreSets, NextSet, IsOpenPool}
 use Rattle.task_core.specs.Plains.{set_number}
 use Rattle.task_core.proofs.opened.Filling.{none_made, one_more}
 use Rattle.task_core.proofs.opened.NewPools.{sets_apart}
@@ -31,8 +31,8 @@ opening-init c =
           ∙ ap (λ (items : List (SetId × LedgerPool)). slice_set table 65 (length items)) empty,
     ) in
     let first =
-    one_more set_number set_index (uses_set routing) (IsNewSet routing scripts reserves) 0 [] table
-    (none_made set_number set_index (uses_set routing) (IsNewSet routing scripts reserves) table) c.enter.new.entries.items c.enter.new.table
+    one_more set_number set_index (has_set_at routing) (IsNewSet routing scripts reserves) 0 [] table
+    (none_made set_number set_index (has_set_at routing) (IsNewSet routing scripts reserves) table) c.enter.new.entries.items c.enter.new.table
     (λ i lt. sets_apart i 0 lt) inside next in
     record { opened = first.0; long = first.1 ∙ long }
 
@@ -46,7 +46,7 @@ opening-preserved c =
     let n : ℕ = suc c.opening.number in
     let inside : set_index n < length c.opening.table = omega (few, len, test, long, arith) in
     let more =
-    one_more set_number set_index (uses_set routing) (IsNewSet routing c.args.scripts.now c.args.reserves.now) n c.opening.bios.items
+    one_more set_number set_index (has_set_at routing) (IsNewSet routing c.args.scripts.now c.args.reserves.now) n c.opening.bios.items
     c.opening.table c.opening.invariant.opened c.open_set.new.bios.items c.open_set.new.table (λ i lt. sets_apart i n lt) inside
     c.in_ok-open_set.ensures in
     let same : n + 1 ≡ suc (c.opening.number + 1) = omega arith in
