@@ -1,16 +1,18 @@
 -- Stacks that are written out for examples, and when a text says a scenario.
-use Rattle.std.proofs.Common.{◌≡◌, ◌≤◌, ◌^◌, ℕ, zero, suc, Bool, IsTrue, nat_lt, List, [], ◌∷◌, length, map, slice_get, None, Some, refl, subst, arith, false}
+use Rattle.std.proofs.Common.{◌≡◌, ◌≤◌, ◌==◌, ◌^◌, ℕ, zero, suc, Bool, IsTrue, nat_lt, List, [], ◌∷◌, length, map, filter, slice_get, None, Some, refl, ap, ◌∙◌, subst, arith, false}
 use Rattle.std.proofs.lemmas.Bool.{ltb-true}
 use Rattle.std.proofs.lemmas.Option.{none-some, same_Some}
 use Rattle.std.specs.Global.{Global, Vec}
 use denote.RawPtr.{null_ptr}
+use Rattle.stack_base.specs.declared.ids.PoolId.{PoolId}
 use Rattle.stack_base.specs.declared.stack.Kind.{Kind}
 use Rattle.stack_base.specs.declared.stack.Kind.TheVariants.{Disk}
 use Rattle.stack_base.specs.declared.stack.Device.{Device}
 use Rattle.stack_base.specs.declared.stack.Stack.{Stack}
 use Rattle.stack_base.specs.Fault.{bads_of_kind}
-use Rattle.decl_text.specs.Known.{Resized}
-use Rattle.decl_text.specs.Accepting.{Means}
+use Rattle.fail_script.specs.Script.{Answers}
+use Rattle.decl_text.specs.Known.{BadOf, Declared, Known, Resized, Written}
+use Rattle.decl_text.specs.Accepting.{Means, reserves_or_two, scripts_of, shown_devices}
 use Rattle.work_text.specs.Work.{written, last_round, kept_resizes}
 use Rattle.work_text.specs.Whole.{text_refusal, known_of_text}
 use Rattle.run_machine.specs.Opened.{Change, Scenario, at}
@@ -76,3 +78,56 @@ pub sound_at : (devices : List Device) → AreSound devices → (number : ℕ) (
 sound_at [] are number device is = absurd (none-some device is)
 sound_at (first ∷ devices) are zero device is = subst (λ d. bads_of_kind d.kind ≡ []) (same_Some first device is) are.0
 sound_at (first ∷ devices) are (suc number) device is = sound_at devices are.1 number device is
+
+-- what a text tells but for refusals, and what it has to tell for a scenario of devices without bad ranges
+pub record Told : Type 0 where
+  pub devices : List Declared
+  pub bad : List BadOf
+  pub fs_bios : ℕ
+  pub fs_vecs : ℕ
+  pub scripts : List (PoolId × Answers)
+  pub writes : List Written
+  pub rounds : List ℕ
+  pub changes : List Change
+
+abbrev pub told_in : Known → Told
+told_in known = record {
+  devices = known.devices;
+  bad = known.bad;
+  fs_bios = (reserves_or_two known.fs).bios;
+  fs_vecs = (reserves_or_two known.fs).vecs;
+  scripts = scripts_of known;
+  writes = known.writes;
+  rounds = known.rounds;
+  changes = map change (kept_resizes (last_round known.rounds) known.resizes);
+}
+
+abbrev pub told_of : Scenario → Told
+told_of s = record {
+  devices = shown_devices s.stack;
+  bad = [];
+  fs_bios = s.stack.fs_bios;
+  fs_vecs = s.stack.fs_vecs;
+  scripts = s.scripts;
+  writes = map written s.writes;
+  rounds = s.rounds;
+  changes = s.changes;
+}
+
+pub says_of : (text : List ℕ) (s : Scenario) → text_refusal text ≡ None → AreSound s.stack.devices.items → told_of s ≡ told_in (known_of_text text)
+    → SaysScenario text s
+says_of text s right sound told = record {
+  right = right;
+  means = record {
+    devices = ap (λ (t : Told). t.devices) told;
+    bad = λ number device is.
+        sound_at s.stack.devices.items sound number device is
+        ∙ ap (λ (t : Told). map (λ (b : BadOf). b.bad) (filter (λ (b : BadOf). b.disk == number) t.bad)) told;
+    fs_bios = ap (λ (t : Told). t.fs_bios) told;
+    fs_vecs = ap (λ (t : Told). t.fs_vecs) told;
+    scripts = ap (λ (t : Told). t.scripts) told;
+  };
+  writes = ap (λ (t : Told). t.writes) told;
+  rounds = ap (λ (t : Told). t.rounds) told;
+  changes = ap (λ (t : Told). t.changes) told;
+}

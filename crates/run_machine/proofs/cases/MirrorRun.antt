@@ -43,7 +43,7 @@ use Rattle.run_machine.specs.Runs.{State, IsRun, HasEnded}
 pub use Rattle.run_machine.proofs.cases.OneDisk.{a}
 pub use Rattle.run_machine.proofs.cases.OneMirror.{b, m, mirror, setup, write, todo, reserve, scripts, objects, stack, scenario, setup_is, objects_are}
 use Rattle.run_machine.proofs.Beginnings.{state_by, runs_as}
-use Rattle.run_machine.proofs.Texts.{SaysScenario, sound_at}
+use Rattle.run_machine.proofs.Texts.{SaysScenario, says_of}
 use Rattle.run_machine.proofs.Turns.{Turn, follow, AreTurns, turns_run, takes, rescues, on_disk, in_book, all_home}
 
 abbrev pub tasks : List TaskState
@@ -266,16 +266,4 @@ module _ (memory : Global) where
 
   says : SaysScenario text (scenario memory true)
   unfolding refusal without_empty_end first_found command_of is_name number_of meaning pool_at over_shape size_of smallest needed begins
-  says = record {
-    right = refl;
-    means = record {
-      devices = refl;
-      bad = sound_at (scenario memory true).stack.devices.items (refl, (refl, (refl, tt)));
-      fs_bios = refl;
-      fs_vecs = refl;
-      scripts = refl;
-    };
-    writes = refl;
-    rounds = refl;
-    changes = refl;
-  }
+  says = says_of text (scenario memory true) refl (refl, (refl, (refl, tt))) refl

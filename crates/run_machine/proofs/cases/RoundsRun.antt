@@ -43,7 +43,7 @@ use Rattle.run_machine.specs.Opened as texts
 use Rattle.run_machine.specs.Runs.{State, IsRun, HasEnded}
 use Rattle.run_machine.proofs.Beginnings.{IsOfScenario, objects_by, state_by, runs_as}
 use Rattle.run_machine.proofs.Beginnings as begins
-use Rattle.run_machine.proofs.Texts.{SaysScenario, sound_at}
+use Rattle.run_machine.proofs.Texts.{SaysScenario, says_of}
 use Rattle.run_machine.proofs.cases.OneDisk.{tree_of, rescuer_of, reserve, stack, tree_is, rescuer_is, bads_are, reserve_is, a}
 use Rattle.run_machine.proofs.Turns.{Turn, follow, AreTurns, turns_run, takes, on_disk, in_book, all_home}
 
@@ -261,16 +261,4 @@ module _ (memory : Global) where
 
   says : SaysScenario text scenario
   unfolding refusal without_empty_end first_found command_of is_name number_of meaning pool_at over_shape needed begun
-  says = record {
-    right = refl;
-    means = record {
-      devices = refl;
-      bad = sound_at scenario.stack.devices.items (refl, tt);
-      fs_bios = refl;
-      fs_vecs = refl;
-      scripts = refl;
-    };
-    writes = refl;
-    rounds = refl;
-    changes = refl;
-  }
+  says = says_of text scenario refl (refl, tt) refl

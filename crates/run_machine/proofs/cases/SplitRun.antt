@@ -52,7 +52,7 @@ use Rattle.run_machine.specs.Opened as texts
 use Rattle.run_machine.specs.Runs.{State, IsRun, HasEnded}
 use Rattle.run_machine.proofs.Beginnings.{IsOfScenario, objects_by, state_by, reserves_are, first_places}
 use Rattle.run_machine.proofs.Beginnings as begins
-use Rattle.run_machine.proofs.Texts.{device, disk as disk_of, stack_of, SaysScenario, sound_at}
+use Rattle.run_machine.proofs.Texts.{device, disk as disk_of, stack_of, SaysScenario, says_of}
 use Rattle.run_machine.proofs.Turns.{Turn, follow, AreTurns, turns_run, takes, on_disk, in_book, all_home}
 
 -- disks 0 and 1 of eight sectors, device 2 that lets at most two sectors pass to disk 0, and device 3 with device 2 and then disk 1
@@ -350,16 +350,4 @@ module _ (memory : Global) where
 
   says : SaysScenario text scenario
   unfolding refusal without_empty_end first_found command_of is_name number_of meaning pool_at over_shape size_of smallest needed begun head slot among next next_member
-  says = record {
-    right = refl;
-    means = record {
-      devices = refl;
-      bad = sound_at scenario.stack.devices.items (refl, (refl, (refl, (refl, tt))));
-      fs_bios = refl;
-      fs_vecs = refl;
-      scripts = refl;
-    };
-    writes = refl;
-    rounds = refl;
-    changes = refl;
-  }
+  says = says_of text scenario refl (refl, (refl, (refl, (refl, tt)))) refl
