@@ -33,7 +33,7 @@ use Rattle.run_merge.specs.Outcomes.{IsOutcomeOf, shared_ledger, state_in}
 use Rattle.run_merge.specs.declared.outcome.Outcome.{Outcome}
 use Rattle.biostack_top.specs.Scene.{TextSays}
 use Rattle.work_text.specs.Generated.{generator}
-use Rattle.biostack_top.specs.Running.{ByNumber, ByThreads, EveryRunOfTextIsAsClaimed, HasOutcome, HasRun, IsShownOf, IsRunTold, Maker, sectors}
+use Rattle.biostack_top.specs.Running.{ByNumber, ByThreads, EveryRunOfTextIsAsClaimed, HasOutcome, HasRun, IsShownOf, IsRunTold, Maker, sectors_of_writes}
 
 module _ (text : List ℕ) (accepted : Accepted) (work : Work) (says : TextSays text accepted work) where
   pub read_behind : IsReadBehind accepted work
@@ -73,7 +73,7 @@ module _ (text : List ℕ) (accepted : Accepted) (work : Work) (says : TextSays 
 
 -- writes of up to 2,048 sectors, each of which needs an element
 sectors_of : (stack : Stack) (writes : List Write) → ((write : Write) → Contains writes write → write.count ≤ 2048)
-    → sectors writes ≤ 2048 * all_elements stack writes
+    → sectors_of_writes writes ≤ 2048 * all_elements stack writes
 sectors_of stack [] short = omega arith
 sectors_of stack (write ∷ writes) short =
     omega (
@@ -84,7 +84,7 @@ sectors_of stack (write ∷ writes) short =
       sum_by-cons (λ w. elements stack w) write writes,
     )
 
-pub few_sectors : (text : List ℕ) (accepted : Accepted) (work : Work) → TextSays text accepted work → sectors work.writes.items < 2 ^ 64
+pub few_sectors : (text : List ℕ) (accepted : Accepted) (work : Work) → TextSays text accepted work → sectors_of_writes work.writes.items < 2 ^ 64
 few_sectors text accepted work says =
     omega (
       arith,

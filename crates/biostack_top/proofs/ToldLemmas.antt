@@ -11,7 +11,7 @@ use Rattle.report_text.specs.CheckText.{steps_bound}
 use Rattle.report_text.specs.Report.{gen_text, report}
 use Rattle.report_text.specs.Views.{told_of}
 use Rattle.biostack_top.specs.Scene.{TextSays}
-use Rattle.biostack_top.specs.Running.{ByNumber, HasRun, Maker, sectors}
+use Rattle.biostack_top.specs.Running.{ByNumber, HasRun, Maker, sectors_of_writes}
 use Rattle.biostack_top.specs.Tracing.{traced}
 use Rattle.biostack_top.specs.Ending.{IsOutputOf, TellsRun, all_well}
 use Rattle.biostack_top.proofs.RunningLemmas.{every_run, is_told}
@@ -34,7 +34,7 @@ module _ (text : List ℕ) (accepted : Accepted) (work : Work) (says : TextSays 
   )
 
   pub tells_made : (number : ℕ) (events : List Event) (ended : Ended) → HasRun (scenario_of accepted work) (ByNumber number) events ended
-      → (count total : ℕ) → count ≡ length work.writes.items → total ≡ sectors work.writes.items
+      → (count total : ℕ) → count ≡ length work.writes.items → total ≡ sectors_of_writes work.writes.items
       → IsOutputOf (Gen number false) text (gen_text number count total accepted.stack (told_of ended (steps_bound work.bound))) true
   tells_made number events ended has count total counted summed = (
     accepted,

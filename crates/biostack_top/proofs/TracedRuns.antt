@@ -12,7 +12,7 @@ use Rattle.decl_text.specs.Text.{lines, most_bytes}
 use Rattle.decl_text.specs.declared.accepted.Accepted.{Accepted}
 use Rattle.decl_text.specs.declared.reason.Reason.TheVariants.{TooLong}
 use Rattle.work_text.specs.Whole.{known_of_text}
-use Rattle.work_text.specs.Work.{checks_by, kept_resizes, last_round, resized, written}
+use Rattle.work_text.specs.Work.{checks_by, kept_resizes, last_round, resized, as_written}
 use Rattle.work_text.specs.declared.Resize.{Resize}
 use Rattle.work_text.specs.declared.Work.{Work}
 use Rattle.work_text.proofs.Unrefused.{text_lines}
@@ -45,7 +45,7 @@ use Rattle.biostack_top.proofs.SameWords.{all_too, same_line}
 abbrev write_of : Written → Write
 write_of w = record { task = w.task; dev = record { 0 = w.dev }; start = w.start; count = w.count; tag = w.tag }
 
-writes_back : (writes : List Write) → map write_of (map written writes) ≡ writes
+writes_back : (writes : List Write) → map write_of (map as_written writes) ≡ writes
 writes_back [] = refl
 writes_back (write ∷ more) = ap (λ all. write ∷ all) (writes_back more)
 
@@ -59,7 +59,7 @@ changes_back (resize ∷ more) = ap (λ all. change_of resize ∷ all) (changes_
 -- two readings of texts that declare the same, but for their stacks
 module _ (known : Known) (one other : Accepted) (first second : Work)
     (a : Means known one.stack one.scripts.items) (b : Means known other.stack other.scripts.items)
-    (one_writes : map written first.writes.items ≡ known.writes) (other_writes : map written second.writes.items ≡ known.writes)
+    (one_writes : map as_written first.writes.items ≡ known.writes) (other_writes : map as_written second.writes.items ≡ known.writes)
     (one_rounds : first.rounds.items ≡ known.rounds) (other_rounds : second.rounds.items ≡ known.rounds)
     (one_resizes : map resized first.resizes.items ≡ kept_resizes (last_round known.rounds) known.resizes)
     (other_resizes : map resized second.resizes.items ≡ kept_resizes (last_round known.rounds) known.resizes) where
@@ -94,7 +94,7 @@ module _ (stacks_named : AcceptedStacksAreNamed) (replays : TracesReplay) (no_ev
   done_some (event ∷ more) once = omega arith
 
   some_writes : 0 < length work.writes.items
-  some_writes = omega (arith, has, ap length says.writes, length-map work.writes.items written)
+  some_writes = omega (arith, has, ap length says.writes, length-map work.writes.items as_written)
 
   some : 0 < length events
   some = done_some events (run.6.ended.claimed.all_done run.6.ended.ends.writes 0 some_writes)

@@ -33,7 +33,7 @@ use Rattle.biostack_top.specs.LayoutText.{AreLaid}
 use Rattle.biostack_words.specs.Grammar.{order_meant}
 use Rattle.biostack_top.specs.Orders.{is_alone}
 use Rattle.biostack_top.specs.Replaying.{TellsReplay, replay_refusal}
-use Rattle.biostack_top.specs.Running.{ByNumber, ByThreads, EveryRunOfTextIsAsClaimed, IsShownOf, IsRunTold, Maker, sectors}
+use Rattle.biostack_top.specs.Running.{ByNumber, ByThreads, EveryRunOfTextIsAsClaimed, IsShownOf, IsRunTold, Maker, sectors_of_writes}
 use Rattle.biostack_top.specs.Scene.{TextSays}
 use Rattle.biostack_top.specs.Streams.{CallStreams, SinkFails, SinkStays, SinkStream, SourceFails, SourceStays, sink_stream}
 use Rattle.biostack_top.specs.Tracing.{traced}
@@ -94,7 +94,7 @@ IsOutputOf (Gen number true) text told well = (told ≡ text) × (well ≡ true)
 IsOutputOf (Gen number false) text told well =
     (accepted : Accepted) × (work : Work) × (events : List Event) × (left : Reported)
     × TextSays text accepted work × EveryRunOfTextIsAsClaimed accepted work × IsRunTold accepted work (ByNumber number) events left
-    × (told ≡ gen_text number (length work.writes.items) (sectors work.writes.items) accepted.stack left) × (well ≡ true)
+    × (told ≡ gen_text number (length work.writes.items) (sectors_of_writes work.writes.items) accepted.stack left) × (well ≡ true)
 IsOutputOf (Workers n trace) text told well = ⊥
 IsOutputOf Replay text told well = TellsReplay text told well
 IsOutputOf (Scrub number) text told well =

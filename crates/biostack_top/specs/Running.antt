@@ -115,5 +115,5 @@ pub record IsRunTold (accepted : Accepted) (work : Work) (maker : Maker) (events
   pub made : Makes maker (scenario_of accepted work) ledger events state ended.run
 
 -- the sectors of writes together
-abbrev pub sectors : List Write → ℕ
-sectors writes = sum_by (λ (write : Write). write.count) writes
+abbrev pub sectors_of_writes : List Write → ℕ
+sectors_of_writes writes = sum_by (λ (write : Write). write.count) writes

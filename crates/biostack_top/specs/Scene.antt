@@ -12,7 +12,7 @@ use Rattle.decl_text.specs.declared.reason.ReadFault.{ReadFault}
 use Rattle.decl_text.specs.declared.reason.ReadFault.TheVariants.{Refused, Memory}
 use Rattle.stack_check.specs.Accept.{HasRescuersAsked}
 use Rattle.work_text.specs.Reading.{ReadsWork, work_lines}
-use Rattle.work_text.specs.Work.{all_entries, kept_resizes, last_round, resized, written}
+use Rattle.work_text.specs.Work.{all_entries, kept_resizes, last_round, resized, as_written}
 use Rattle.work_text.specs.Whole.{text_refusal_by, known_of_text}
 use Rattle.work_text.specs.declared.Work.{Work}
 use Rattle.biostack_top.specs.declared.scene.Scene.{Scene}
@@ -28,7 +28,7 @@ pub record SaysBy (loose : Bool) (text : List ℕ) (accepted : Accepted) (work :
   pub stack : IsStack accepted.stack
   pub means : Means (known_of_text text) accepted.stack accepted.scripts.items
   pub rescuers : HasRescuersAsked loose accepted.stack
-  pub writes : map written work.writes.items ≡ (known_of_text text).writes
+  pub writes : map as_written work.writes.items ≡ (known_of_text text).writes
   pub served : (write : Write) → Contains work.writes.items write → IsWrite accepted.stack write
   pub rounds : work.rounds.items ≡ (known_of_text text).rounds
   pub resizes : map resized work.resizes.items ≡ kept_resizes (last_round (known_of_text text).rounds) (known_of_text text).resizes

@@ -4,7 +4,7 @@ ghost use Rattle.run_machine.specs.declared.event.Event.{Event as Happening};
 ghost use Rattle.task_core.specs.opened.OfOne.{IsOpened, scenario_in};
 ghost use Rattle.biostack_words.specs.declared.order.Order.TheVariants as order;
 ghost use Rattle.biostack_top.specs.Scene.{IsSaid};
-ghost use Rattle.biostack_top.specs.Running.{ByNumber, HasRun, WritesRun, sectors};
+ghost use Rattle.biostack_top.specs.Running.{ByNumber, HasRun, WritesRun, sectors_of_writes};
 ghost use Rattle.biostack_top.specs.Streams.{sink_stream};
 ghost use Rattle.biostack_top.specs.Tracing.{traced};
 ghost use Rattle.biostack_top.specs.Ending.{TextEndsBy};
@@ -79,8 +79,8 @@ pub(crate) fn run<K: Sink>(
 
 // How many sectors writes have together.
 fn sectors(writes: &[Write]) -> u64
-    requires { sectors writes.now < 2 ^ 64 }
-    ensures { result ≡ sectors writes.now }
+    requires { sectors_of_writes writes.now < 2 ^ 64 }
+    ensures { result ≡ sectors_of_writes writes.now }
 {
     let mut sectors = 0;
     'adding: for write in writes {

@@ -18,7 +18,7 @@ use Rattle.decl_text.specs.Accepting.{IsDeclaredSo, shown, device_pools, loose_c
 use Rattle.decl_text.specs.Text.{words}
 use Rattle.decl_text.specs.Items.{said}
 use Rattle.decl_text.specs.Checks.{is_of_pool, too_large}
-use Rattle.decl_text.specs.Known.{Known, Declared, Scripted, after, after_line, nothing, pool_of}
+use Rattle.decl_text.specs.Known.{Known, Declared, Scripted, after, after_line, nothing, declared_pool}
 use Rattle.decl_text.specs.Refusals.{check, first_found, known_after, refusal, said_reason}
 use Rattle.decl_text.specs.declared.item.Item.{Item}
 use Rattle.decl_text.specs.declared.item.Item.TheVariants as item
@@ -46,7 +46,7 @@ after_few known (item.Device name does members reserve rescuer) small few = few
 after_few known (item.Bad disk range kind) small few = few
 after_few known (item.Fs bios vecs) small few = few
 after_few known (item.Script pool script) small few =
-    entries_more known.scripts script (pool_of known.devices pool)
+    entries_more known.scripts script (declared_pool known.devices pool)
     (ltb-false 65536 (declared_entries known.scripts + length script.entries) (or_parts _ _ small).0)
 after_few known item.NoMemory small few = few
 after_few known (item.Write task dev range tag) small few = few

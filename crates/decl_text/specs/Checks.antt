@@ -6,7 +6,7 @@ use Rattle.stack_base.specs.PoolId.{pool_number}
 use Rattle.stack_base.specs.declared.ids.PoolId.{PoolId}
 use Rattle.decl_text.specs.Text.{words, is_text}
 use Rattle.decl_text.specs.Items.{malformed, misnumbered, said}
-use Rattle.decl_text.specs.Known.{Known, Declared, Written, Scripted, Resized, present, device_of, number_in, pool_of, tree_over, tree_of, trees, all_members, sectors_of, declares_disk, declares_mirror, declared}
+use Rattle.decl_text.specs.Known.{Known, Declared, Written, Scripted, Resized, present, device_of, number_in, declared_pool, tree_over, tree_of, trees, all_members, sectors_of, declares_disk, declares_mirror, declared}
 use Rattle.decl_text.specs.Stands.{stand_of, misplaced}
 use Rattle.decl_text.specs.declared.item.What.{What}
 use Rattle.decl_text.specs.declared.item.What.TheVariants as what
@@ -51,9 +51,9 @@ has_resize resizes round (Some pool) = list_any (is_resize_of round pool) resize
 abbrev pub name_taken : Known → Item → Bool
 name_taken known (item.Device name does members reserve rescuer) = is_some (device_of known.devices name)
 name_taken known (item.Fs bios vecs) = is_some known.fs
-name_taken known (item.Script pool script) = has_script known.scripts (pool_of known.devices pool)
+name_taken known (item.Script pool script) = has_script known.scripts (declared_pool known.devices pool)
 name_taken known item.NoMemory = known.no_memory
-name_taken known (item.Resize pool min) = has_resize known.resizes known.syncs (pool_of known.devices pool)
+name_taken known (item.Resize pool min) = has_resize known.resizes known.syncs (declared_pool known.devices pool)
 name_taken known _ = false
 
 -- the devices that it names
@@ -179,6 +179,6 @@ too_many_segments known _ = false
 
 -- a script or a `resize` line of a pool that is not there
 abbrev pub no_such_pool : Known → Item → Bool
-no_such_pool known (item.Script pool script) = is_none (pool_of known.devices pool)
-no_such_pool known (item.Resize pool min) = is_none (pool_of known.devices pool)
+no_such_pool known (item.Script pool script) = is_none (declared_pool known.devices pool)
+no_such_pool known (item.Resize pool min) = is_none (declared_pool known.devices pool)
 no_such_pool known _ = false

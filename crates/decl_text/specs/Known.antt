@@ -96,8 +96,8 @@ abbrev pub records_named : List Declared → List ℕ → Option PoolId
 records_named devices word = option_and_then (pool_if records_pool_of devices) (device_before (codes ".records") devices word)
 
 -- the pool with this name: `fs.bios`, `fs.vecs`, or that of a device
-unfoldable pub pool_of : List Declared → List ℕ → Option PoolId
-pool_of devices word =
+unfoldable pub declared_pool : List Declared → List ℕ → Option PoolId
+declared_pool devices word =
     if bytes_eq word (codes "fs.bios") then Some FsBios
     else (if bytes_eq word (codes "fs.vecs") then Some FsVecs
     else option_or (bios_named devices word) (records_named devices word))
@@ -150,7 +150,7 @@ after known (item.Bad disk range kind) =
     record known { bad = known.bad ++ record { disk = number_in known.devices disk; bad = record { range = range; kind = kind } } ∷ [] }
 after known (item.Fs bios vecs) = record known { fs = Some (record { bios = bios; vecs = vecs }) }
 after known (item.Script pool script) =
-    record known { scripts = known.scripts ++ option_to_list (option_map (λ p. record { pool = p; script = script }) (pool_of known.devices pool)) }
+    record known { scripts = known.scripts ++ option_to_list (option_map (λ p. record { pool = p; script = script }) (declared_pool known.devices pool)) }
 after known item.NoMemory = record known { no_memory = true }
 after known (item.Write task dev range tag) =
     record known {
@@ -159,7 +159,7 @@ after known (item.Write task dev range tag) =
     }
 after known item.Sync = record known { syncs = known.syncs + 1 }
 after known (item.Resize pool min) =
-    record known { resizes = known.resizes ++ option_to_list (option_map (λ p. record { round = known.syncs; pool = p; min = min }) (pool_of known.devices pool)) }
+    record known { resizes = known.resizes ++ option_to_list (option_map (λ p. record { round = known.syncs; pool = p; min = min }) (declared_pool known.devices pool)) }
 
 -- the writes of the present round
 abbrev pub present : Known → List Written

@@ -13,7 +13,7 @@ use Rattle.stack_base.specs.Fault.{bads_of_kind}
 use Rattle.fail_script.specs.Script.{Answers}
 use Rattle.decl_text.specs.Known.{BadOf, Declared, Known, Resized, Written}
 use Rattle.decl_text.specs.Accepting.{Means, reserves_or_two, scripts_of, shown_devices}
-use Rattle.work_text.specs.Work.{written, last_round, kept_resizes}
+use Rattle.work_text.specs.Work.{as_written, last_round, kept_resizes}
 use Rattle.work_text.specs.Whole.{text_refusal, known_of_text}
 use Rattle.run_machine.specs.Opened.{Change, Scenario, at}
 
@@ -64,7 +64,7 @@ change submission = record { round = submission.round; pool = submission.pool; m
 pub record SaysScenario (text : List ℕ) (s : Scenario) : Type 0 where
   pub right : text_refusal text ≡ None
   pub means : Means (known_of_text text) s.stack s.scripts
-  pub writes : map written s.writes ≡ (known_of_text text).writes
+  pub writes : map as_written s.writes ≡ (known_of_text text).writes
   pub rounds : s.rounds ≡ (known_of_text text).rounds
   pub changes : s.changes ≡ map change (kept_resizes (last_round (known_of_text text).rounds) (known_of_text text).resizes)
 
@@ -109,7 +109,7 @@ told_of s = record {
   fs_bios = s.stack.fs_bios;
   fs_vecs = s.stack.fs_vecs;
   scripts = s.scripts;
-  writes = map written s.writes;
+  writes = map as_written s.writes;
   rounds = s.rounds;
   changes = s.changes;
 }

@@ -1,7 +1,7 @@
 //! The pools of the devices so far, by their names.
 ghost use Rattle.std.specs.Prelude.{◌≡◌, ◌≤◌, IfSome};
 ghost use Rattle.stack_base.specs.PoolId.{pool_number};
-ghost use Rattle.decl_text.specs.Known.{bios_named, bios_pool_of, pool_if, pool_of, records_named, records_pool_of};
+ghost use Rattle.decl_text.specs.Known.{bios_named, bios_pool_of, pool_if, declared_pool, records_named, records_pool_of};
 
 use crate::devices::Devices;
 use decl_text::{What, Word};
@@ -9,9 +9,9 @@ use stack_base::{DevId, PoolId};
 
 impl Devices<'_> {
     /// The pool of this name: `fs.bios`, `fs.vecs`, or a device's name and what the pool keeps.
-    #[tactic(auto, unfolding(decl_text::specs::Known::pool_of))]
+    #[tactic(auto, unfolding(decl_text::specs::Known::declared_pool))]
     pub(crate) fn pool_of(&self, word: &Word<'_>) -> Option<PoolId>
-        ensures pool { result ≡ pool_of self.now word.now }
+        ensures pool { result ≡ declared_pool self.now word.now }
         ensures small { IfSome result (λ pool. pool_number pool ≤ 65) }
     {
         if word.is(b"fs.bios") {

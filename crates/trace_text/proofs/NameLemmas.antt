@@ -16,7 +16,7 @@ use Rattle.stack_base.specs.declared.stack.Device.{Device}
 use Rattle.stack_base.specs.declared.stack.Stack.{Stack}
 use Rattle.stack_base.specs.Names.{name_of_device}
 use Rattle.trace_text.specs.Names.{DevicesAreNamed, HasDevice, has_device, is_any, is_disk_kind}
-use Rattle.trace_text.specs.Reading.{device_of, if_suits, disk_of}
+use Rattle.trace_text.specs.Reading.{device_of_word, if_suits, disk_of}
 use Rattle.trace_text.proofs.Readers.{IsWord}
 
 -- the device of a number that is there
@@ -33,8 +33,8 @@ there suits stack dev has = there_at (slice_get stack.devices.items dev.0) suits
 pub name_at : (stack : Stack) (dev : DevId) (device : Device) → slice_get stack.devices.items dev.0 ≡ Some device → name_of_device stack dev.0 ≡ device.name.bytes
 name_at stack dev device is = ap (λ o. option_map_or (λ (device : Device). device.name.bytes) o []) is
 
-device_again : (stack : Stack) (dev : DevId) → DevicesAreNamed stack → HasDevice is_any stack dev → device_of stack (name_of_device stack dev.0) ≡ Some dev
-unfolding device_of
+device_again : (stack : Stack) (dev : DevId) → DevicesAreNamed stack → HasDevice is_any stack dev → device_of_word stack (name_of_device stack dev.0) ≡ Some dev
+unfolding device_of_word
 device_again stack dev named has =
     let at = there is_any stack dev has in
     let name = name_at stack dev at.0 at.1 in
@@ -81,13 +81,13 @@ device_in : (stack : Stack) (devices : List Device) (name : List ℕ) (place : �
 device_in stack [] name place dev are found is = absurd (let none = rw are at found in (cc))
 device_in stack (device ∷ devices) name place dev are found is = device_at_place stack name place dev device found is
 
-pub device_takes : (stack : Stack) (name : List ℕ) (dev : DevId) → device_of stack name ≡ Some dev → HasDevice is_any stack dev × (name ≡ name_of_device stack dev.0)
-unfolding device_of
+pub device_takes : (stack : Stack) (name : List ℕ) (dev : DevId) → device_of_word stack name ≡ Some dev → HasDevice is_any stack dev × (name ≡ name_of_device stack dev.0)
+unfolding device_of_word
 device_takes stack name dev e =
     let m = mapped_some (λ (place : ℕ). record { 0 = place }) (position (λ (device : Device). bytes_eq device.name.bytes name) stack.devices.items) dev e in
     device_in stack stack.devices.items name m.0 dev refl m.1 (placed m.0 dev m.2)
 
-pub device_is : (stack : Stack) → DevicesAreNamed stack → IsWord (λ (dev : DevId). name_of_device stack dev.0) (HasDevice is_any stack) (device_of stack)
+pub device_is : (stack : Stack) → DevicesAreNamed stack → IsWord (λ (dev : DevId). name_of_device stack dev.0) (HasDevice is_any stack) (device_of_word stack)
 device_is stack named = record {
   again = λ dev has. device_again stack dev named has;
   takes = λ name dev e. device_takes stack name dev e;
@@ -98,7 +98,7 @@ pub any_of : (suits : Kind → Bool) (stack : Stack) (dev : DevId) → HasDevice
 any_of suits stack dev has = let at = there suits stack dev has in there_is stack dev at.0 at.1
 
 pub suited_again : (suits : Kind → Bool) (stack : Stack) (dev : DevId) → DevicesAreNamed stack → HasDevice suits stack dev
-    → option_and_then (if_suits suits stack) (device_of stack (name_of_device stack dev.0)) ≡ Some dev
+    → option_and_then (if_suits suits stack) (device_of_word stack (name_of_device stack dev.0)) ≡ Some dev
 suited_again suits stack dev named has = rw (device_again stack dev named (any_of suits stack dev has), has) refl
 
 pub disk_is : (stack : Stack) → DevicesAreNamed stack → IsWord (λ (dev : DevId). name_of_device stack dev.0) (HasDevice is_disk_kind stack) (disk_of stack)
@@ -106,6 +106,6 @@ unfolding disk_of
 disk_is stack named = record {
   again = λ dev has. suited_again is_disk_kind stack dev named has;
   takes = λ name dev e.
-      let some = suits_some is_disk_kind stack (device_of stack name) dev e in
+      let some = suits_some is_disk_kind stack (device_of_word stack name) dev e in
       (some.1, (device_takes stack name dev some.0).1);
 }

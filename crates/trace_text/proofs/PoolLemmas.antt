@@ -17,7 +17,7 @@ use Rattle.stack_base.specs.declared.stack.Stack.{Stack}
 use Rattle.stack_base.specs.Names.{name_of_device}
 use Rattle.trace_text.specs.Names.{DevicesAreNamed, HasDevice, HasPool, is_stacked_kind, is_mirror_kind}
 use Rattle.trace_text.specs.Lines.{pool_word}
-use Rattle.trace_text.specs.Reading.{device_bios, device_of, device_pool, fs_pool, if_suits, is_dot, pool_named, pool_of, device_records}
+use Rattle.trace_text.specs.Reading.{device_bios, device_of_word, device_pool, fs_pool, if_suits, is_dot, pool_named, pool_of_word, device_records}
 use Rattle.trace_text.proofs.NameLemmas.{any_of, device_takes, mapped_some, suited_again, suits_some}
 use Rattle.trace_text.proofs.NameWords.{IsNameWord, name_is_word}
 use Rattle.trace_text.proofs.Readers.{IsWord}
@@ -38,8 +38,8 @@ cut_back name kept none =
       ap (λ n. drop (n + 1) (name ++ (46 ∷ kept))) place ∙ drop-append-add name (46 ∷ kept) 1,
     )
 
-cut_named : (stack : Stack) (name kept : List ℕ) → IsNameWord name → pool_of stack (name ++ (46 ∷ kept)) ≡ device_pool stack name kept
-unfolding pool_of
+cut_named : (stack : Stack) (name kept : List ℕ) → IsNameWord name → pool_of_word stack (name ++ (46 ∷ kept)) ≡ device_pool stack name kept
+unfolding pool_of_word
 cut_named stack name kept is =
     let cut = cut_back name kept is.dotless in
     ap (λ n. pool_named stack n (after_first is_dot (name ++ (46 ∷ kept)))) cut.0
@@ -54,8 +54,8 @@ records_again : (stack : Stack) (dev : DevId) → DevicesAreNamed stack → HasD
 unfolding device_records
 records_again stack dev named has = ap (option_map Records) (suited_again is_mirror_kind stack dev named has)
 
-pool_again : (stack : Stack) (pool : PoolId) → DevicesAreNamed stack → HasPool stack pool → pool_of stack (pool_word stack pool) ≡ Some pool
-unfolding pool_of
+pool_again : (stack : Stack) (pool : PoolId) → DevicesAreNamed stack → HasPool stack pool → pool_of_word stack (pool_word stack pool) ≡ Some pool
+unfolding pool_of_word
 pool_again stack FsBios named has = refl
 pool_again stack FsVecs named has = refl
 pool_again stack (Bios dev) named has =
@@ -68,16 +68,16 @@ pool_again stack (Records dev) named has =
 bios_takes : (stack : Stack) (name : List ℕ) (pool : PoolId) → device_bios stack name ≡ Some pool → HasPool stack pool × (name ++ codes ".bios" ≡ pool_word stack pool)
 unfolding device_bios
 bios_takes stack name pool e =
-    let m = mapped_some Bios (option_and_then (if_suits is_stacked_kind stack) (device_of stack name)) pool e in
-    let some = suits_some is_stacked_kind stack (device_of stack name) m.0 m.1 in
+    let m = mapped_some Bios (option_and_then (if_suits is_stacked_kind stack) (device_of_word stack name)) pool e in
+    let some = suits_some is_stacked_kind stack (device_of_word stack name) m.0 m.1 in
     subst (λ p. HasPool stack p × (name ++ codes ".bios" ≡ pool_word stack p)) m.2
     (some.1, ap (λ n. n ++ codes ".bios") (device_takes stack name m.0 some.0).1)
 
 records_takes : (stack : Stack) (name : List ℕ) (pool : PoolId) → device_records stack name ≡ Some pool → HasPool stack pool × (name ++ codes ".records" ≡ pool_word stack pool)
 unfolding device_records
 records_takes stack name pool e =
-    let m = mapped_some Records (option_and_then (if_suits is_mirror_kind stack) (device_of stack name)) pool e in
-    let some = suits_some is_mirror_kind stack (device_of stack name) m.0 m.1 in
+    let m = mapped_some Records (option_and_then (if_suits is_mirror_kind stack) (device_of_word stack name)) pool e in
+    let some = suits_some is_mirror_kind stack (device_of_word stack name) m.0 m.1 in
     subst (λ p. HasPool stack p × (name ++ codes ".records" ≡ pool_word stack p)) m.2
     (some.1, ap (λ n. n ++ codes ".records") (device_takes stack name m.0 some.0).1)
 
@@ -126,8 +126,8 @@ cut_whole word some =
     split_at_first is_dot word 0 within
     ∙ ap (λ byte. before_first is_dot word ++ (byte ∷ after_first is_dot word)) (dot_is _ (passes_at_first is_dot word 0 within))
 
-pool_takes : (stack : Stack) (word : List ℕ) (pool : PoolId) → pool_of stack word ≡ Some pool → HasPool stack pool × (word ≡ pool_word stack pool)
-unfolding pool_of IsCut
+pool_takes : (stack : Stack) (word : List ℕ) (pool : PoolId) → pool_of_word stack word ≡ Some pool → HasPool stack pool × (word ≡ pool_word stack pool)
+unfolding pool_of_word IsCut
 pool_takes stack word pool e =
     let name = before_first is_dot word in
     let kept = after_first is_dot word in
@@ -138,7 +138,7 @@ pool_takes stack word pool e =
     e in
     (cut.0, cut_whole word cut.2 ∙ cut.1)
 
-pub pool_is : (stack : Stack) → DevicesAreNamed stack → IsWord (pool_word stack) (HasPool stack) (pool_of stack)
+pub pool_is : (stack : Stack) → DevicesAreNamed stack → IsWord (pool_word stack) (HasPool stack) (pool_of_word stack)
 pool_is stack named = record {
   again = λ pool has. pool_again stack pool named has;
   takes = λ word pool e. pool_takes stack word pool e;

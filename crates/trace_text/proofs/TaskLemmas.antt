@@ -11,7 +11,7 @@ use Rattle.run_machine.specs.declared.event.TaskId.{TaskId}
 use Rattle.run_machine.specs.declared.event.TaskId.TheVariants as task
 use Rattle.trace_text.specs.Names.{DevicesAreNamed}
 use Rattle.trace_text.specs.Lines.{FitsTask, HasTask, task_word}
-use Rattle.trace_text.specs.Reading.{past_front, completer_of_word, device_of, disk_of, rescuer_of_word, short_of, task_of_word, writer_of_word}
+use Rattle.trace_text.specs.Reading.{past_front, completer_of_word, device_of_word, disk_of, rescuer_of_word, short_of, task_of_word, writer_of_word}
 use Rattle.trace_text.proofs.NameLemmas.{device_is, disk_is, mapped_some}
 use Rattle.trace_text.proofs.PoolLemmas.{chosen}
 use Rattle.trace_text.proofs.Readers.{IsWord}
@@ -47,8 +47,8 @@ writer_takes stack word one e =
 
 rescuer_takes : (stack : Stack) (word : List ℕ) (one : TaskId) → DevicesAreNamed stack → rescuer_of_word stack word ≡ Some one → IsTaskWord stack word one
 rescuer_takes stack word one named e =
-    let m = mapped_some task.Rescuer (option_and_then (device_of stack) (past_front (codes "r:") word)) one e in
-    let some = marked_some (device_of stack) (codes "r:") word m.0 m.1 in
+    let m = mapped_some task.Rescuer (option_and_then (device_of_word stack) (past_front (codes "r:") word)) one e in
+    let some = marked_some (device_of_word stack) (codes "r:") word m.0 m.1 in
     let is = (device_is stack named).takes some.0 m.0 some.2 in
     subst (IsTaskWord stack word) m.2 ((is.0, tt), some.1 ∙ ap (λ x. codes "r:" ++ x) is.1)
 

@@ -128,8 +128,8 @@ abbrev pub long_of : List ℕ → Option ℕ
 long_of word = plain_number (2 ^ 64) word
 
 -- the device of this name
-unfoldable pub device_of : Stack → List ℕ → Option DevId
-device_of stack name =
+unfoldable pub device_of_word : Stack → List ℕ → Option DevId
+device_of_word stack name =
     option_map (λ (place : ℕ). record { 0 = place }) (position (λ (device : Device). bytes_eq device.name.bytes name) stack.devices.items)
 
 -- a device, where it is of such a kind
@@ -137,15 +137,15 @@ abbrev pub if_suits : (Kind → Bool) → Stack → DevId → Option DevId
 if_suits suits stack dev = if has_device suits stack dev.0 then Some dev else None
 
 unfoldable pub disk_of : Stack → List ℕ → Option DevId
-disk_of stack name = option_and_then (if_suits is_disk_kind stack) (device_of stack name)
+disk_of stack name = option_and_then (if_suits is_disk_kind stack) (device_of_word stack name)
 
 -- the pool of bios of the device of this name
 unfoldable pub device_bios : Stack → List ℕ → Option PoolId
-device_bios stack name = option_map Bios (option_and_then (if_suits is_stacked_kind stack) (device_of stack name))
+device_bios stack name = option_map Bios (option_and_then (if_suits is_stacked_kind stack) (device_of_word stack name))
 
 -- its pool of records
 unfoldable pub device_records : Stack → List ℕ → Option PoolId
-device_records stack name = option_map Records (option_and_then (if_suits is_mirror_kind stack) (device_of stack name))
+device_records stack name = option_map Records (option_and_then (if_suits is_mirror_kind stack) (device_of_word stack name))
 
 abbrev pub fs_pool : List ℕ → Option PoolId
 fs_pool kept = if bytes_eq kept (codes "bios") then Some FsBios else (if bytes_eq kept (codes "vecs") then Some FsVecs else None)
@@ -163,8 +163,8 @@ pool_named stack name kept = if bytes_eq name (codes "fs") then fs_pool kept els
 abbrev pub is_dot : ℕ → Bool
 is_dot byte = byte == 46
 
-unfoldable pub pool_of : Stack → List ℕ → Option PoolId
-pool_of stack word = pool_named stack (before_first is_dot word) (after_first is_dot word)
+unfoldable pub pool_of_word : Stack → List ℕ → Option PoolId
+pool_of_word stack word = pool_named stack (before_first is_dot word) (after_first is_dot word)
 
 -- what follows this in a word
 abbrev pub past_front : List ℕ → List ℕ → Option (List ℕ)
@@ -174,7 +174,7 @@ abbrev pub writer_of_word : List ℕ → Option TaskId
 writer_of_word word = option_map task.Writer (option_and_then short_of (past_front (codes "w") word))
 
 abbrev pub rescuer_of_word : Stack → List ℕ → Option TaskId
-rescuer_of_word stack word = option_map task.Rescuer (option_and_then (device_of stack) (past_front (codes "r:") word))
+rescuer_of_word stack word = option_map task.Rescuer (option_and_then (device_of_word stack) (past_front (codes "r:") word))
 
 abbrev pub completer_of_word : Stack → List ℕ → Option TaskId
 completer_of_word stack word = option_map task.Completer (option_and_then (disk_of stack) (past_front (codes "c:") word))
@@ -190,19 +190,19 @@ fixed_word mark word = if bytes_eq word mark then Some tt else None
 
 -- what stands behind each verb
 abbrev pub take_behind : Stack → Reader What
-take_behind stack = made (λ of. what.Take of.0 of.1) (read_both (field (pool_of stack)) (field got_of_word))
+take_behind stack = made (λ of. what.Take of.0 of.1) (read_both (field (pool_of_word stack)) (field got_of_word))
 
 abbrev pub try_behind : Stack → Reader What
-try_behind stack = made (λ of. what.Try of.0 of.1) (read_both (field (pool_of stack)) (field got_of_word))
+try_behind stack = made (λ of. what.Try of.0 of.1) (read_both (field (pool_of_word stack)) (field got_of_word))
 
 abbrev pub give_behind : Stack → Reader What
-give_behind stack = made what.Give (field (pool_of stack))
+give_behind stack = made what.Give (field (pool_of_word stack))
 
 abbrev pub punt_behind : Stack → Reader What
-punt_behind stack = made (λ of. what.Punt of.0 of.1) (read_both (field (device_of stack)) (field long_of))
+punt_behind stack = made (λ of. what.Punt of.0 of.1) (read_both (field (device_of_word stack)) (field long_of))
 
 abbrev pub pop_behind : Stack → Reader What
-pop_behind stack = made what.Pop (field (device_of stack))
+pop_behind stack = made what.Pop (field (device_of_word stack))
 
 abbrev pub push_behind : Stack → Reader What
 push_behind stack = made (λ of. what.Push of.0 of.1.0 of.1.1.0 of.1.1.1.1)
@@ -223,7 +223,7 @@ abbrev pub done_behind : Reader What
 done_behind = made (λ of. what.Done of.0 of.1) (read_both (field short_of) (field status_of_word))
 
 abbrev pub resize_behind : Stack → Reader What
-resize_behind stack = made (λ of. what.Resize of.0 of.1) (read_both (field (pool_of stack)) (field short_of))
+resize_behind stack = made (λ of. what.Resize of.0 of.1) (read_both (field (pool_of_word stack)) (field short_of))
 
 abbrev pub round_behind : Reader What
 round_behind = made what.Round (field short_of)

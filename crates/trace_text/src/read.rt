@@ -2,7 +2,7 @@
 ghost use Rattle.std.specs.Prelude.{◌≡◌, ◌≤◌, length};
 ghost use Rattle.trace_text.specs.Laws.{IsEventRead};
 ghost use Rattle.trace_text.specs.Names.{DevicesAreNamed};
-ghost use Rattle.trace_text.specs.Reading.{Reads, device_of, disk_of, end_of_word, event_of, field, got_of_word, how_of_word, long_of, fixed_word, pool_of, short_of, status_of_word, task_of_word, verb_of_word, what_in, take_behind, try_behind, give_behind, punt_behind, pop_behind, push_behind, complete_behind, link_behind, drop_behind, done_behind, resize_behind, round_behind};
+ghost use Rattle.trace_text.specs.Reading.{Reads, device_of_word, disk_of, end_of_word, event_of, field, got_of_word, how_of_word, long_of, fixed_word, pool_of_word, short_of, status_of_word, task_of_word, verb_of_word, what_in, take_behind, try_behind, give_behind, punt_behind, pop_behind, push_behind, complete_behind, link_behind, drop_behind, done_behind, resize_behind, round_behind};
 
 use crate::verb::{Verb, end_of_word, got_of_word, how_of_word, status_of_word, verb_of_word};
 use crate::word::{device_of, disk_of, is, long_of, pool_of, short_of, task_of_word};
@@ -66,7 +66,7 @@ fn long(words: &mut Words<'_>) -> Option<u64>
 
 fn device(words: &mut Words<'_>, stack: &Stack) -> Option<DevId>
     requires { length stack.now.devices.items ≤ 32 }
-    ensures { Reads (field (device_of stack.now)) words.old result words.new }
+    ensures { Reads (field (device_of_word stack.now)) words.old result words.new }
 {
     device_of(stack, words.next()?)
 }
@@ -80,7 +80,7 @@ fn disk(words: &mut Words<'_>, stack: &Stack) -> Option<DevId>
 
 fn pool(words: &mut Words<'_>, stack: &Stack) -> Option<PoolId>
     requires { length stack.now.devices.items ≤ 32 }
-    ensures { Reads (field (pool_of stack.now)) words.old result words.new }
+    ensures { Reads (field (pool_of_word stack.now)) words.old result words.new }
 {
     pool_of(stack, words.next()?)
 }

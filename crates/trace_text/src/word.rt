@@ -5,7 +5,7 @@ ghost use Rattle.std.specs.List.{list_all};
 ghost use Rattle.std.specs.Char.{is_ascii_digit};
 ghost use Rattle.std.specs.Str.{bytes_eq};
 ghost use Rattle.trace_text.specs.Names.{is_disk_kind, is_mirror_kind};
-ghost use Rattle.trace_text.specs.Reading.{past_front, device_bios, completer_of_word, device_of, device_pool, disk_of, fs_pool, is_dot, is_plain, long_of, pool_of, device_records, rescuer_of_word, short_of, task_of_word, writer_of_word};
+ghost use Rattle.trace_text.specs.Reading.{past_front, device_bios, completer_of_word, device_of_word, device_pool, disk_of, fs_pool, is_dot, is_plain, long_of, pool_of_word, device_records, rescuer_of_word, short_of, task_of_word, writer_of_word};
 
 use run_machine::TaskId;
 use stack_base::{DevId, Device, Kind, PoolId, Stack};
@@ -83,10 +83,10 @@ fn place_of(devices: &[Device], name: &[u8]) -> Option<usize>
 }
 
 /// The device of this name.
-#[tactic(auto, unfolding(crate::specs::Reading::device_of))]
+#[tactic(auto, unfolding(crate::specs::Reading::device_of_word))]
 pub(crate) fn device_of(stack: &Stack, name: &[u8]) -> Option<DevId>
     requires { length stack.now.devices.items ≤ 32 }
-    ensures device { result ≡ device_of stack.now name.now }
+    ensures device { result ≡ device_of_word stack.now name.now }
     ensures within { IfSome result (λ dev. dev.0 < length stack.now.devices.items) }
 {
     let place = place_of(&stack.devices, name)?;
@@ -170,10 +170,10 @@ fn device_pool(stack: &Stack, name: &[u8], kept: &[u8]) -> Option<PoolId>
 }
 
 /// The pool of this name: that of a set, a dot, and what the pool keeps.
-#[tactic(auto, unfolding(crate::specs::Reading::pool_of))]
+#[tactic(auto, unfolding(crate::specs::Reading::pool_of_word))]
 pub(crate) fn pool_of(stack: &Stack, word: &[u8]) -> Option<PoolId>
     requires { length stack.now.devices.items ≤ 32 }
-    ensures { result ≡ pool_of stack.now word.now }
+    ensures { result ≡ pool_of_word stack.now word.now }
 {
     let dot = dot_place(word)?;
     let (name, _) = word.split_at(dot);

@@ -26,7 +26,7 @@ use Rattle.work_text.specs.declared.Work.{Work}
 use Rattle.work_text.proofs.Rounds.{of_round, first_of_round, of_round_none, of_round_push}
 use Rattle.std.proofs.lemmas.List.{length-map, map_push}
 use Rattle.decl_text.proofs.ShownTrees.{shown_trees}
-use Rattle.work_text.specs.Work.{all_checks, elements_in, written}
+use Rattle.work_text.specs.Work.{all_checks, elements_in, as_written}
 use Rattle.work_text.specs.Marks.{AreMarks, is_member}
 use Rattle.decl_text.specs.Checks.{is_empty_list}
 use Rattle.work_text.specs.declared.draft.Draft.{Draft}
@@ -55,40 +55,40 @@ round_some n (w ∷ writes) (r ∷ rounds) all =
 
 pub counts : (stack : Stack) (work : Work) (syncs : ℕ) → Served stack work.writes.items → All (λ (w : Written). 1 ≤ w.count) (present (known_with stack work syncs))
 counts stack work syncs served =
-    round_some syncs (map written work.writes.items) work.rounds.items
-    (All-map (λ (w : Written). 1 ≤ w.count) written work.writes.items (λ k d lt. (all_served stack work.writes.items served k d lt).some))
+    round_some syncs (map as_written work.writes.items) work.rounds.items
+    (All-map (λ (w : Written). 1 ≤ w.count) as_written work.writes.items (λ k d lt. (all_served stack work.writes.items served k d lt).some))
 
 -- the present round with one more write of it, and the next one without any
 pub present_more : (stack : Stack) (work : Work) (syncs : ℕ) (more : Work) (write : Write) → length work.rounds.items ≡ length work.writes.items
     → more.writes.items ≡ work.writes.items ++ write ∷ [] → more.rounds.items ≡ work.rounds.items ++ syncs ∷ []
-    → present (known_with stack more syncs) ≡ present (known_with stack work syncs) ++ written write ∷ []
+    → present (known_with stack more syncs) ≡ present (known_with stack work syncs) ++ as_written write ∷ []
 present_more stack work syncs more write paired writes rounds =
-    ap (λ (ws : List Write). of_round syncs (map written ws) more.rounds.items) writes
-    ∙ ap (λ (ws : List Written). of_round syncs ws more.rounds.items) (map_push written work.writes.items write)
-    ∙ ap (of_round syncs (map written work.writes.items ++ written write ∷ [])) rounds
-    ∙ of_round_push syncs (map written work.writes.items) work.rounds.items (written write) (paired ∙ sym (length-map work.writes.items written))
+    ap (λ (ws : List Write). of_round syncs (map as_written ws) more.rounds.items) writes
+    ∙ ap (λ (ws : List Written). of_round syncs ws more.rounds.items) (map_push as_written work.writes.items write)
+    ∙ ap (of_round syncs (map as_written work.writes.items ++ as_written write ∷ [])) rounds
+    ∙ of_round_push syncs (map as_written work.writes.items) work.rounds.items (as_written write) (paired ∙ sym (length-map work.writes.items as_written))
 
 pub present_next : (stack : Stack) (work : Work) (syncs : ℕ) → All (λ round. round ≤ syncs) work.rounds.items → present (known_with stack work (syncs + 1)) ≡ []
 present_next stack work syncs past =
-    of_round_none (syncs + 1) (map written work.writes.items) work.rounds.items (λ k d lt. omega (arith, past k d lt))
+    of_round_none (syncs + 1) (map as_written work.writes.items) work.rounds.items (λ k d lt. omega (arith, past k d lt))
 
 -- what a text says that a write needs is what it needs
 tree_same : (stack : Stack) → IsStack stack → (number : ℕ) → number < length stack.devices.items → tree_of (shown_devices stack) number ≡ tree stack number
 tree_same stack good = shown_trees stack (λ number device i m found is. (good.each number device found).below i m is)
 
-elements_same : (stack : Stack) → IsStack stack → (write : Write) → write.dev.0 < length stack.devices.items → elements_in (shown_devices stack) (written write) ≡ elements stack write
+elements_same : (stack : Stack) → IsStack stack → (write : Write) → write.dev.0 < length stack.devices.items → elements_in (shown_devices stack) (as_written write) ≡ elements stack write
 elements_same stack good write known =
     ap (λ (t : Tree). 1 + vectors write.count + needed t write.start write.count) (tree_same stack good write.dev.0 known)
 
 sum_same : (stack : Stack) → IsStack stack → (writes : List Write) → All (IsWrite stack) writes
-    → sum_by (elements_in (shown_devices stack)) (map written writes) ≡ all_elements stack writes
+    → sum_by (elements_in (shown_devices stack)) (map as_written writes) ≡ all_elements stack writes
 sum_same stack good [] served = refl
 sum_same stack good (write ∷ writes) served =
     let first : IsWrite stack write = All-head (IsWrite stack) write writes served in
     let rest = sum_same stack good writes (All-tail (IsWrite stack) write writes served) in
     let one = elements_same stack good write first.known in
-    sum_by-cons (elements_in (shown_devices stack)) (written write) (map written writes)
-    ∙ ap (λ n. n + sum_by (elements_in (shown_devices stack)) (map written writes)) one
+    sum_by-cons (elements_in (shown_devices stack)) (as_written write) (map as_written writes)
+    ∙ ap (λ n. n + sum_by (elements_in (shown_devices stack)) (map as_written writes)) one
     ∙ ap (λ n. elements stack write + n) rest
     ∙ sym (sum_by-cons (λ (w : Write). elements stack w) write writes)
 
@@ -133,9 +133,9 @@ found_with stack good work syncs served write there name named =
     found_by known name write.task write.start write.count write.tag
     ∙ ap (by_place known write.task write.start write.count write.tag) named
     ∙ ap (λ (t : Tree). row_of (is_member stack dev) (past t) shared (nat_lt 2048 write.count)
-    (much (sum_by (elements_in (shown_devices stack)) (map written writes) + elements_in (shown_devices stack) (written write))))
+    (much (sum_by (elements_in (shown_devices stack)) (map as_written writes) + elements_in (shown_devices stack) (as_written write))))
     (tree_same stack good dev there)
-    ∙ ap (λ (n : ℕ). row_of (is_member stack dev) (past (tree stack dev)) shared (nat_lt 2048 write.count) (much (n + elements_in (shown_devices stack) (written write))))
+    ∙ ap (λ (n : ℕ). row_of (is_member stack dev) (past (tree stack dev)) shared (nat_lt 2048 write.count) (much (n + elements_in (shown_devices stack) (as_written write))))
     (sum_same stack good writes (all_served stack writes served))
     ∙ ap (λ (n : ℕ). row_of (is_member stack dev) (past (tree stack dev)) shared (nat_lt 2048 write.count) (much (all_elements stack writes + n)))
     (elements_same stack good write there)
@@ -189,7 +189,7 @@ some_there (y ∷ xs) x = refl
 
 -- each write has its round
 pub draft_paired : (stack : Stack) (draft : Draft) → IsDraft stack draft → IsPaired (known_so_far stack draft)
-draft_paired stack draft is = is.paired ∙ sym (length-map draft.work.writes.items written)
+draft_paired stack draft is = is.paired ∙ sym (length-map draft.work.writes.items as_written)
 
 -- the end of a round
 pub next_round : (stack : Stack) (draft : Draft) → IsDraft stack draft → draft.syncs < 1024

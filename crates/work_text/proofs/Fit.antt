@@ -23,7 +23,7 @@ use Rattle.decl_text.specs.Items.{said}
 use Rattle.decl_text.specs.Accepting.{shown_devices}
 use Rattle.decl_text.specs.Checks.{is_among, not_a_top, reserve_zero, shares, too_large, too_many_segments}
 use Rattle.decl_text.specs.Fit.{IsReserve}
-use Rattle.decl_text.specs.Known.{Known, Declared, Resized, Written, after_line, all_members, bios_pool_of, device_before, number_in, pool_if, pool_of, records_pool_of}
+use Rattle.decl_text.specs.Known.{Known, Declared, Resized, Written, after_line, all_members, bios_pool_of, device_before, number_in, pool_if, declared_pool, records_pool_of}
 use Rattle.decl_text.specs.Reading.{declarations}
 use Rattle.decl_text.specs.Refusals.{check, known_after, refusal, said_reason}
 use Rattle.decl_text.specs.Stands.{stand_of}
@@ -36,7 +36,7 @@ use Rattle.decl_text.specs.declared.stand.Stand.TheVariants.{Front}
 use Rattle.decl_text.proofs.Unrefused.{finds_nothing, line_passes, none_refused}
 use Rattle.work_text.specs.Fit.{IsPoolIn, WorkIsFit}
 use Rattle.work_text.specs.Reading.{work_lines}
-use Rattle.work_text.specs.Work.{all_checks, known_of, kept_resizes, last_round, resized, written}
+use Rattle.work_text.specs.Work.{all_checks, known_of, kept_resizes, last_round, resized, as_written}
 use Rattle.work_text.proofs.LoopLemmas.{first_works}
 use Rattle.work_text.proofs.NameLemmas.{among_members}
 use Rattle.work_text.proofs.Rests.{never_front, step}
@@ -122,8 +122,8 @@ named_in devices false false of_set of_mirror pool found =
       | inr mirror ↦ in_device devices records_pool_of (records_in devices) of_mirror pool mirror
     ]
 
-pool_in : (devices : List Declared) (word : List ℕ) (pool : PoolId) → pool_of devices word ≡ Some pool → IsPoolIn devices pool
-unfolding pool_of
+pool_in : (devices : List Declared) (word : List ℕ) (pool : PoolId) → declared_pool devices word ≡ Some pool → IsPoolIn devices pool
+unfolding declared_pool
 pool_in devices word pool found =
     named_in devices (bytes_eq word (codes "fs.bios")) (bytes_eq word (codes "fs.vecs")) (device_before (codes ".bios") devices word)
     (device_before (codes ".records") devices word) pool found
@@ -131,7 +131,7 @@ pool_in devices word pool found =
 -- one more reserve
 more_reserves : (known : Known) (pool : List ℕ) (min : ℕ) → IsFit known → IsReserve min → length known.resizes < 4096
     → All (IsFitResize known.devices) (after_line known (Some (item.Resize pool min))).resizes × (length (after_line known (Some (item.Resize pool min))).resizes ≤ 4096)
-more_reserves known pool min fit one few = by_pool (pool_of known.devices pool) (pool_in known.devices pool)
+more_reserves known pool min fit one few = by_pool (declared_pool known.devices pool) (pool_in known.devices pool)
   where
     by_pool : (p : Option PoolId) → ((q : PoolId) → p ≡ Some q → IsPoolIn known.devices q) → All (IsFitResize known.devices) (known.resizes ++ option_to_list (option_map (λ p. record { round = known.syncs; pool = p; min = min }) p))
         × (length (known.resizes ++ option_to_list (option_map (λ p. record { round = known.syncs; pool = p; min = min }) p)) ≤ 4096)
@@ -233,14 +233,14 @@ no_member stack number none device place (at, found, is) =
     both_ways (number == number) of_member (eq-eqb number number refl)
 
 -- writes that share no sector are apart
-apart_by : (a b : Write) → shares b.dev.0 b.start b.count (written a) ≡ false → DoNotOverlap a b
+apart_by : (a b : Write) → shares b.dev.0 b.start b.count (as_written a) ≡ false → DoNotOverlap a b
 apart_by a b none dev = by_tests (nat_lt b.start (a.start + a.count)) (nat_lt a.start (b.start + b.count)) refl refl none
   where
-    by_tests : (p q : Bool) → nat_lt b.start (a.start + a.count) ≡ p → nat_lt a.start (b.start + b.count) ≡ q → shares b.dev.0 b.start b.count (written a) ≡ false
+    by_tests : (p q : Bool) → nat_lt b.start (a.start + a.count) ≡ p → nat_lt a.start (b.start + b.count) ≡ q → shares b.dev.0 b.start b.count (as_written a) ≡ false
         → (a.start + a.count ≤ b.start) ⊎ (b.start + b.count ≤ a.start)
     by_tests false q is also none = inl (ltb-false b.start (a.start + a.count) is)
     by_tests true false is also none = inr (ltb-false a.start (b.start + b.count) also)
-    by_tests true true is also none = absurd (let same = eq-eqb a.dev.0 b.dev.0 dev in let all : shares b.dev.0 b.start b.count (written a) ≡ true = rw (same, is, also) refl in both_ways _ none all)
+    by_tests true true is also none = absurd (let same = eq-eqb a.dev.0 b.dev.0 dev in let all : shares b.dev.0 b.start b.count (as_written a) ≡ true = rw (same, is, also) refl in both_ways _ none all)
 
 kept_few : (last : ℕ) (resizes : List Resized) → length (kept_resizes last resizes) ≤ length resizes
 kept_few last [] = omega arith
@@ -259,16 +259,16 @@ work_is_fit text accepted work begins (none, is) =
     let devices : known.devices ≡ shown_devices stack = lines_devices (known_of stack) accepted.line lines (λ front. begins) none refl in
     let resizes : All (λ resize. IsFitResize known.devices (resized resize)) work.resizes.items = unmapped (IsFitResize known.devices) resized work.resizes.items
     (subst (All (IsFitResize known.devices)) (sym is.resizes) (All-filter (λ (r : Resized). nat_le r.round (last_round known.rounds)) (IsFitResize known.devices) known.resizes fit.reserves)) in
-    let writes : All (λ write. IsFitWrite known.devices (written write)) work.writes.items = unmapped (IsFitWrite known.devices) written work.writes.items (subst (All (IsFitWrite known.devices)) (sym is.writes) fit.writes) in
+    let writes : All (λ write. IsFitWrite known.devices (as_written write)) work.writes.items = unmapped (IsFitWrite known.devices) as_written work.writes.items (subst (All (IsFitWrite known.devices)) (sym is.writes) fit.writes) in
     record {
-      writers = All-weaker (λ write. IsFitWrite known.devices (written write)) (λ write. write.task ≤ 7) (λ write one. one.task) work.writes.items writes;
-      paired = ap length is.rounds ∙ fit.paired ∙ ap length (sym is.writes) ∙ length-map work.writes.items written;
+      writers = All-weaker (λ write. IsFitWrite known.devices (as_written write)) (λ write. write.task ≤ 7) (λ write one. one.task) work.writes.items writes;
+      paired = ap length is.rounds ∙ fit.paired ∙ ap length (sym is.writes) ∙ length-map work.writes.items as_written;
       order = subst (AllPairs (λ round later. round ≤ later)) (sym is.rounds) fit.order;
       apart = record {
-        tops = All-weaker (λ write. IsFitWrite known.devices (written write)) (λ write. IsTop stack write.dev.0)
+        tops = All-weaker (λ write. IsFitWrite known.devices (as_written write)) (λ write. IsTop stack write.dev.0)
             (λ write one. no_member stack write.dev.0 (ap (λ ds. is_among (all_members ds) write.dev.0) (sym devices) ∙ one.top)) work.writes.items writes;
         apart = λ i j a b lt found other round.
-            apart_by a b (rounds_apart stack accepted.line lines i j (written a) (written b) none lt
+            apart_by a b (rounds_apart stack accepted.line lines i j (as_written a) (as_written b) none lt
             (shown_at is.writes i a found) (shown_at is.writes j b other)
             (ap (λ rs. get_or rs i 0) (sym is.rounds) ∙ round ∙ ap (λ rs. get_or rs j 0) is.rounds));
       };
@@ -276,10 +276,10 @@ work_is_fit text accepted work begins (none, is) =
       last = last_few work.rounds.items (subst (All (λ round. round ≤ 1024)) (sym is.rounds)
           (All-weaker (λ round. round ≤ known.syncs) (λ round. round ≤ 1024) (λ round le. omega (arith, le, fit.syncs)) known.rounds fit.past));
       few = omega (arith, length-map work.resizes.items resized, ap length is.resizes, kept_few (last_round known.rounds) known.resizes, fit.few);
-      segments = All-weaker (λ write. IsFitWrite known.devices (written write)) (λ write. write.count ≤ 2048) (λ write one. one.segments) work.writes.items writes;
+      segments = All-weaker (λ write. IsFitWrite known.devices (as_written write)) (λ write. write.count ≤ 2048) (λ write one. one.segments) work.writes.items writes;
       pools = All-weaker (λ resize. IsFitResize known.devices (resized resize)) (λ resize. IsPoolIn (shown_devices stack) resize.pool)
           (λ resize one. subst (λ ds. IsPoolIn ds resize.pool) devices one.pool) work.resizes.items resizes;
     }
   where
-    shown_at : {known : List Written} → map written work.writes.items ≡ known → (i : ℕ) (write : Write) → slice_get work.writes.items i ≡ Some write → slice_get known i ≡ Some (written write)
-    shown_at same i write found = ap (λ ws. slice_get ws i) (sym same) ∙ slice_get-map written work.writes.items i ∙ ap (option_map written) found
+    shown_at : {known : List Written} → map as_written work.writes.items ≡ known → (i : ℕ) (write : Write) → slice_get work.writes.items i ≡ Some write → slice_get known i ≡ Some (as_written write)
+    shown_at same i write found = ap (λ ws. slice_get ws i) (sym same) ∙ slice_get-map as_written work.writes.items i ∙ ap (option_map as_written) found

@@ -13,7 +13,7 @@ use Rattle.decl_text.specs.declared.item.Item.{Item}
 use Rattle.decl_text.specs.declared.item.Item.TheVariants as item
 use Rattle.decl_text.specs.declared.reason.Reason.TheVariants as reason
 use Rattle.decl_text.proofs.Unrefused.{finds_nothing, line_passes}
-use Rattle.work_text.specs.Work.{all_checks, written}
+use Rattle.work_text.specs.Work.{all_checks, as_written}
 use Rattle.work_text.specs.Whole.{text_refusal, known_of_text}
 use Rattle.work_text.proofs.Unrefused.{kept_by_text}
 
@@ -39,13 +39,13 @@ all_short text fine =
     (All-nil IsShort) text fine
 
 -- what holds of all writes of a text holds of the writes that they are
-written_short : (writes : List Write) → All IsShort (map written writes) → All (λ (w : Write). w.count ≤ 2048) writes
+written_short : (writes : List Write) → All IsShort (map as_written writes) → All (λ (w : Write). w.count ≤ 2048) writes
 written_short [] all = All-nil (λ (w : Write). w.count ≤ 2048)
 written_short (write ∷ writes) all =
-    All-cons (λ (w : Write). w.count ≤ 2048) write writes (All-head IsShort (written write) (map written writes) all)
-    (written_short writes (All-tail IsShort (written write) (map written writes) all))
+    All-cons (λ (w : Write). w.count ≤ 2048) write writes (All-head IsShort (as_written write) (map as_written writes) all)
+    (written_short writes (All-tail IsShort (as_written write) (map as_written writes) all))
 
-pub writes_ready : (text : List ℕ) (writes : List Write) → text_refusal text ≡ None → map written writes ≡ (known_of_text text).writes
+pub writes_ready : (text : List ℕ) (writes : List Write) → text_refusal text ≡ None → map as_written writes ≡ (known_of_text text).writes
     → (write : Write) → Contains writes write → write.count ≤ 2048
 writes_ready text writes fine same write there =
     All-contains (λ (w : Write). w.count ≤ 2048) writes write (written_short writes (subst (All IsShort) (sym same) (all_short text fine))) there

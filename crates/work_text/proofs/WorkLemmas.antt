@@ -8,7 +8,7 @@ use Rattle.layout_model.specs.declared.write.Write.{Write}
 use Rattle.layout_model.specs.declared.totals.Bounds.{Bounds}
 use Rattle.layout_model.specs.Bound.{IsBound}
 use Rattle.decl_text.specs.Known.{Known, Resized}
-use Rattle.work_text.specs.Work.{IsWork, all_entries, kept_resizes, last_round, resized, written}
+use Rattle.work_text.specs.Work.{IsWork, all_entries, kept_resizes, last_round, resized, as_written}
 use Rattle.work_text.specs.Draft.{IsLeftOf, known_with}
 use Rattle.work_text.specs.declared.Resize.{Resize}
 use Rattle.work_text.specs.declared.Work.{Work}
@@ -27,7 +27,7 @@ pub finished : (stack : Stack) (scripts : List (PoolId × Answers)) (known : Kno
     → IsLeftOf work left
     → IsWork stack scripts known left
 finished stack scripts known work left syncs is bound entries of = record {
-  writes = ap (map written) of.writes ∙ ap (λ (k : Known). k.writes) is;
+  writes = ap (map as_written) of.writes ∙ ap (λ (k : Known). k.writes) is;
   rounds = of.rounds ∙ ap (λ (k : Known). k.rounds) is;
   resizes = ap (map resized) of.resizes ∙ kept_shown (last_round work.rounds.items) work.resizes.items
       ∙ ap (λ (k : Known). kept_resizes (last_round k.rounds) k.resizes) is;

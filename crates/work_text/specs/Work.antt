@@ -16,8 +16,8 @@ use Rattle.decl_text.specs.declared.item.Item.{Item}
 use Rattle.decl_text.specs.declared.item.Item.TheVariants as item
 
 -- a write as it stands in a text
-abbrev pub written : Write → Written
-written write = record { task = write.task; dev = write.dev.0; start = write.start; count = write.count; tag = write.tag }
+abbrev pub as_written : Write → Written
+as_written write = record { task = write.task; dev = write.dev.0; start = write.start; count = write.count; tag = write.tag }
 
 -- the elements that a write of so many sectors needs: its bio, its vector, and what its run needs below
 abbrev pub elements_in : List Declared → Written → ℕ
@@ -60,7 +60,7 @@ all_entries scripts = sum_by (λ script. entries_of script.1) scripts
 
 -- this work is what the lines mean behind which so much is known, over this stack with these scripts
 pub record IsWork (stack : Stack) (scripts : List (PoolId × Answers)) (known : Known) (work : Work) : Type 0 where
-  pub writes : map written work.writes.items ≡ known.writes
+  pub writes : map as_written work.writes.items ≡ known.writes
   pub rounds : work.rounds.items ≡ known.rounds
   pub resizes : map resized work.resizes.items ≡ kept_resizes (last_round known.rounds) known.resizes
   -- what the writes need; and the entries of the scripts, the rounds after the first, and the `resize` lines

@@ -3,16 +3,16 @@ ghost use Rattle.std.specs.Prelude.{◌≡◌, ◌≤◌, ◌++◌, IfSome, leng
 ghost use Rattle.std.specs.Str.{bytes_eq};
 ghost use Rattle.stack_base.specs.PoolId.{pool_number};
 ghost use Rattle.decl_text.specs.Accepting.{shown_devices};
-ghost use Rattle.decl_text.specs.Known.{bios_named, bios_pool_of, device_before, pool_if, pool_of, records_named, records_pool_of};
+ghost use Rattle.decl_text.specs.Known.{bios_named, bios_pool_of, device_before, pool_if, declared_pool, records_named, records_pool_of};
 
 use decl_text::Word;
 use stack_base::{DevId, Device, Kind, PoolId, Stack};
 
 /// The pool of this name: `fs.bios`, `fs.vecs`, or a device's name and what the pool keeps.
-#[tactic(auto, unfolding(decl_text::specs::Known::pool_of))]
+#[tactic(auto, unfolding(decl_text::specs::Known::declared_pool))]
 pub(crate) fn pool_of(stack: &Stack, word: &Word<'_>) -> Option<PoolId>
     requires { length stack.now.devices.items ≤ 32 }
-    ensures pool { result ≡ pool_of (shown_devices stack.now) word.now }
+    ensures pool { result ≡ declared_pool (shown_devices stack.now) word.now }
     ensures small { IfSome result (λ pool. pool_number pool ≤ 65) }
 {
     if word.is(b"fs.bios") {

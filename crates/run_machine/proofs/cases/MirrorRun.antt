@@ -11,7 +11,7 @@ use Rattle.stack_base.specs.Tree.{tree_below, over_shape}
 use Rattle.decl_text.specs.Text.{without_empty_end, is_name, number_of}
 use Rattle.decl_text.specs.Commands.{command_of}
 use Rattle.decl_text.specs.Items.{meaning}
-use Rattle.decl_text.specs.Known.{pool_of as pool_at}
+use Rattle.decl_text.specs.Known.{declared_pool as pool_at}
 use Rattle.decl_text.specs.Refusals.{refusal, first_found}
 use Rattle.layout_model.specs.Need.{needed, begun as begins}
 use Rattle.mempool_core.specs.Move.{takes_spare, misses, gives}

@@ -5,7 +5,7 @@ use Rattle.run_machine.specs.Opened.{Scenario}
 use Rattle.report_text.specs.CheckText.{steps_bound}
 use Rattle.report_text.specs.Report.{gen_text}
 use Rattle.report_text.specs.Views.{told_of}
-use Rattle.biostack_top.specs.Running.{ByNumber, HasRun, sectors}
+use Rattle.biostack_top.specs.Running.{ByNumber, HasRun, sectors_of_writes}
 use Rattle.biostack_top.proofs.RunningLemmas.{few_sectors, few_steps, is_of}
 use Rattle.biostack_top.proofs.ToldLemmas.{tells_made}
 use Rattle.biostack_top.proofs.run.run_made.Goals as goal
@@ -13,7 +13,7 @@ use Rattle.biostack_top.proofs.run.run_made.Goals as goal
 pub sectors-requires : goal.sectors-requires
 sectors-requires g c =
     let scene = c.args.scene.now in
-    subst (λ (writes : List Write). sectors writes < 2 ^ 64) (sym c.deref.ensures.value) (few_sectors scene.text.now scene.accepted scene.work c.requires)
+    subst (λ (writes : List Write). sectors_of_writes writes < 2 ^ 64) (sym c.deref.ensures.value) (few_sectors scene.text.now scene.accepted scene.work c.requires)
 
 pub write_gen-requires-clause-ended : goal.write_gen-requires-clause-ended
 write_gen-requires-clause-ended g c =
@@ -38,7 +38,7 @@ returns-in-Ok-write_gen g c =
       (
         gen_text c.args.number c.len.result c.sectors.result scene.accepted.stack (told_of ended (steps_bound scene.work.bound)),
         tells_made scene.text.now scene.accepted scene.work c.requires c.args.number by.0 ended has c.len.result c.sectors.result
-            (omega (arith, c.len.ensures, c.deref.ensures.len, ap length c.deref.ensures.value)) (c.sectors.ensures ∙ ap sectors c.deref.ensures.value),
+            (omega (arith, c.len.ensures, c.deref.ensures.len, ap length c.deref.ensures.value)) (c.sectors.ensures ∙ ap sectors_of_writes c.deref.ensures.value),
         written.whole,
       ),
     )
@@ -57,7 +57,7 @@ returns g c =
         gen_text c.args.number c.len.result c.sectors.result scene.accepted.stack (told_of ended (steps_bound scene.work.bound)),
         true,
         tells_made scene.text.now scene.accepted scene.work c.requires c.args.number by.0 ended has c.len.result c.sectors.result
-            (omega (arith, c.len.ensures, c.deref.ensures.len, ap length c.deref.ensures.value)) (c.sectors.ensures ∙ ap sectors c.deref.ensures.value),
+            (omega (arith, c.len.ensures, c.deref.ensures.len, ap length c.deref.ensures.value)) (c.sectors.ensures ∙ ap sectors_of_writes c.deref.ensures.value),
         written.front,
       ),
     )

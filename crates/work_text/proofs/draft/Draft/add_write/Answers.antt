@@ -11,7 +11,7 @@ use Rattle.layout_model.specs.Writes.{IsWrite}
 use Rattle.layout_model.proofs.WriteSizes.{parts_le_elements}
 use Rattle.decl_text.specs.Checks.{is_empty_list}
 use Rattle.decl_text.specs.Known.{Written, present}
-use Rattle.work_text.specs.Work.{written}
+use Rattle.work_text.specs.Work.{as_written}
 use Rattle.work_text.specs.Draft.{CanFollow, known_so_far, known_with}
 use Rattle.work_text.specs.Marks.{AreMarks}
 use Rattle.work_text.specs.declared.Work.{Work}
@@ -68,7 +68,7 @@ returns-clause-draft c =
     let grown : before ++ write ∷ [] ≡ c.keep.new.writes.items = sym c.in_ok-keep.ensures.writes in
     let rounds : old.work.rounds.items ++ old.syncs ∷ [] ≡ c.keep.new.rounds.items = sym c.in_ok-keep.ensures.rounds in
     let work : Work = record { writes = c.keep.new.writes; rounds = c.keep.new.rounds; resizes = old.work.resizes; bound = old.work.bound } in
-    let now : present (known_with stack work old.syncs) ≡ present (known_so_far stack old) ++ written write ∷ [] =
+    let now : present (known_with stack work old.syncs) ≡ present (known_so_far stack old) ++ as_written write ∷ [] =
     present_more stack old.work old.syncs work write c.requires.draft.paired c.in_ok-keep.ensures.writes c.in_ok-keep.ensures.rounds in
     let here = (goal.at.returns-clause-draft c).After-index_mut-marks in
     record {
@@ -89,7 +89,7 @@ returns-clause-draft c =
       few_syncs = c.requires.draft.few_syncs;
       few_resizes = c.requires.draft.few_resizes;
       pools = c.requires.draft.pools;
-      written = sym (ap (λ (ws : List Written). not (is_empty_list ws)) now ∙ some_there (present (known_so_far stack old)) (written write));
+      written = sym (ap (λ (ws : List Written). not (is_empty_list ws)) now ∙ some_there (present (known_so_far stack old)) (as_written write));
       marks = subst (λ (ws : List Written). AreMarks stack (old.syncs + 1) ws (set old.marks.items write.dev.0 c.set.new.self)) (sym now)
-          (marks_more stack (old.syncs + 1) (present (known_so_far stack old)) old.marks.items (written write) c.index_mut-marks.result.now c.set.new.self c.requires.draft.marks (found here) c.set.ensures.long c.set.ensures.marked);
+          (marks_more stack (old.syncs + 1) (present (known_so_far stack old)) old.marks.items (as_written write) c.index_mut-marks.result.now c.set.new.self c.requires.draft.marks (found here) c.set.ensures.long c.set.ensures.marked);
     }
