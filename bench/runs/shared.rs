@@ -244,11 +244,17 @@ impl Shared {
         true
     }
 
-    /// The first pending bio of a disk. As the oldest is taken, one call is enough.
+    /// A pending bio of a disk, by the choice of the worker that steps the task: the oldest. It looks first, so that a choice is made behind no lock.
     fn complete(&self, disk: u32) -> Option<(El<Bio>, Status)> {
         let bads = &self.devices[disk as usize].bads;
-        self.call(self.disks[disk as usize].as_ref().unwrap(), |at| {
-            let Some(bio) = at.pending.pop_front() else {
+        let disk = self.disks[disk as usize].as_ref().unwrap();
+        if self.call(disk, |at| (at.pending.len(), false)) == 0 {
+            return None;
+        }
+        let chosen = 0;
+        self.call(disk, |at| {
+            let last = at.pending.len().checked_sub(1);
+            let Some(bio) = last.and_then(|last| at.pending.remove(last.min(chosen))) else {
                 return (None, false);
             };
             let status = bads
