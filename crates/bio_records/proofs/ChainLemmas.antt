@@ -6,7 +6,7 @@ use Rattle.bio_records.specs.declared.body.BioBody.{BioBody, BioBody'}
 use Rattle.bio_records.specs.Items.{chain_from, items}
 
 chain_some : {F : Type 0} (body : BioBody F) (share : LedgerId) → chain_from body share ≡ [] → ⊥
-chain_some (BioBody' pad bio short next) share none = cc
+chain_some (BioBody' next pad bio short) share none = cc
 
 -- a chain that shows nothing is none
 pub items_none : {F : Type 0} (link : Option (HeapBox (BioBody F) × LedgerId)) → items link ≡ [] → link ≡ None

@@ -18,15 +18,15 @@ module _ {F : Type 0} where
 
   chained : (body : BioBody F) (share : LedgerId) → chain_from body share ≡ first_of body share ∷ items (out-BioBody F body).next
   unfolding out-BioBody denote.Hole.Carrier.out
-  chained (BioBody' pad bio short None') share = refl
-  chained (BioBody' pad bio short (Some' p body behind)) share = refl
+  chained (BioBody' None' pad bio short) share = refl
+  chained (BioBody' (Some' p body behind) pad bio short) share = refl
 
   -- with another chain behind it
   rechained : (body : BioBody F) (share : LedgerId) (next : Option (HeapBox (BioBody F) × LedgerId))
       → chain_from (roll-BioBody F (record (out-BioBody F body) { next = next })) share ≡ first_of body share ∷ items next
   unfolding roll-BioBody denote.Hole.Carrier.roll
-  rechained (BioBody' pad bio short was) share None = refl
-  rechained (BioBody' pad bio short was) share (Some first) = refl
+  rechained (BioBody' was pad bio short) share None = refl
+  rechained (BioBody' was pad bio short) share (Some first) = refl
 
   pub detached_behind : (body now : BioBody F) (share : LedgerId) (next : Option (HeapBox (BioBody F) × LedgerId)) (index : ℕ)
       (answer : Option (Element (BioBody F))) → now ≡ body → (index ≡ 0 → ⊥)

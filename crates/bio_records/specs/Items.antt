@@ -22,7 +22,7 @@ abbrev mutual
   chain (Some' p body share) = chain_from body share
 
   pub chain_from : {F : Type 0} → BioBody F → LedgerId → List (Item F)
-  chain_from (BioBody' pad bio short next) share = record { pad = pad; bio = bio; short = short.items; share = share } ∷ chain next
+  chain_from (BioBody' next pad bio short) share = record { pad = pad; bio = bio; short = short.items; share = share } ∷ chain next
 
 -- the elements of a chain that may be empty
 abbrev pub items : {F : Type 0} → Option (Box (BioBody F) × LedgerId) → List (Item F)

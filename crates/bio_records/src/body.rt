@@ -9,11 +9,12 @@ use stack_base::{DevId, Range, SetId};
 
 /// The memory of a bio: padding for its driver, the bio, and four segments (`bi_inline_vecs`).
 pub struct BioBody<F: Drop> {
+    /// In a list, the element behind this one, by its two parts (`bi_next`). Outside of a list there is none. It stands first, beside what a list
+    /// and a disk read of a bio: so a long list costs one line of the cache for each bio that is moved.
+    pub next: Option<(Box<BioBody<F>>, Share)>,
     pub pad: F,
     pub bio: Bio,
     pub short: ArrayVec<Segment, 4>,
-    /// In a list, the element behind this one, by its two parts (`bi_next`). Outside of a list there is none.
-    pub next: Option<(Box<BioBody<F>>, Share)>,
 }
 
 /// A bio of one of the sets.
@@ -30,10 +31,10 @@ impl<F: Drop> Drop for BioBody<F> {
     fn drop(mut self) {
         loop {
             let BioBody {
+                next,
                 pad: _,
                 bio: _,
                 short: _,
-                next,
             } = self;
             match next {
                 None => return,
@@ -50,6 +51,7 @@ impl Fresh for BioBody<Pad> {
 
     fn fresh() -> Self {
         BioBody {
+            next: None,
             pad: Pad { leg: 0 },
             bio: Bio {
                 write: 0,
@@ -65,7 +67,6 @@ impl Fresh for BioBody<Pad> {
                 set: SetId::Fs,
             },
             short: ArrayVec::new(),
-            next: None,
         }
     }
 }
