@@ -1,6 +1,5 @@
 -- What a step of a submission makes of it, of the lists and of the objects.
 use Rattle.std.specs.Prelude.{◌≡◌, ◌+◌, ◌<◌, ℕ, length, Result, Ok, Err}
-use Rattle.stack_base.specs.declared.ids.DevId.{DevId}
 use Rattle.stack_base.specs.declared.stack.Stack.{Stack}
 use Rattle.stack_base.specs.Tree.{tree}
 use Rattle.bio_records.specs.declared.bio.Pad.{Pad}
@@ -83,11 +82,6 @@ PlainSubmissionMoves r old before what result new after =
 abbrev pub IsSubmitting : submission.Doing → Type 0
 IsSubmitting submission.Rests = ⊥
 IsSubmitting doing = Unit {0}
-
--- what the driver of a device asks for first, for any bio at the device
-abbrev pub IsFirstAsk : Routing → TaskLists → DevId → submission.Driving → Type 0
-IsFirstAsk r lists dev ask =
-    (part : Item Pad) → part.bio.dev ≡ dev → drives_for part ask ≡ submission.asks_at (routing_setup r) lists part (tree r.stack dev.0)
 
 -- a bio was split, with this bio for its first piece and the node at this place
 abbrev pub CutsInto : Routing → TaskLists → Item Pad → Item Pad → ℕ → TaskLists → Type 0

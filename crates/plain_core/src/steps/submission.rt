@@ -1,13 +1,14 @@
 //! Steps of submissions.
 ghost use Rattle.std.specs.Prelude.{◌≡◌, ◌<◌, length, IfOk};
 ghost use Rattle.run_machine.specs.Submissions.{goes_on};
+ghost use Rattle.task_steps.specs.Answers.{AsksFirst};
 ghost use Rattle.task_steps.specs.Routed.{routing_setup};
 ghost use Rattle.task_steps.specs.DriverSteps.{routed_landing};
 ghost use Rattle.task_steps.specs.Within.{IsWithinDevice, ListsAreWithin, DoingFits, SubmissionFits};
 ghost use Rattle.plain_core.specs.objects.Lists.{lists_of, ListsHaveCapacity};
 ghost use Rattle.plain_core.specs.steps.Views.{ask_of_plain, doing_of_plain, submission_of_plain, want_of_plain};
 ghost use Rattle.plain_core.specs.declared.steps.submission.Continuation.TheVariants as then;
-ghost use Rattle.plain_core.specs.steps.Submissions.{PlainSubmissionMoves, CanTurn, turned_by, drives_for, IsFirstAsk, DriveSteps, DoingSteps};
+ghost use Rattle.plain_core.specs.steps.Submissions.{PlainSubmissionMoves, CanTurn, turned_by, drives_for, DriveSteps, DoingSteps};
 
 pub(crate) mod cut;
 pub(crate) mod mirror;
@@ -40,7 +41,7 @@ pub enum Continuation {
 // What the driver of a device does first with a bio.
 fn first_ask(routes: &Routes, dev: DevId, lists: &Lists) -> DriverAsk
     requires { dev.0 < length routes.now.stack.devices.items }
-    ensures { IsFirstAsk routes.now (lists_of lists.now) dev (ask_of_plain result) }
+    ensures { AsksFirst routes.now (lists_of lists.now) dev (ask_of_plain result) }
 {
     match routes.manner(dev) {
         Manner::Keeps => DriverAsk::ToPush,
