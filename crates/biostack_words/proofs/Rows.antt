@@ -4,12 +4,13 @@ use Rattle.std.specs.List.{find, fold, list_any}
 use Rattle.std.specs.Option.{is_some, option_map, option_map_or, option_and_then}
 use Rattle.std.specs.Prelude.{slice_get}
 use Rattle.std.specs.Str.{bytes_eq}
+use Rattle.std.proofs.lemmas.Bool.{or_parts}
 use Rattle.clap.specs.Walk.{Row, Text, first_of, has_row, more_values, one_of, reading_by, row_text, with_default, with_values}
 use Rattle.clap.specs.declared.parser.matches.ValueSource.TheVariants.{DefaultValue}
 use Rattle.biostack_words.specs.Grammar.{GivenWords, Kind, Setting, Word, given_in, has, is_setting_of, kind_word, place, seed, text, trace, setting_value, workers}
 use Rattle.biostack_words.specs.Reading.{IsSeen, flag_text}
 use Rattle.biostack_words.proofs.Parsing.{has_row_for, id_of, is_valued, row_for, rows_for, rule_for, rules}
-use Rattle.biostack_words.proofs.Uses.{neither, row_missing}
+use Rattle.biostack_words.proofs.Uses.{row_missing}
 use Rattle.biostack_words.proofs.Walks.{first}
 
 -- kinds that are called the same are the same
@@ -93,7 +94,7 @@ find_on id (r ∷ rows) row other = ap (λ o. cond (bytes_eq r.id id) (Some r) o
 find_last : (id : Text) (rows : List Row) (row : Row) → has_row id rows ≡ false → bytes_eq row.id id ≡ true → found id (rows ++ row ∷ []) ≡ Some row
 find_last id [] row none is = rw is refl
 find_last id (r ∷ rows) row none is =
-    let parts = neither (bytes_eq r.id id) (has_row id rows) none in
+    let parts = or_parts (bytes_eq r.id id) (has_row id rows) none in
     rw parts.0 (find_last id rows row parts.1 is)
 
 abbrev default_row : Kind → Row

@@ -2,12 +2,12 @@
 use Rattle.std.proofs.Common.{◌≡◌, ◌&&◌, ◌==◌, ℕ, Bool, true, false, refl, List, [], ◌∷◌, Option, Some, None}
 use Rattle.clap.specs.Walk.{value as a_value}
 use Rattle.std.specs.List.{list_any}
+use Rattle.std.proofs.lemmas.Bool.{or_parts}
 use Rattle.clap.specs.Walk.{Held, Row, is_pending, after_step, long_word, plain_word, positional, Text, Waiting, arg_by_long, idle, option as for_option, settled, walked}
 use Rattle.clap.specs.Kinds.{or_else}
 use Rattle.clap.specs.Faults.{settle_fault, turn_fault, use_fault, walk_fault, word_fault, long_fault, step_fault}
 use Rattle.biostack_words.specs.Grammar.{WordForm, Kind, Word, dashed, form_of_word, is_dashed, option, place, plain, seed, text, trace, workers}
 use Rattle.biostack_words.proofs.Parsing.{IsFlag, Long, Met, Named, PlainWord, Takes, ends, fails, fails_first, flag_one, holding, met, named, rule_for, rules, shape, standing, stops, unknown, valued_one}
-use Rattle.biostack_words.proofs.Uses.{neither}
 
 -- ---- a turn
 
@@ -108,7 +108,7 @@ pub doomed : (rows : List Row) (pending : Option (Text × List Text)) (position 
     → fails (settle_fault rules false (holding rows pending)) ≡ true → fails (ends (standing rows pending idle position) words) ≡ true
 unfolding walk_fault
 doomed rows pending position [] none e = fails_first _ _ e
-doomed rows pending position (word ∷ rest) none e = stops (standing rows pending idle position) word rest (go (form_of_word word) (met word (neither (is_dashed word) _ none).0))
+doomed rows pending position (word ∷ rest) none e = stops (standing rows pending idle position) word rest (go (form_of_word word) (met word (or_parts (is_dashed word) _ none).0))
   where
     go : (f : WordForm) → Met word f → fails (turn_fault shape [] (standing rows pending idle position) word) ≡ true
     go (option name value) is = long_stops rows pending position word idle name value is (late_option name value (holding rows pending) e (named name))

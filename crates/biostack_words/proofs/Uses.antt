@@ -3,7 +3,7 @@ use Rattle.std.proofs.Common.{◌≡◌, ◌∙◌, ◌&&◌, ◌||◌, Bool, co
 use Rattle.std.proofs.lemmas.List.{map-append}
 use Rattle.std.proofs.lemmas.Slice.Eq.{bytes_eq-Decides}
 use Rattle.std.proofs.lemmas.Bool.Decides.{Decides-like, same_from_decides}
-use Rattle.std.proofs.lemmas.Bool.{not-true}
+use Rattle.std.proofs.lemmas.Bool.{and_parts, not-true, or_parts}
 use Rattle.std.specs.Str.{bytes_eq}
 use Rattle.clap.specs.Walk.{Row, at_row, more_values, with_values, without, Text, has_row, used}
 use Rattle.clap.specs.Faults.{use_fault}
@@ -17,15 +17,11 @@ use Rattle.biostack_words.proofs.Parsing.{fails, has_row_for, id_of, is_valued, 
 abbrev pub Fits : Kind → Option Word → Type 0
 Fits kind value = is_some value ≡ is_valued kind
 
-pub neither : (a b : Bool) → (a || b) ≡ false → (a ≡ false) × (b ≡ false)
-neither false b e = (refl, e)
-neither true b e = absurd (true≢false e)
-
 -- where no row has the id, one that is missing stands behind all
 pub row_missing : (id : Text) (change : Row → List Row) (missing : List Row) (rows : List Row) → has_row id rows ≡ false → at_row id change missing rows ≡ rows ++ missing
 row_missing id change missing [] none = refl
 row_missing id change missing (row ∷ rows) none =
-    let parts = neither (bytes_eq row.id id) (has_row id rows) none in
+    let parts = or_parts (bytes_eq row.id id) (has_row id rows) none in
     rw parts.0 (ap (λ more. row ∷ more) (row_missing id change missing rows parts.1))
 
 passed_over : (kind : Kind) (change : Row → List Row) (missing : List Row) (done : List Setting) → has kind done ≡ false
@@ -106,10 +102,6 @@ and_back : (a b : Bool) → b ≡ false → (a && b) ≡ false
 and_back true b e = e
 and_back false b e = refl
 
-both_true : (a b : Bool) → (a && b) ≡ true → (a ≡ true) × (b ≡ true)
-both_true true b e = (refl, e)
-both_true false b e = absurd (true≢false (sym e))
-
 -- two of one kind
 are_twice : (setting : Setting) (done more : List Setting) → has setting.kind done ≡ true → are_once (done ++ setting ∷ more) ≡ false
 are_twice setting [] more some = absurd (true≢false (sym some))
@@ -126,8 +118,8 @@ are_twice setting (first ∷ done) more some = go (is_setting_of setting.kind fi
 pub one_more : (setting : Setting) (done : List Setting) → are_once done ≡ true → has setting.kind done ≡ false → are_once (done ++ setting ∷ []) ≡ true
 one_more setting [] once none = refl
 one_more setting (first ∷ done) once none =
-    let parts = both_true (not (has first.kind done)) (are_once done) once in
-    let apart = neither (is_setting_of setting.kind first) (has setting.kind done) none in
+    let parts = and_parts (not (has first.kind done)) (are_once done) once in
+    let apart = or_parts (is_setting_of setting.kind first) (has setting.kind done) none in
     let other : is_setting_of first.kind setting ≡ false = is_of_back first setting ∙ apart.0 in
     let fresh : has first.kind (done ++ setting ∷ []) ≡ false = has_on first.kind done (setting ∷ []) ∙ rw (not-true (has first.kind done) parts.0, other) refl in
     rw (fresh, one_more setting done parts.1 apart.1) refl

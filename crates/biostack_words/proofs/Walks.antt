@@ -3,6 +3,7 @@ use Rattle.std.proofs.Common.{◌≡◌, ◌∙◌, ℕ, Bool, true, false, refl
 use Rattle.clap.specs.Walk.{done as is_done, waits as waits_for, long_met, next as next_step, Step}
 use Rattle.std.specs.List.{list_any}
 use Rattle.std.specs.Option.{option_map}
+use Rattle.std.proofs.lemmas.Bool.{or_parts}
 use Rattle.clap.specs.Walk.{Held, Row, is_pending, after_step, plain_word, Rule, Text, Walk, arg_by_long, idle, option as for_option, settled_rows, used, walked}
 use Rattle.clap.specs.Simple.{built, entered}
 use Rattle.clap.specs.Kinds.{Kinds}
@@ -10,7 +11,7 @@ use Rattle.clap.specs.Faults.{entered_fault, fault_of, settle_fault, turn_fault,
 use Rattle.biostack_words.specs.Grammar.{is as is_read, waits as waits_then, as_option, with_its_value, wrong, Reading, reading, value_reading, WordForm, Kind, Setting, Word, alone, as_flag, dashed, followed, form_of_word, has, are_once, is_dashed, option, place, plain, seed, settings_from, text, trace, with_value, workers}
 use Rattle.biostack_words.specs.Parser.{parser}
 use Rattle.biostack_words.proofs.Parsing.{IsFlag, Long, Met, Named, PlainWord, Takes, ends, fails, fails_then, flag_one, goes_on, holding, id_of, last, met, named, rows_for, rule_for, rules, shape, standing, stops, unknown, valued_one}
-use Rattle.biostack_words.proofs.Uses.{Fits, first_use, neither, second_use}
+use Rattle.biostack_words.proofs.Uses.{Fits, first_use, second_use}
 use Rattle.biostack_words.proofs.Turns.{and_no, doomed, flag_fault, late_option, long_stops, long_turn, long_walked, plain_turn, plain_walked, value_of_flag, valued_fault, waits_fault}
 use Rattle.biostack_words.proofs.Standing.{Agrees, AgreesAt, IdleAgrees, Stands, WaitAgrees, again, at_end, both_refuse, flag_is_met, flag_is_not, flag_no_place, missing, one_setting, pending_again, pending_stands, place_is, place_moves, place_of, place_stays, takes_is_valued, takes_no_place, used_stands, valued_met, waits_met}
 
@@ -197,7 +198,7 @@ agrees : (words : List Word) → list_any is_dashed words ≡ false → IdleAgre
 unfolding settings_from
 agrees [] clear = (at_end, missing)
 agrees (word ∷ words) clear =
-    let parts = neither (is_dashed word) (list_any is_dashed words) clear in
+    let parts = or_parts (is_dashed word) (list_any is_dashed words) clear in
     let rest = agrees words parts.1 in (
       λ done rows pending stands. word_agrees word words parts.1 rest.0 rest.1 done rows pending stands (form_of_word word) (met word parts.0),
       λ kind done t once. next_agrees word words parts.1 rest.0 kind done t once (form_of_word word) (met word parts.0),

@@ -31,8 +31,8 @@ use Rattle.decl_text.proofs.Unrefused.{finds_nothing, kept_behind, line_passes}
 abbrev declared_entries : List Scripted → ℕ
 declared_entries scripts = sum_by (λ (s : Scripted). length s.script.entries) scripts
 
-small_passes : (known : Known) (said : Item) → first_found loose_checks known said ≡ None → too_large known said ≡ false
-small_passes known said none = finds_nothing loose_checks known said 4 (check reason.TooLarge too_large) none refl
+pub not_large : (known : Known) (said : Item) → first_found loose_checks known said ≡ None → too_large known said ≡ false
+not_large known said none = finds_nothing loose_checks known said 4 (check reason.TooLarge too_large) none refl
 
 -- one more script
 entries_more : (scripts : List Scripted) (script : Answers) (pool : Option PoolId) → declared_entries scripts + length script.entries ≤ 65536
@@ -55,7 +55,7 @@ after_few known (item.Resize pool min) small few = few
 
 line_few : (known : Known) (o : Option Item) → said_reason loose_checks known o ≡ None → declared_entries known.scripts ≤ 65536 → declared_entries (after_line known o).scripts ≤ 65536
 line_few known None none few = few
-line_few known (Some said) none few = after_few known said (small_passes known said none) few
+line_few known (Some said) none few = after_few known said (not_large known said none) few
 
 lines_few : (all : List (List ℕ)) → refusal loose_checks nothing 1 all ≡ None → declared_entries (known_after nothing all).scripts ≤ 65536
 lines_few all none =

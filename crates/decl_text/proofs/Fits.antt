@@ -21,7 +21,7 @@ use Rattle.decl_text.specs.Text.{words}
 use Rattle.decl_text.specs.Items.{said}
 use Rattle.decl_text.specs.Read.{IsFormed}
 use Rattle.decl_text.specs.Known.{Known, Declared, BadOf, nothing, after_line, declared, device_of, device_tree, declares_disk, number_in, sectors_of, tree_of, tree_over}
-use Rattle.decl_text.specs.Checks.{bad_shape, is_disk_device, is_one_too_many, name_taken, past_end, reserve_zero, reserves, too_large}
+use Rattle.decl_text.specs.Checks.{bad_shape, is_disk_device, is_one_too_many, name_taken, past_end, reserve_zero, reserves}
 use Rattle.decl_text.specs.Accepting.{IsDeclaredSo, Means, loose_checks, reserves_or_two, shown, what_of_kind}
 use Rattle.decl_text.specs.Fit.{HasReserves, IsFitBad, IsFitDevice, IsFitStack, IsReserve}
 use Rattle.decl_text.specs.Refusals.{check, first_found, known_after, line_reason, refusal, said_reason}
@@ -32,6 +32,7 @@ use Rattle.decl_text.specs.declared.item.What.{What}
 use Rattle.decl_text.specs.declared.item.What.TheVariants as what
 use Rattle.decl_text.specs.declared.reason.Reason.TheVariants as reason
 use Rattle.decl_text.proofs.Declaring.{Declares}
+use Rattle.decl_text.proofs.FewEntries.{not_large}
 use Rattle.decl_text.proofs.SplitLemmas.{none_found}
 use Rattle.decl_text.specs.Reading.{NonePass, is_work_line}
 use Rattle.fail_script.specs.Script.{Answers}
@@ -72,7 +73,7 @@ disk_size number (what.Disk sectors) members is = refl
 disk_size number _ members is = cc
 
 -- the first trees stay
-first_stay : (below : List Tree) (devices : List Declared) (place : ℕ) (other : Tree) → place < length below
+pub first_stay : (below : List Tree) (devices : List Declared) (place : ℕ) (other : Tree) → place < length below
     → get_or (fold one_more below devices) place other ≡ get_or below place other
 first_stay below [] place other lt = refl
 first_stay below (device ∷ devices) place other lt =
@@ -164,9 +165,6 @@ is_new known said none = finds_nothing loose_checks known said 0 (check reason.N
 
 not_odd : (known : Known) (said : Item) → first_found loose_checks known said ≡ None → bad_shape known said ≡ false
 not_odd known said none = finds_nothing loose_checks known said 3 (check reason.BadShape bad_shape) none refl
-
-not_large : (known : Known) (said : Item) → first_found loose_checks known said ≡ None → too_large known said ≡ false
-not_large known said none = finds_nothing loose_checks known said 4 (check reason.TooLarge too_large) none refl
 
 no_zero : (known : Known) (said : Item) → first_found loose_checks known said ≡ None → reserve_zero known said ≡ false
 no_zero known said none = finds_nothing loose_checks known said 6 (check reason.ReserveZero reserve_zero) none refl

@@ -1,5 +1,5 @@
 -- What a run needs at a device that cuts, how many fragments it has and where it goes, by the piece that the device gives.
-use Rattle.std.proofs.Common.{◌≡◌, ℕ, ◌+◌, ◌-◌, ◌<◌, List, refl, sym, ap, ◌∙◌, subst, inl, inr, arith}
+use Rattle.std.proofs.Common.{◌≡◌, ℕ, ◌+◌, ◌-◌, ◌<◌, List, sym, ap, ◌∙◌, subst, inl, inr, arith}
 use Rattle.std.proofs.lemmas.Bool.{cases_lt}
 use Rattle.stack_base.specs.declared.mapping.Piece.{Piece}
 use Rattle.stack_base.specs.declared.stack.Kind.{Kind}
@@ -11,12 +11,8 @@ use Rattle.stack_base.proofs.Pieces.{piece_len}
 use Rattle.layout_model.specs.Way.{FitsWay, place}
 use Rattle.layout_model.specs.Need.{needed, fragments_of}
 use Rattle.layout_model.specs.Shown.{shown_sector}
+use Rattle.layout_model.proofs.CountSteps.{fragments_none}
 use Rattle.layout_model.proofs.Begun.{needed_piece, needed_more, fragments_of_piece, fragments_of_more}
-
--- a run of no sectors has no fragments
-pub fragments_of_none : (t : Tree) (r len : ℕ) → len ≡ 0 → fragments_of t r len ≡ 0
-unfolding fragments_of
-fragments_of_none t r len none = rw none refl
 
 module _ (number : ℕ) (kind : Kind) (sizes : List ℕ) (members : ℕ → Tree) (cut : IsCut (head kind sizes) (next kind sizes) (slot kind sizes))
     (start len : ℕ) (piece : Piece) (is : IsPiece kind sizes start len piece) where
@@ -48,7 +44,7 @@ module _ (number : ℕ) (kind : Kind) (sizes : List ℕ) (members : ℕ → Tree
             ∙ ap (λ (to : Slot). fragments_of (members to.member) to.at piece.len + fragments_of split (start + piece.len) (len - piece.len)) is.place
         | inr ge ↦
             let whole : piece.len ≡ len = omega (arith, is.within) in
-            let none = fragments_of_none split (start + piece.len) (len - piece.len) (omega arith) in
+            let none = fragments_none split (start + piece.len) (len - piece.len) (omega arith) in
             let all : fragments_of split start len ≡ fragments_of (members piece.member) piece.at piece.len =
             fragments_of_piece number kind sizes members start len piece.len cut ends whole
             ∙ ap (λ (to : Slot). fragments_of (members to.member) to.at len) is.place

@@ -1,5 +1,6 @@
 -- Requests change one object, steps one task, and runs are joined.
-use Rattle.std.proofs.Common.{◌≡◌, ◌≢◌, ◌++◌, ◌+◌, ◌*◌, ◌/◌, ◌%◌, ◌<◌, ◌==◌, if◌then◌else◌, ℕ, Bool, true, false, List, [], ◌∷◌, refl, sym, ap, subst, ◌∙◌, arith}
+use Rattle.std.proofs.Common.{◌≡◌, ◌≢◌, ◌++◌, ◌+◌, ◌*◌, ◌/◌, ◌%◌, ◌<◌, ◌==◌, if◌then◌else◌, ℕ, Bool, true, false, List, [], ◌∷◌, inl, inr, refl, sym, ap, subst, ◌∙◌, arith}
+use Rattle.std.proofs.lemmas.Bool.{cases_eq}
 use Rattle.std.proofs.lemmas.Bool.Decides.{nat_tests}
 use Rattle.stack_base.specs.declared.ids.PoolId.TheVariants.{FsBios, FsVecs, Bios, Records}
 use Rattle.mempool_core.specs.Move.{PoolState}
@@ -31,6 +32,14 @@ upd_other f i x j apart = rw (other_is j i apart) refl
   where
     other_is : (j i : ℕ) → j ≢ i → (j == i) ≡ false
     other_is j i apart = grind (arith, nat_tests)
+
+-- what holds at each place holds so with one changed
+pub upd_keeps : {X : Type 0} (P : ℕ → X → Type 0) (f : ℕ → X) (i : ℕ) (x : X) → ((j : ℕ) → P j (f j)) → P i x → (j : ℕ) → P j (upd f i x j)
+upd_keeps P f i x all is j =
+    elim (cases_eq j i) [
+      | inl e ↦ subst (λ k. P k (upd f i x k)) (sym e) (subst (P i) (sym (upd_same f i x)) is)
+      | inr apart ↦ subst (P j) (sym (upd_other f i x j apart)) (all j)
+    ]
 
 -- a map with a place changed to what it had there is as before
 own_by_test : {X : Type 0} (f : ℕ → X) (i j : ℕ) (here : Bool) → (j == i) ≡ here → (if here then f i else f j) ≡ f j

@@ -1,5 +1,5 @@
 -- A reply by which nothing has happened: it leaves task and objects as they are, and no other reply is an event there but an ordinary take.
-use Rattle.std.proofs.Common.{◌≡◌, ◌≢◌, ◌⊎◌, ◌+◌, if◌then◌else◌, ℕ, Bool, true, false, List, [], ◌∷◌, Option, None, Some, inl, inr, refl, sym, ◌∙◌, ap}
+use Rattle.std.proofs.Common.{◌≡◌, ◌+◌, if◌then◌else◌, ℕ, Bool, true, false, List, [], ◌∷◌, Option, None, Some, inl, inr, refl, sym, ◌∙◌, ap}
 use Rattle.std.proofs.lemmas.Bool.{cases_eq}
 use Rattle.stack_base.specs.declared.ids.DevId.{DevId}
 use Rattle.stack_base.specs.PoolId.{pool_number}
@@ -19,9 +19,6 @@ use Rattle.run_machine.specs.Requests.{Request, Reply}
 use Rattle.run_machine.specs.Tasks.{TaskState, Writer, Rescuer, Completer, Keeper, Keeps, Stops, Duty, Resizes, Starts, Todo, Gathered, NoBio, HasBio, HasBoth, Empty, Brings, Carries, Fails, request, answered, with_bio, needs_vector, closed_request}
 use Rattle.run_machine.specs.Objects.{Objects}
 use Rattle.run_machine.proofs.Frames.{upd_same, upd_other}
-
-same_or_not : (k i : ℕ) → (k ≡ i) ⊎ (k ≢ i)
-same_or_not k i = cases_eq k i
 
 -- a request that a task has, and the reserve of a pool changes where nothing of it is out
 abbrev pub IsFair : Objects → Request → Type 0
@@ -51,7 +48,7 @@ same_pool objects new number none is = is ∙ ap (λ (pools : ℕ → PoolState)
     left = ap (λ (b : Bool). record pool { facts = record pool.facts { pos = if b then pool.facts.pos + 1 else pool.facts.pos } }) (sym none)
 
     stays : (k : ℕ) → upd objects.pool number (missed pool) k ≡ objects.pool k
-    stays k = elim (same_or_not k number) [
+    stays k = elim (cases_eq k number) [
       | inl e ↦ ap (upd objects.pool number (missed pool)) e ∙ upd_same objects.pool number (missed pool) ∙ left ∙ ap objects.pool (sym e)
       | inr ne ↦ upd_other objects.pool number (missed pool) k ne
     ]

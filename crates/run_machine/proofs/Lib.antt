@@ -5,6 +5,8 @@ pub mod Texts
 pub mod Able
 pub mod Blocked
 pub mod Frames
+pub mod FromRounds
+pub mod Passing
 pub mod OneObject
 pub mod Answered
 pub mod OneState

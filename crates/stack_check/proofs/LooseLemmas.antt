@@ -8,15 +8,10 @@ use Rattle.decl_text.specs.Known.{Known, after_line, nothing}
 use Rattle.decl_text.specs.Reasons.{number_of_reason}
 use Rattle.decl_text.specs.Refusals.{Check, first_found, item_checks, line_reason, refusal, refused, said_reason}
 use Rattle.decl_text.specs.Accepting.{loose_checks}
-use Rattle.decl_text.proofs.Unrefused.{line_passes, none_refused}
+use Rattle.decl_text.proofs.Unrefused.{cond_none, line_passes, none_refused}
 use Rattle.decl_text.specs.declared.item.Item.{Item}
 use Rattle.decl_text.specs.declared.reason.Reason.{Reason}
 use Rattle.decl_text.specs.declared.reason.Refusal.{Refusal}
-
--- a check that finds nothing, and those behind it
-pub cond_none : {A : Type 0} (b : Bool) (x : A) (o : Option A) → cond b (Some x) o ≡ None → (b ≡ false) × (o ≡ None)
-cond_none true x o none = absurd (grind arith)
-cond_none false x o none = (refl, none)
 
 kept :
     (b : Bool) (check : Check Item) (checks : List (Check Item)) (known : Known) (said : Item) → check.finds known said ≡ false → first_found checks known said ≡ None

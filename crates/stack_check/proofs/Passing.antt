@@ -21,7 +21,7 @@ use lib.Dec.{eqb}
 use Rattle.stack_check.proofs.Flags.{eqb_turned}
 use Rattle.stack_check.proofs.DeviceLemmas.{names_known}
 use Rattle.stack_check.proofs.Kept.{all_members_push}
-use Rattle.stack_check.proofs.LooseLemmas.{cond_none}
+use Rattle.decl_text.proofs.Unrefused.{cond_none}
 use Rattle.stack_check.proofs.TreeLemmas.{trees_push}
 
 -- what the checks found not

@@ -1,17 +1,18 @@
 -- The trees of devices, each over the trees of those before it.
 use Rattle.std.proofs.Common.{◌≡◌, ℕ, zero, suc, ◌+◌, ◌<◌, ◌≤◌, List, [], ◌∷◌, ◌++◌, length, get_or, map, take, drop, fold, Some, refl, ap, ◌∙◌, sym, arith}
 use Rattle.std.specs.Prelude.{slice_get, sum}
-use Rattle.std.proofs.lemmas.List.{get_or_append_left, get_or_push, length_push, take-append-drop, length-take}
+use Rattle.std.proofs.lemmas.List.{get_or_push, length_push, take-append-drop, length-take}
 use Rattle.std.proofs.lemmas.List.Sums.{fold-append, fold_push}
 use Rattle.std.proofs.lemmas.Option.{slice_get_within}
 use Rattle.stack_base.specs.Tree.{Tree, Leaf, size}
 use Rattle.stack_base.specs.declared.stack.Kind.TheVariants as kind
 use Rattle.stack_base.proofs.Unfolded.{size-over}
 use Rattle.stack_base.proofs.DeclaredKinds.{size_of_le}
+use Rattle.stack_base.proofs.ListLemmas.{map_same}
 use Rattle.decl_text.specs.declared.item.What.{What}
 use Rattle.decl_text.specs.declared.item.What.TheVariants as what
 use Rattle.decl_text.specs.Known.{Declared, trees, tree_of, tree_over, device_tree, sectors_of}
-use Rattle.decl_text.proofs.Fits.{one_more}
+use Rattle.decl_text.proofs.Fits.{first_stay, one_more}
 use Rattle.stack_check.specs.Sound.{what_size}
 use Rattle.stack_check.specs.Rows.{size_with}
 use Rattle.std.proofs.lemmas.Simd.{map-map}
@@ -28,20 +29,13 @@ grown_length below (device ∷ devices) =
 pub trees_length : (devices : List Declared) → length (trees devices) ≡ length devices
 trees_length devices = omega (arith, grown_length [] devices)
 
--- the first trees stay
-grown_stays : (below : List Tree) (devices : List Declared) (k : ℕ) (d : Tree) → k < length below → get_or (fold one_more below devices) k d ≡ get_or below k d
-grown_stays below [] k d lt = refl
-grown_stays below (device ∷ devices) k d lt =
-    grown_stays (one_more below device) devices k d (omega (arith, length_push below (tree_over below device)))
-    ∙ get_or_append_left below (tree_over below device ∷ []) d k lt
-
 grown_at :
     (below : List Tree) (devices : List Declared) (p : ℕ) (device : Declared) (n : ℕ) (d : Tree) → slice_get devices p ≡ Some device → n ≡ length below + p
     → get_or (fold one_more below devices) n d ≡ tree_over (fold one_more below (take p devices)) device
 grown_at below [] p device n d found is = absurd (grind arith)
 grown_at below (first ∷ devices) zero device n d found is =
     let same : first ≡ device = grind arith in
-    grown_stays (one_more below first) devices n d (omega (arith, length_push below (tree_over below first)))
+    first_stay (one_more below first) devices n d (omega (arith, length_push below (tree_over below first)))
     ∙ get_or_push below (tree_over below first) d n (omega arith) ∙ ap (tree_over below) same
 grown_at below (first ∷ devices) (suc p) device n d found is =
     grown_at (one_more below first) devices p device n d found (omega (arith, length_push below (tree_over below first)))
@@ -58,16 +52,8 @@ first_trees devices p k d le lt =
     sym (
     ap (λ ds. get_or (trees ds) k d) (sym (take-append-drop p devices))
     ∙ ap (λ ts. get_or ts k d) (fold-append one_more [] (take p devices) (drop p devices))
-    ∙ grown_stays (trees (take p devices)) (drop p devices) k d (omega (arith, trees_length (take p devices), length-take p devices))
+    ∙ first_stay (trees (take p devices)) (drop p devices) k d (omega (arith, trees_length (take p devices), length-take p devices))
     )
-
--- functions that agree at the elements of a list make one list of it
-pub map_agree : {A B : Type 0} (f g : A → B) (xs : List A) → ((i : ℕ) (x : A) → slice_get xs i ≡ Some x → f x ≡ g x) → map f xs ≡ map g xs
-map_agree f g [] same = refl
-map_agree f g (x ∷ xs) same =
-    let first : f x ≡ g x = same 0 x refl in
-    let rest : map f xs ≡ map g xs = map_agree f g xs (λ i y is. same (suc i) y is) in
-    cc
 
 -- the tree of a device stands over the trees of its members
 pub tree_at :
@@ -79,7 +65,7 @@ tree_at devices p device found below =
     let many : length (trees (take p devices)) ≡ p = omega (arith, trees_length (take p devices), length-take p devices) in
     tree_before devices p device (Leaf p 0) found
     ∙ ap (λ n. device_tree n device.what (map (λ (m : ℕ). get_or (trees (take p devices)) m (Leaf m 0)) device.members)) many
-    ∙ ap (device_tree p device.what) (map_agree (λ (m : ℕ). get_or (trees (take p devices)) m (Leaf m 0)) (tree_of devices) device.members (λ i m is.
+    ∙ ap (device_tree p device.what) (map_same (λ (m : ℕ). get_or (trees (take p devices)) m (Leaf m 0)) (tree_of devices) device.members (λ i m is.
     first_trees devices p m (Leaf m 0) (omega arith) (below i m is)))
 
 -- the size of a device goes by those of its members

@@ -35,18 +35,9 @@ use Rattle.run_machine.specs.Objects.{TallyState, Objects, TakesElement, Serves,
 use Rattle.run_machine.specs.Opened.{at}
 use Rattle.task_steps.specs.Stage.{Stage, has_mirror, is_set, is_bios, is_vecs, is_slips, IsTaken, IsServed, AreServed, RequestFits, Owes}
 use Rattle.task_core.specs.ObjectsOf.{IsDiskOf, IsBookOf, IsTallyOf, AreObjectsOf, AreNumbered}
-use Rattle.run_machine.proofs.Frames.{upd_same, upd_other}
+use Rattle.run_machine.proofs.Frames.{upd_keeps}
 pub use Rattle.task_core.proofs.NumberTests.{apart_by}
-use Rattle.task_core.proofs.NumberTests.{same_by}
 use Rattle.task_core.proofs.StageBooks.{node_is, links_is, drops_is}
-
--- what holds at each number holds so with one changed
-upd_keeps : {X : Type 0} (P : ℕ → X → Type 0) (f : ℕ → X) (i : ℕ) (x : X) → ((j : ℕ) → P j (f j)) → P i x → (j : ℕ) → P j (upd f i x j)
-upd_keeps P f i x all is j = by_case (j == i) refl
-  where
-    by_case : (b : Bool) → (j == i) ≡ b → P j (upd f i x j)
-    by_case true q = subst (λ k. P k (upd f i x k)) (sym (same_by j i q)) (subst (P i) (sym (upd_same f i x)) is)
-    by_case false q = subst (P j) (sym (upd_other f i x j (apart_by j i q))) (all j)
 
 -- the numbers of pools by their kinds
 even_of : (d : ℕ) → ((2 * d) % 2 ≡ 0) × ((2 * d) / 2 ≡ d)

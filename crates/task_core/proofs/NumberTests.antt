@@ -1,6 +1,7 @@
 -- What tests of numbers and of truth say.
-use Rattle.std.proofs.Common.{◌≡◌, ◌≢◌, ◌<◌, ◌≤◌, ◌==◌, ◌&&◌, ◌⊎◌, ◌∙◌, inl, inr, ℕ, Bool, true, false, true≢false, refl, sym, arith}
+use Rattle.std.proofs.Common.{◌≡◌, ◌≢◌, ◌<◌, ◌==◌, ◌∙◌, ℕ, Bool, true, false, true≢false, sym, arith}
 use Rattle.std.specs.Prelude.{nat_lt}
+pub use Rattle.std.proofs.lemmas.Bool.{cases_lt as lt_or}
 use Rattle.std.proofs.lemmas.Bool.Decides.{nat_tests}
 
 pub same_by : (a b : ℕ) → (a == b) ≡ true → a ≡ b
@@ -21,12 +22,5 @@ is_below a b lt = grind (lt, arith, nat_tests)
 pub below_by : (a b : ℕ) → nat_lt a b ≡ true → a < b
 below_by a b e = grind (e, arith, nat_tests)
 
-pub lt_or : (a b : ℕ) → (a < b) ⊎ (b ≤ a)
-lt_or a b = search arith
-
 pub clash : (b : Bool) → b ≡ true → b ≡ false → ⊥
 clash b p q = true≢false (sym p ∙ q)
-
-pub and_parts : (a b : Bool) → (a && b) ≡ true → (a ≡ true) × (b ≡ true)
-and_parts true b e = (refl, e)
-and_parts false b e = absurd (true≢false (sym e))

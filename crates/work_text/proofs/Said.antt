@@ -7,7 +7,7 @@ use Rattle.std.proofs.lemmas.Bool.Decides.{nat_tests}
 use Rattle.std.proofs.lemmas.Fmt.{decimal_is_IsNumeral, length-decimal-le}
 use Rattle.std.proofs.lemmas.List.Splits.{slice_split_at, slice_split_none}
 use Rattle.std.proofs.lemmas.Str.Parse.{IsNumeralModel, IsDigitsTest, numerals_by_value}
-use Rattle.std.proofs.lemmas.Bool.{not-true}
+use Rattle.std.proofs.lemmas.Bool.{and_parts, not-true}
 use Rattle.stack_base.proofs.ListLemmas.{Each}
 use Rattle.decl_text.specs.Text.{is_blank, is_option, is_some_text, is_text, is_text_byte, lines, number_of, without_empty_end, words}
 use Rattle.decl_text.proofs.SplitLemmas.{no_lines}
@@ -134,20 +134,16 @@ decimal_digits n small = numerals.from (decimal n) (decimal_is_IsNumeral n small
 digit_byte : (byte : ℕ) → is_ascii_digit byte ≡ true → IsWordByte byte
 digit_byte byte digit = record { blank = grind (arith, nat_tests); end = grind (arith, nat_tests); text = grind (arith, nat_tests) }
 
-both : (a b : Bool) → (a && b) ≡ true → (a ≡ true) × (b ≡ true)
-both true b e = (refl, e)
-both false b e = absurd (true≢false (sym e))
-
 digit_bytes : (word : List ℕ) → AreDigits word → Each IsWordByte word
 digit_bytes [] digits = tt
 digit_bytes (byte ∷ word) digits =
-    let parts = both (is_ascii_digit byte) (list_all is_ascii_digit word) digits in
+    let parts = and_parts (is_ascii_digit byte) (list_all is_ascii_digit word) digits in
     (digit_byte byte parts.0, digit_bytes word parts.1)
 
 no_equals : (word : List ℕ) → AreDigits word → list_any (λ byte. byte == 61) word ≡ false
 no_equals [] digits = refl
 no_equals (byte ∷ word) digits =
-    let parts = both (is_ascii_digit byte) (list_all is_ascii_digit word) digits in
+    let parts = and_parts (is_ascii_digit byte) (list_all is_ascii_digit word) digits in
     let other : (byte == 61) ≡ false = let digit = parts.0 in grind (arith, nat_tests) in
     rw (other, no_equals word parts.1) refl
 
@@ -186,19 +182,19 @@ is_word_byte byte = not (is_blank byte) && (not (byte == 10) && is_text_byte byt
 
 byte_by : (byte : ℕ) → is_word_byte byte ≡ true → IsWordByte byte
 byte_by byte test =
-    let blank = both (not (is_blank byte)) (not (byte == 10) && is_text_byte byte) test in
-    let rest = both (not (byte == 10)) (is_text_byte byte) blank.1 in
+    let blank = and_parts (not (is_blank byte)) (not (byte == 10) && is_text_byte byte) test in
+    let rest = and_parts (not (byte == 10)) (is_text_byte byte) blank.1 in
     record { blank = not-true (is_blank byte) blank.0; end = not-true (byte == 10) rest.0; text = rest.1 }
 
 bytes_by : (word : List ℕ) → list_all is_word_byte word ≡ true → Each IsWordByte word
 bytes_by [] test = tt
 bytes_by (byte ∷ word) test =
-    let parts = both (is_word_byte byte) (list_all is_word_byte word) test in
+    let parts = and_parts (is_word_byte byte) (list_all is_word_byte word) test in
     (byte_by byte parts.0, bytes_by word parts.1)
 
 pub word_by : (word : List ℕ) → (is_some_text word && list_all is_word_byte word) ≡ true → IsWord word
 word_by word test =
-    let parts = both (is_some_text word) (list_all is_word_byte word) test in
+    let parts = and_parts (is_some_text word) (list_all is_word_byte word) test in
     record { some = parts.0; bytes = bytes_by word parts.1 }
 
 -- such a word, and one behind it

@@ -31,6 +31,7 @@ use Rattle.layout_model.proofs.RangeSums.{sum_of_two, sum_of_zero}
 use Rattle.std.proofs.lemmas.List.{length-replicate, get_or-replicate}
 use Rattle.run_machine.specs.Opened.{Scenario, scene, start, todos, setup as setup_in}
 use Rattle.run_machine.specs.Runs.{State, IsRun}
+use Rattle.run_machine.proofs.Frames.{upd_keeps}
 use Rattle.block_core.specs.Weights.{total_weight}
 use Rattle.block_core.specs.Scenarios.{IsScenario}
 use Rattle.block_core.specs.Fragments.{offset_of, fragment_of, completed_by, completed}
@@ -41,7 +42,7 @@ use Rattle.block_core.proofs.moves.Moves.{Move, Can, after, limit_of}
 use Rattle.block_core.proofs.moves.Moves as moves
 use Rattle.block_core.proofs.moves.Geometry.{IsThere}
 use Rattle.block_core.proofs.sound.Orders.{DoingPlaced, Placed, Ground}
-use Rattle.block_core.proofs.sound.OrdersKept.{placed_at, all_at}
+use Rattle.block_core.proofs.sound.OrdersKept.{placed_at}
 use Rattle.block_core.proofs.sound.Facts.{Fair}
 use Rattle.block_core.proofs.moves.StepMoves.{step_is_move}
 use Rattle.block_core.proofs.sound.EveryRun.{Whole, runs_whole, start_whole}
@@ -156,7 +157,7 @@ module _ (s : Scenario) (ledger : ℕ → LedgerId) (st : State) (a : Placed (se
   pushed_own : (bio : Item Pad) → IsThere (setup_in s) bio.bio → (number : ℕ) → IsOwn s number (upd st.objects.disk bio.bio.dev.0 (pushed bio (st.objects.disk bio.bio.dev.0)) number)
   pushed_own bio there =
       let old = own bio.bio.dev.0 in
-      all_at (IsOwn s) st.objects.disk bio.bio.dev.0 (pushed bio (st.objects.disk bio.bio.dev.0)) own
+      upd_keeps (IsOwn s) st.objects.disk bio.bio.dev.0 (pushed bio (st.objects.disk bio.bio.dev.0)) own
       (record { waiting = All-push (IsWaiting s bio.bio.dev.0) (st.objects.disk bio.bio.dev.0).pending bio old.waiting (there, refl); bads = old.bads; sized = old.sized })
 
   pub own_stays : (m : Move) → Can here st m → (number : ℕ) → IsOwn s number ((after here st m).objects.disk number)
@@ -164,7 +165,7 @@ module _ (s : Scenario) (ledger : ℕ → LedgerId) (st : State) (a : Placed (se
       let d : DoingPlaced (setup_in s) (limit_of x) (Drives bio ToPush) lists = placed_at (setup_in s) st a place x (Drives bio ToPush) lists c.1 c.2 in
       pushed_own bio d.1.0.0
   own_stays (moves.Completed place disk index bio ending new) c =
-      all_at (IsOwn s) st.objects.disk disk.0 new own (own_after s disk.0 (st.objects.disk disk.0) index bio ending new (own disk.0) c.3)
+      upd_keeps (IsOwn s) st.objects.disk disk.0 new own (own_after s disk.0 (st.objects.disk disk.0) index bio ending new (own disk.0) c.3)
   own_stays (moves.TakesFirst place writer todo later move) c = own
   own_stays (moves.TakesVector place writer todo later item move) c = own
   own_stays (moves.TakesSub place x doing lists dev waits move) c = own

@@ -1,22 +1,16 @@
 -- Sums over maps and books when one place changes.
-use Rattle.std.proofs.Common.{◌≡◌, ◌≢◌, ◌+◌, ◌-◌, ◌*◌, ◌<◌, ◌≤◌, ◌⊎◌, ℕ, zero, suc, length, Option, None, Some, inl, inr, refl, sym, ◌∙◌, ap, subst, arith}
+use Rattle.std.proofs.Common.{◌≡◌, ◌≢◌, ◌+◌, ◌-◌, ◌*◌, ◌<◌, ◌≤◌, ℕ, zero, suc, length, Option, None, Some, inl, inr, refl, sym, ◌∙◌, ap, subst, arith}
 use Rattle.std.proofs.lemmas.Bool.{eq-eqb, ne_eqb}
+pub use Rattle.std.proofs.lemmas.Bool.{cases_eq as same_or_not, cases_lt as below_or}
 use Rattle.std.proofs.lemmas.List.{length-set, get_or-set_same, get_or-set_other, get_or_past}
 use Rattle.bio_books.specs.Books.{Node, BookState, node_at, with_node}
 use Rattle.run_machine.specs.Maps.{upd}
+pub use Rattle.run_machine.proofs.Frames.{upd_same as upd-same, upd_other as upd-other}
 use Rattle.block_core.specs.Weights.{Weight, sum_at, one, weigh_option, book_weight}
 
 -- how far two numbers are apart
 abbrev pub apart : ℕ → ℕ → ℕ
 apart i j = (i - j) + (j - i)
-
-pub upd-same : {X : Type 0} (f : ℕ → X) (i : ℕ) (v : X) → upd f i v i ≡ v
-unfolding upd
-upd-same f i v = rw (eq-eqb i i refl)
-
-pub upd-other : {X : Type 0} (f : ℕ → X) (i : ℕ) (v : X) (j : ℕ) → j ≢ i → upd f i v j ≡ f j
-unfolding upd
-upd-other f i v j ne = rw (ne_eqb j i ne)
 
 pub one-same : (i : ℕ) → one i i ≡ 1
 unfolding one
@@ -25,12 +19,6 @@ one-same i = rw (eq-eqb i i refl)
 pub one-other : (i j : ℕ) → i ≢ j → one i j ≡ 0
 unfolding one
 one-other i j ne = rw (ne_eqb i j ne)
-
-pub same_or_not : (i j : ℕ) → (i ≡ j) ⊎ (i ≢ j)
-same_or_not i j = grind arith
-
-pub below_or : (i j : ℕ) → (i < j) ⊎ (j ≤ i)
-below_or i j = grind arith
 
 pub weight-upd : {X : Type 0} (w : X → ℕ) (f : ℕ → X) (i : ℕ) (v : X) (k : ℕ) → w (upd f i v k) + one i k * w (f i) ≡ w (f k) + one i k * w v
 weight-upd {X} w f i v k =

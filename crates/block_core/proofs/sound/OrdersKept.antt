@@ -1,5 +1,5 @@
 -- Events keep the submissions of tasks and the rescue lists in order.
-use Rattle.std.proofs.Common.{◌≡◌, ◌+◌, ◌*◌, ◌++◌, ℕ, true, false, List, [], ◌∷◌, filter, Option, None, Some, inl, inr, sym, ◌∙◌, ap, subst, arith}
+use Rattle.std.proofs.Common.{◌≡◌, ◌+◌, ◌*◌, ◌++◌, ℕ, true, false, List, [], ◌∷◌, filter, Option, None, Some, sym, ◌∙◌, ap, subst, arith}
 use Rattle.stack_base.specs.declared.ids.DevId.{DevId}
 use Rattle.stack_base.specs.PoolId.{pool_number}
 use Rattle.stack_base.specs.Tree.{Tree, Leaf, Split, Mirrored}
@@ -20,20 +20,12 @@ use Rattle.run_machine.specs.Submissions.{Takes, Punts as WantsPunt, Links, ToPu
 use Rattle.run_machine.specs.Tasks.{TaskState, Writer, Rescuer, Completer, Keeper}
 use Rattle.run_machine.specs.Objects.{clear_bio, clear_slip}
 use Rattle.run_machine.specs.Runs.{State}
+use Rattle.run_machine.proofs.Frames.{upd_keeps}
 use Rattle.block_core.proofs.moves.Moves.{Move, Can, after, limit_of, with_submission, HasSubmission, gathered_of}
 use Rattle.block_core.proofs.moves.Moves as moves
-use Rattle.block_core.proofs.moves.Sums.{upd-same, upd-other, same_or_not}
 use Rattle.block_core.proofs.sound.Facts.{TaskFits, DoingIsIn, IsIn, Fair, Kept}
 use Rattle.block_core.proofs.sound.TaskSubmissions.{all-upd, submission_fits}
 use Rattle.block_core.proofs.sound.Orders.{IsPlaced, IsOwn, AskFits, DoingPlaced, SubmissionPlaced, HandHome, TaskPlaced, Placed, Ground, each_map, each_filter, each_append, of_set, first_placed, pushed_placed, cut_placed, copies_placed, begun_placed, wants_placed, punts_placed, waiting_placed}
-
--- facts that see the place
-pub all_at : {X : Type 0} (P : ℕ → X → Type 0) (f : ℕ → X) (i : ℕ) (v : X) → ((j : ℕ) → P j (f j)) → P i v → (j : ℕ) → P j (upd f i v j)
-all_at P f i v h hv j =
-    elim (same_or_not j i) [
-      | inl e ↦ subst (λ y. P y (upd f i v y)) (sym e) (subst (P i) (sym (upd-same f i v)) hv)
-      | inr ne ↦ subst (P j) (sym (upd-other f i v j ne)) (h j)
-    ]
 
 -- the submission of a task, in order, and of the task at a place
 submission_placed : (setup : Setup) (x : TaskState) (doing : Doing) (lists : TaskLists) → TaskPlaced setup x → HasSubmission x doing lists → DoingPlaced setup (limit_of x) doing lists
@@ -147,13 +139,13 @@ module _ (scene : Scene) (s : State) (f : Fair scene) (g : Ground scene.setup) (
   rescued (moves.Punts place x doing lists dev) c =
       let w = waiting_placed scene.setup g (limit_of x) doing dev WantsPunt lists c.3 (placed_at scene.setup s p place x doing lists c.1 c.2) in
       let own : Item Pad → Type 0 = IsOwn scene.setup dev.0 dev.0 in
-      all_at (λ d bios. Each (IsOwn scene.setup d d) bios) s.objects.rescue dev.0 (s.objects.rescue dev.0 ++ punted (Of dev) lists) p.rescued
+      upd_keeps (λ d bios. Each (IsOwn scene.setup d d) bios) s.objects.rescue dev.0 (s.objects.rescue dev.0 ++ punted (Of dev) lists) p.rescued
       (each_append own (s.objects.rescue dev.0) (punted (Of dev) lists) (p.rescued dev.0)
       (each_append own (filter (is_of (Of dev)) lists.list0) (filter (is_of (Of dev)) lists.list1) (own_of_set (limit_of x) dev lists.list0 w.0) (own_of_set (limit_of x) dev lists.list1 w.1)))
   -- pops
   rescued (moves.Pops place dev bio bios) c =
       let r : Each (IsOwn scene.setup dev.0 dev.0) (bio ∷ bios) = subst (Each (IsOwn scene.setup dev.0 dev.0)) c.3 (p.rescued dev.0) in
-      all_at (λ d bios. Each (IsOwn scene.setup d d) bios) s.objects.rescue dev.0 bios p.rescued r.1
+      upd_keeps (λ d bios. Each (IsOwn scene.setup d d) bios) s.objects.rescue dev.0 bios p.rescued r.1
   -- all others: rescue lists stay as they are
   rescued (moves.TakesFirst place writer todo later move) c = p.rescued
   rescued (moves.TakesVector place writer todo later item move) c = p.rescued

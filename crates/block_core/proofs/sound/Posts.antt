@@ -26,13 +26,13 @@ use Rattle.block_core.proofs.moves.Moves as moves
 use Rattle.block_core.proofs.moves.Sums.{upd-same, upd-other, same_or_not}
 use Rattle.block_core.proofs.sound.Facts.{Suits, TaskFits, Kept}
 use Rattle.block_core.proofs.sound.TaskSubmissions.{submission_fits}
-use Rattle.block_core.proofs.sound.OrdersKept.{all_at}
 use Rattle.block_core.proofs.sound.Rounds.{TaskRounds, Tallied}
 use Rattle.block_core.proofs.stuck.NothingWaits.{IsPool}
 use Rattle.run_machine.specs.Scene.{keeps_data, is_disk, is_device}
 use Rattle.run_machine.specs.Objects.{TallyState}
 use Rattle.run_machine.specs.Events.{id_of}
 use Rattle.run_machine.specs.declared.event.TaskId.{TaskId}
+use Rattle.run_machine.proofs.Frames.{upd_keeps}
 
 -- the writes of a writer stand by their rounds
 abbrev pub ByRounds : List Todo → Type 0
@@ -96,7 +96,7 @@ module _ (rounds : List ℕ) (ids : ℕ → TaskId) (keeper : ℕ) (scene : Scen
   at place x is = subst (Post s.objects.tally place) is (i.tasks place)
 
   goes : (place : ℕ) (y : TaskState) → Post s.objects.tally place y → (j : ℕ) → Post s.objects.tally j (upd s.task place y j)
-  goes place y fits = all_at (Post s.objects.tally) s.task place y i.tasks fits
+  goes place y fits = upd_keeps (Post s.objects.tally) s.task place y i.tasks fits
 
   relined : (place : ℕ) (x : TaskState) (doing : Doing) (lists : TaskLists) (new : Submission) → HasSubmission x doing lists → Post s.objects.tally place x → Post s.objects.tally place (with_submission x new)
   relined place (Writer number todo taken submission) doing lists new h t = t
@@ -172,7 +172,7 @@ module _ (rounds : List ℕ) (ids : ℕ → TaskId) (keeper : ℕ) (scene : Scen
   one_pool : (number : ℕ) (move : PoolMove) → (after_move (s.objects.pool number) move).facts.min ≡ (s.objects.pool number).facts.min
       → (q : ℕ) → IsPool scene.setup q → 1 ≤ (upd s.objects.pool number (after_move (s.objects.pool number) move) q).facts.min
   one_pool number move same q is =
-      all_at (λ q (pool : PoolState). IsPool scene.setup q → 1 ≤ pool.facts.min) s.objects.pool number (after_move (s.objects.pool number) move) i.mins
+      upd_keeps (λ q (pool : PoolState). IsPool scene.setup q → 1 ≤ pool.facts.min) s.objects.pool number (after_move (s.objects.pool number) move) i.mins
       (λ own. let old = i.mins number own in omega (arith, old, same)) q is
 
   take_min : (pool : PoolState) (move : PoolMove) → IsTake move → (after_move pool move).facts.min ≡ pool.facts.min
@@ -203,7 +203,7 @@ module _ (rounds : List ℕ) (ids : ℕ → TaskId) (keeper : ℕ) (scene : Scen
   mins (moves.Ends place disk writer closed) c = i.mins
   mins (moves.Resized place pool min later duties) c =
       let t = at place _ c.1 in
-      all_at (λ q (pool : PoolState). IsPool scene.setup q → 1 ≤ pool.facts.min) s.objects.pool (pool_number pool) (after_move (s.objects.pool (pool_number pool)) (resizes min)) i.mins (λ own. t.1.0.0)
+      upd_keeps (λ q (pool : PoolState). IsPool scene.setup q → 1 ≤ pool.facts.min) s.objects.pool (pool_number pool) (after_move (s.objects.pool (pool_number pool)) (resizes min)) i.mins (λ own. t.1.0.0)
   mins (moves.Started place round later duties) c = i.mins
 
   disk_there : (bio : Bio) → bio.dev.0 < scene.setup.count → Suits (tree_at scene.setup bio.dev) ToPush → is_disk scene.setup bio.dev.0 ≡ true
@@ -220,10 +220,10 @@ module _ (rounds : List ℕ) (ids : ℕ → TaskId) (keeper : ℕ) (scene : Scen
   disks : (m : Move) → Can scene s m → (dev : ℕ) → (((after scene s m).objects.disk dev).pending ≡ []) ⊎ (is_disk scene.setup dev ≡ true)
   disks (moves.Pushes place x bio lists) c =
       let suits = submission_fits scene x (Drives bio ToPush) lists (subst (TaskFits scene) c.1 (k.tasks place)) c.2 in
-      all_at (λ d (disk : DiskState). (disk.pending ≡ []) ⊎ (is_disk scene.setup d ≡ true)) s.objects.disk bio.bio.dev.0 (pushed bio (s.objects.disk bio.bio.dev.0)) i.disks
+      upd_keeps (λ d (disk : DiskState). (disk.pending ≡ []) ⊎ (is_disk scene.setup d ≡ true)) s.objects.disk bio.bio.dev.0 (pushed bio (s.objects.disk bio.bio.dev.0)) i.disks
       (inr (disk_there bio.bio c.3 suits))
   disks (moves.Completed place disk index bio status new) c =
-      all_at (λ d (disk : DiskState). (disk.pending ≡ []) ⊎ (is_disk scene.setup d ≡ true)) s.objects.disk disk.0 new i.disks (by_old (i.disks disk.0))
+      upd_keeps (λ d (disk : DiskState). (disk.pending ≡ []) ⊎ (is_disk scene.setup d ≡ true)) s.objects.disk disk.0 new i.disks (by_old (i.disks disk.0))
     where
       by_old : ((s.objects.disk disk.0).pending ≡ []) ⊎ (is_disk scene.setup disk.0 ≡ true) → (new.pending ≡ []) ⊎ (is_disk scene.setup disk.0 ≡ true)
       by_old (inl none) =

@@ -1,5 +1,5 @@
 -- Rounds of writes: the tally counts what is unfinished, and nothing of a later round is begun.
-use Rattle.std.proofs.Common.{◌≡◌, ◌≢◌, ◌+◌, ◌-◌, ◌*◌, ◌<◌, ◌≤◌, ◌==◌, ◌⊎◌, if◌then◌else◌, ℕ, Bool, true, false, List, [], ◌∷◌, length, filter, None, Some, inl, inr, refl, sym, ◌∙◌, ap, subst, arith, get_or, set}
+use Rattle.std.proofs.Common.{◌≡◌, ◌≢◌, ◌+◌, ◌-◌, ◌*◌, ◌<◌, ◌≤◌, ◌⊎◌, ℕ, List, [], ◌∷◌, length, None, Some, inl, inr, refl, sym, ◌∙◌, ap, subst, arith, get_or, set}
 use Rattle.std.specs.Prelude.{slice_index_or, sum}
 use Rattle.std.proofs.lemmas.List.{length-set, get_or-set_same, get_or-set_other}
 use Rattle.std.proofs.lemmas.List.Sums.{sum_by-set}
@@ -17,31 +17,12 @@ use Rattle.block_core.proofs.moves.Moves.{Move, Can, after, with_submission, gat
 use Rattle.block_core.proofs.moves.Moves as moves
 use Rattle.block_core.proofs.moves.Sums.{upd-same, upd-other, one-same, one-other, same_or_not, below_or}
 use Rattle.block_core.proofs.moves.Totals.{part_of}
-use Rattle.std.specs.Prelude.{nat_le}
-use Rattle.std.proofs.lemmas.Bool.Decides.{nat_tests}
 use Rattle.run_machine.specs.Objects.{TallyState}
 use Rattle.run_machine.specs.Opened.{in_round, from_round}
+use Rattle.run_machine.proofs.Frames.{upd_keeps}
+use Rattle.run_machine.proofs.FromRounds.{from_next}
 use Rattle.block_core.specs.Rounds.{round_of, is_of_round, tops_left, all_worth, gathered_worth, unfinished_of, begun_of}
 use Rattle.block_core.proofs.sound.EventStages.{staged, ended_worth, to_come_before, to_come_after}
-use Rattle.block_core.proofs.sound.OrdersKept.{all_at}
-
--- the writes of a round or later ones are those of the round, and those of the next or later ones
-pub from_next : (rounds : List ℕ) (r : ℕ) → from_round rounds r ≡ in_round rounds r + from_round rounds (r + 1)
-from_next [] r = refl
-from_next (x ∷ rounds) r = by_test (nat_le r x) (x == r) (nat_le (r + 1) x) refl refl refl (from_next rounds r)
-  where
-    by_test : (a b c : Bool) → nat_le r x ≡ a → (x == r) ≡ b → nat_le (r + 1) x ≡ c → from_round rounds r ≡ in_round rounds r + from_round rounds (r + 1)
-        → length (if a then x ∷ filter (λ x. nat_le r x) rounds else filter (λ x. nat_le r x) rounds)
-        ≡ length (if b then x ∷ filter (λ x. x == r) rounds else filter (λ x. x == r) rounds)
-        + length (if c then x ∷ filter (λ x. nat_le (r + 1) x) rounds else filter (λ x. nat_le (r + 1) x) rounds)
-    by_test true true false p q u rest = omega (arith, rest)
-    by_test true false true p q u rest = omega (arith, rest)
-    by_test false false false p q u rest = rest
-    by_test true true true p q u rest = absurd (grind (arith, nat_tests))
-    by_test true false false p q u rest = absurd (grind (arith, nat_tests))
-    by_test false true true p q u rest = absurd (grind (arith, nat_tests))
-    by_test false true false p q u rest = absurd (grind (arith, nat_tests))
-    by_test false false true p q u rest = absurd (grind (arith, nat_tests))
 
 -- each write that a writer has still to begin is of its round
 abbrev pub TodosFit : List ℕ → List Todo → Type 0
@@ -122,7 +103,7 @@ module _ (rounds : List ℕ) (keeper : ℕ) (scene : Scene) (s : State) (i : Tal
   at_task place x is = subst (TaskRounds rounds keeper s.objects.tally.round place) is (i.tasks place)
 
   goes : (place : ℕ) (y : TaskState) → TaskRounds rounds keeper s.objects.tally.round place y → (j : ℕ) → TaskRounds rounds keeper s.objects.tally.round j (upd s.task place y j)
-  goes place y fits = all_at (TaskRounds rounds keeper s.objects.tally.round) s.task place y i.tasks fits
+  goes place y fits = upd_keeps (TaskRounds rounds keeper s.objects.tally.round) s.task place y i.tasks fits
 
   relined : (place : ℕ) (x : TaskState) (new : Submission) → TaskRounds rounds keeper s.objects.tally.round place x → TaskRounds rounds keeper s.objects.tally.round place (with_submission x new)
   relined place (Writer number todo taken submission) new t = t

@@ -1,5 +1,5 @@
 -- The state in which runs begin keeps all facts.
-use Rattle.std.proofs.Common.{◌≡◌, ◌<◌, ◌≤◌, ◌++◌, if◌then◌else◌, ℕ, zero, suc, Bool, true, false, List, [], ◌∷◌, length, map, filter, Option, None, inl, inr, refl, sym, ◌∙◌, ap, subst, arith, get_or, true≢false}
+use Rattle.std.proofs.Common.{◌≡◌, ◌<◌, ◌≤◌, ◌++◌, ℕ, zero, suc, false, List, [], ◌∷◌, length, map, filter, Option, None, inl, inr, refl, sym, ◌∙◌, ap, subst, arith, get_or}
 use Rattle.std.specs.Prelude.{sum_by}
 use Rattle.std.proofs.lemmas.List.{get_or_past}
 use Rattle.elem_ledger.specs.Ledger.{LedgerId}
@@ -17,8 +17,7 @@ use Rattle.block_core.proofs.moves.Sums.{below_or}
 use Rattle.block_core.proofs.sound.Facts.{own_of, GoesOn, TaskFits, IsIn, Kept}
 use Rattle.std.specs.Prelude.{All, replicate, zip}
 use Rattle.std.proofs.lemmas.List.{get_or-replicate, length-replicate}
-use Rattle.std.proofs.lemmas.List.Elements.{All-nil, All-cons, All-head, All-tail, All-map, All-append, All-filter, All-get_or, All-from_get_or}
-use Rattle.std.proofs.lemmas.List.FromFn.{get_or-range_with_len, length-range_with_len}
+use Rattle.std.proofs.lemmas.List.Elements.{All-nil, All-cons, All-head, All-tail, All-map, All-append, All-filter, All-get_or}
 use Rattle.std.proofs.lemmas.Bool.Decides.{nat_tests}
 use Rattle.mempool_core.proofs.MoveLemmas.{opened_adds_up}
 use Rattle.block_core.specs.Scenarios.{IsScenario}
@@ -28,6 +27,7 @@ use Rattle.layout_model.specs.NeedCounts.{nodes}
 use Rattle.run_machine.specs.Events.{pool_of}
 use Rattle.run_machine.specs.Scene.{is_disk}
 use Rattle.run_machine.specs.Opened.{Scenario, scene, start, tasks as opened_tasks, todos, todos_of, is_by, writers, duties, keepers, no_task, places_of, reserve_of, script_at, setup as setup_in, at as device_at}
+use Rattle.run_machine.proofs.Passing.{below_all, none_passing}
 
 -- a task that did nothing yet
 abbrev pub Begins : Scene → TaskState → Type 0
@@ -104,17 +104,6 @@ pub all_map : {X : Type 0} (P Q : X → Type 0) → ((x : X) → P x → Q x) �
 all_map P Q more [] all = All-nil Q
 all_map P Q more (x ∷ xs) all = All-cons Q x xs (more x (All-head P x xs all)) (all_map P Q more xs (All-tail P x xs all))
 
-passed_none : {X : Type 0} (p : X → Bool) (xs : List X) → All (λ x. p x ≡ false) xs → filter p xs ≡ []
-passed_none p [] none = refl
-passed_none p (x ∷ xs) none = by_test (p x) refl (passed_none p xs (All-tail (λ x. p x ≡ false) x xs none)) (All-head (λ x. p x ≡ false) x xs none)
-  where
-    by_test : (v : Bool) → p x ≡ v → filter p xs ≡ [] → p x ≡ false → (if v then x ∷ filter p xs else filter p xs) ≡ []
-    by_test true is rest false_is = absurd (true≢false (sym is ∙ false_is))
-    by_test false is rest false_is = rest
-
-below_all : (n : ℕ) → All (λ k. k < n) (range_with_len 0 n)
-below_all n = All-from_get_or (λ k. k < n) (range_with_len 0 n) 0 (λ i lt. let le : i < n = omega (arith, lt, length-range_with_len 0 n) in omega (arith, le, get_or-range_with_len 0 n i 0 le))
-
 seconds_all : {A : Type 0} (P : ℕ × Write → Type 0) (ns : List A) (xs : List (ℕ × Write)) → All P xs → All (λ (x : A × (ℕ × Write)). P x.1) (zip ns xs)
 seconds_all {A = A} P [] xs all = All-nil (λ (x : A × (ℕ × Write)). P x.1)
 seconds_all {A = A} P (n ∷ ns) [] all = All-nil (λ (x : A × (ℕ × Write)). P x.1)
@@ -137,7 +126,7 @@ module _ (s : Scenario) (good : IsScenario s) (ledger : ℕ → LedgerId) where
   no_places : (w : ℕ) → 8 ≤ w → places_of s w ≡ 0
   no_places w ge =
       ap (sum_by (λ (todo : Todo). nodes s.stack todo.write))
-      (passed_none (is_by w) (todos s) (all_map (λ (todo : Todo). todo.write.task < 8) (λ (todo : Todo). is_by w todo ≡ false) (λ todo lt. grind (arith, nat_tests, lt, ge)) (todos s) (todos_all s (λ (write : Write). write.task < 8) good.writers)))
+      (none_passing (is_by w) (todos s) (all_map (λ (todo : Todo). todo.write.task < 8) (λ (todo : Todo). is_by w todo ≡ false) (λ todo lt. grind (arith, nat_tests, lt, ge)) (todos s) (todos_all s (λ (write : Write). write.task < 8) good.writers)))
 
   tasks_begin : All (Begins (scene s ledger)) (opened_tasks s)
   tasks_begin =

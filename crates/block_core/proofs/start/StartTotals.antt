@@ -1,12 +1,11 @@
 -- What all is worth that there is at the start: what writers have to begin.
-use Rattle.std.proofs.Common.{◌≡◌, ◌+◌, ◌*◌, ◌<◌, ◌≤◌, ◌==◌, ◌||◌, ◌++◌, not, if◌then◌else◌, cond, ℕ, zero, suc, Bool, true, false, List, [], ◌∷◌, length, map, filter, inl, inr, refl, sym, ◌∙◌, ap, arith, get_or}
+use Rattle.std.proofs.Common.{◌≡◌, ◌+◌, ◌*◌, ◌<◌, ◌≤◌, ◌==◌, ◌++◌, if◌then◌else◌, cond, ℕ, zero, suc, Bool, true, false, List, [], ◌∷◌, length, map, filter, inl, inr, refl, sym, ◌∙◌, ap, arith, get_or}
 use Rattle.std.specs.Prelude.{sum_by, take, All}
 use Rattle.std.specs.List.{range_with_len, flat_map, list_any}
 use Rattle.std.proofs.Math.Seq.{take-suc}
 use Rattle.std.proofs.lemmas.Bool.{eq-eqb, ne_eqb}
 use Rattle.std.proofs.lemmas.List.{take_all}
 use Rattle.std.proofs.lemmas.List.Elements.{All-head, All-tail}
-use Rattle.std.proofs.lemmas.List.Filters.{sum_by-filter_both}
 use Rattle.std.proofs.lemmas.List.Sums.{sum_by-cons, sum_by-append, sum_by_push}
 use Rattle.elem_ledger.specs.Ledger.{LedgerId}
 use Rattle.layout_model.specs.declared.write.Write.{Write}
@@ -16,6 +15,7 @@ use Rattle.run_machine.specs.Scene.{Scene, is_disk}
 use Rattle.run_machine.specs.Submissions.{rests}
 use Rattle.run_machine.specs.Tasks.{TaskState, Writer, Rescuer, Completer, Keeper, Duty, Todo, NoBio, Empty}
 use Rattle.run_machine.specs.Opened.{Scenario, scene, start, tasks as opened_tasks, todos, todos_of, is_by, writers, duties, keepers, no_task, setup as setup_in, at as device_at}
+use Rattle.run_machine.proofs.Passing.{filter_sum, none_passes}
 use Rattle.block_core.specs.Weights.{Weight, Pending, Rescued, total_weight, sum_at, one, task_weight, book_weight}
 use Rattle.block_core.specs.Scenarios.{IsScenario}
 use Rattle.block_core.proofs.moves.Sums.{one-same, one-other, same_or_not}
@@ -29,9 +29,6 @@ map_sum g f (x ∷ xs) = omega (arith, sum_by-cons g (f x) (map f xs), sum_by-co
 zero_sum : {X : Type 0} (g : X → ℕ) (xs : List X) → ((x : X) → g x ≡ 0) → sum_by g xs ≡ 0
 zero_sum g [] none = refl
 zero_sum g (x ∷ xs) none = omega (arith, sum_by-cons g x xs, none x, zero_sum g xs none)
-
-pub filter_sum : {X : Type 0} (g : X → ℕ) (p : X → Bool) (xs : List X) → sum_by g (filter p xs) ≤ sum_by g xs
-filter_sum g p xs = omega (arith, sum_by-filter_both p (λ x. not (p x)) (λ x. refl) g xs)
 
 pub flat_sum : {X Y : Type 0} (g : Y → ℕ) (f : X → List Y) (xs : List X) → sum_by g (flat_map f xs) ≡ sum_by (λ x. sum_by g (f x)) xs
 flat_sum g f [] = refl
@@ -79,15 +76,6 @@ passing_sum g p xs none = filtered_sum g p xs ∙ sum_same (λ x. cond (p x) (g 
     by_test : (x : _) (v : Bool) → p x ≡ v → cond v (g x) 0 ≡ g x
     by_test x true is = refl
     by_test x false is = sym (none x is)
-
--- none passes a test that no element passes
-none_passes : {X : Type 0} (p : X → Bool) (xs : List X) → list_any p xs ≡ false → filter p xs ≡ []
-none_passes p [] none = refl
-none_passes p (x ∷ xs) none = by_test (p x) none (none_passes p xs)
-  where
-    by_test : (v : Bool) → (v || list_any p xs) ≡ false → (list_any p xs ≡ false → filter p xs ≡ []) → (if v then x ∷ filter p xs else filter p xs) ≡ []
-    by_test true h rest = absurd cc
-    by_test false h rest = rest h
 
 -- a sum over the places of a list is one over the list
 places_sum : {X : Type 0} (g : X → ℕ) (xs : List X) (d : X) (n : ℕ) → n ≤ length xs → sum_at (λ place x. g x) n (λ place. get_or xs place d) ≡ sum_by g (take n xs)

@@ -18,7 +18,8 @@ use Rattle.run_machine.specs.Scene.{is_disk}
 use Rattle.run_machine.specs.Opened.{Scenario, Change, scene, start, tasks as opened_tasks, todos, todos_of, is_by, writers, duties, duties_of, keepers, no_task, round_count, writes_in, writes_from, setup as setup_in, at as device_at, in_round, from_round}
 use Rattle.block_core.specs.Scenarios.{IsScenario}
 use Rattle.block_core.specs.Rounds.{round_of, is_of_round, all_worth, unfinished_of, begun_of}
-use Rattle.block_core.proofs.sound.Rounds.{from_next, TodosFit, DutiesFit, TaskRounds, Tallied}
+use Rattle.run_machine.proofs.FromRounds.{from_next}
+use Rattle.block_core.proofs.sound.Rounds.{TodosFit, DutiesFit, TaskRounds, Tallied}
 use Rattle.block_core.proofs.start.FactsAtStart.{start_opened, total_zero}
 use Rattle.block_core.proofs.start.StartTotals.{writer_tasks, rescuer_tasks, completer_tasks, opened_total}
 

@@ -22,6 +22,7 @@ use Rattle.run_machine.specs.Submissions.{Want, Takes, Punts as WantsPunt, Links
 use Rattle.run_machine.specs.Tasks.{TaskState, Writer, Rescuer, Completer, Keeper}
 use Rattle.run_machine.specs.Objects.{clear_bio}
 use Rattle.run_machine.specs.Runs.{State}
+use Rattle.run_machine.proofs.Frames.{upd_keeps}
 use Rattle.block_core.proofs.moves.Moves.{Move, Can, after, limit_of, with_submission, HasSubmission, Wants, with_want, filled_of, cut_lists}
 use Rattle.block_core.proofs.moves.Moves as moves
 use Rattle.block_core.proofs.sound.Facts.{TaskFits, Kept}
@@ -31,7 +32,7 @@ use Rattle.block_core.proofs.sound.Orders.{Above, IsPlaced, IsOwn, DoingPlaced, 
 use Rattle.std.specs.Prelude.{All}
 use Rattle.std.proofs.lemmas.List.Elements.{All-nil, All-cons}
 use Rattle.bioset_pools.specs.Sets.{is_empty}
-use Rattle.block_core.proofs.sound.OrdersKept.{all_at, placed_at}
+use Rattle.block_core.proofs.sound.OrdersKept.{placed_at}
 use Rattle.block_core.specs.Waits.{NoneBehind, DoesNotWaitForItself, TaskDoesNotWaitForItself, NoneWaitsForItself}
 
 -- where it waits, list 0 is empty
@@ -234,11 +235,11 @@ module _ (scene : Scene) (s : State) (g : Ground scene.setup) (r : AreRescued sc
   rescued : (m : Move) → Can scene s m → (dev : ℕ) → ((after scene s m).objects.rescue dev ≡ []) ⊎ (scene.setup.rescuer dev ≡ true)
   -- punts
   rescued (moves.Punts place x doing lists dev) c =
-      all_at (λ d (bios : List (Item Pad)). (bios ≡ []) ⊎ (scene.setup.rescuer d ≡ true)) s.objects.rescue dev.0 (s.objects.rescue dev.0 ++ punted (Of dev) lists) i.rescued
+      upd_keeps (λ d (bios : List (Item Pad)). (bios ≡ []) ⊎ (scene.setup.rescuer d ≡ true)) s.objects.rescue dev.0 (s.objects.rescue dev.0 ++ punted (Of dev) lists) i.rescued
       (inr (punts_rescued scene.setup r doing dev lists c.3 (has place x doing lists c.1 c.2)))
   -- pops
   rescued (moves.Pops place dev bio bios) c =
-      all_at (λ d (bios : List (Item Pad)). (bios ≡ []) ⊎ (scene.setup.rescuer d ≡ true)) s.objects.rescue dev.0 bios i.rescued (by_old (i.rescued dev.0))
+      upd_keeps (λ d (bios : List (Item Pad)). (bios ≡ []) ⊎ (scene.setup.rescuer d ≡ true)) s.objects.rescue dev.0 bios i.rescued (by_old (i.rescued dev.0))
     where
       by_old : (s.objects.rescue dev.0 ≡ []) ⊎ (scene.setup.rescuer dev.0 ≡ true) → (bios ≡ []) ⊎ (scene.setup.rescuer dev.0 ≡ true)
       by_old (inl none) = let e : bio ∷ bios ≡ [] = sym c.3 ∙ none in absurd cc

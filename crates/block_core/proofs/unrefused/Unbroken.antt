@@ -19,6 +19,7 @@ use Rattle.run_machine.specs.Tasks.{TaskState, Writer, Rescuer, Completer, Keepe
 use Rattle.run_machine.specs.Opened.{Scenario, scene, start, tasks as opened_tasks, todos, todos_of, is_by, writers, duties, keepers, places_of, setup as setup_in, at as device_at}
 use Rattle.run_machine.specs.Runs.{State, IsRun, IsLet}
 use Rattle.run_machine.proofs.Apart.{one_keeper}
+use Rattle.run_machine.proofs.Passing.{filter_sum}
 use Rattle.block_core.specs.Scenarios.{IsScenario, IsNaming}
 use Rattle.block_core.specs.Breaks.{ElementsAreAllowed, GoesUnrefused, NoTaskBreaks}
 use Rattle.block_core.proofs.sound.Facts.{DoingFits, TaskFits, Fair}
@@ -26,7 +27,7 @@ use Rattle.block_core.proofs.moves.Devices.{ground}
 use Rattle.block_core.proofs.unrefused.NodeNeeds.{needs_known}
 use Rattle.block_core.proofs.start.FactsAtStart.{start_opened}
 use Rattle.block_core.proofs.bound.ChargesAtStart.{zip_sum}
-use Rattle.block_core.proofs.start.StartTotals.{map_sum, filter_sum}
+use Rattle.block_core.proofs.start.StartTotals.{map_sum}
 use Rattle.block_core.proofs.sound.EveryRun.{runs_tallied, runs_leveled, start_leveled, runs_whole, start_whole}
 use Rattle.block_core.proofs.unrefused.RoomKept.{run_roomy}
 use Rattle.block_core.proofs.unrefused.Ready.{IsSmall, ready, not_refused}

@@ -1,12 +1,13 @@
 -- Whether every element of all pools is at home.
 use Rattle.std.proofs.Common.{◌≡◌, ◌&&◌, ℕ, zero, suc, Bool, true, false, true≢false, List, [], ◌∷◌, refl, sym, ap, ◌∙◌}
 use Rattle.std.specs.Prelude.{slice_index_or, MatchBool}
+use Rattle.std.proofs.lemmas.Bool.{and_parts}
 use Rattle.std.specs.List.{list_all}
 use Rattle.mempool_core.specs.Move.{PoolState}
 use Rattle.run_machine.specs.Runs.{HasEnded, unfinished}
 use Rattle.plain_core.specs.Cores.{CoreState, state_of_core}
 use Rattle.plain_core.specs.objects.Plain.{is_home, no_core_pool}
-use Rattle.task_core.proofs.NumberTests.{and_parts, is_itself, same_by}
+use Rattle.task_core.proofs.NumberTests.{is_itself, same_by}
 
 -- nothing is out of any pool
 all_home : (pools : List PoolState) → list_all is_home pools ≡ true → (n : ℕ) → (slice_index_or pools n no_core_pool).facts.out ≡ 0

@@ -5,7 +5,7 @@ use Rattle.std.specs.Option.{option_map_or}
 use Rattle.std.proofs.lemmas.List.Elements.{All-contains_itself, All-map, All-nil, All-weaker}
 use Rattle.std.proofs.lemmas.List.Sums.{sum_by-cons}
 use Rattle.std.proofs.lemmas.Option.{slice_get_cases, slice_get_within}
-use Rattle.std.proofs.lemmas.Bool.{not-true}
+use Rattle.std.proofs.lemmas.Bool.{and_parts, not-true}
 use Rattle.stack_base.specs.declared.ids.PoolId.{PoolId}
 use Rattle.stack_base.specs.declared.ids.PoolId.TheVariants.{Bios, Records}
 use Rattle.stack_base.specs.declared.stack.Device.{Device}
@@ -34,7 +34,7 @@ use Rattle.task_core.specs.opened.Openings.{has_set_at}
 use Rattle.task_steps.specs.Stage.{has_mirror_in}
 use Rattle.task_steps.specs.Routed.{Routing, copies_bios, keeps, routing_setup}
 use Rattle.run_machine.specs.Scene.{has_set, is_mirror, keeps_data}
-use Rattle.task_core.proofs.NumberTests.{clash, is_below, below_by, and_parts}
+use Rattle.task_core.proofs.NumberTests.{clash, is_below, below_by}
 use Rattle.task_core.proofs.opened.Sharing.{few_rounds}
 use Rattle.task_core.proofs.opened.PoolsBehind.{bios_kept, slips_kept, disks_keep_none, others_have_none, data_by, mirror_by, bads_by, number_small}
 pub use Rattle.task_core.proofs.opened.PoolsBehind.{of_stack}

@@ -3,6 +3,7 @@ use Rattle.std.proofs.Common.{◌≡◌, ◌≢◌, ◌⊎◌, inl, inr, ◌+◌
 use Rattle.std.specs.Prelude.{IfSome, nat_lt, sum}
 use Rattle.std.specs.List.{range_with_len}
 use Rattle.std.specs.Option.{option_map_or}
+use Rattle.std.proofs.lemmas.Bool.{and_parts}
 use Rattle.std.proofs.lemmas.Bool.Decides.{nat_tests}
 use Rattle.std.proofs.lemmas.List.{length-replicate, map-id}
 use Rattle.std.proofs.lemmas.List.Elements.{All-nil, All-replicate}
@@ -38,7 +39,7 @@ use Rattle.run_machine.specs.Scene.{has_set}
 use Rattle.task_steps.specs.Stage.{Stage, IsServed, has_disk_in, has_rescuer_in, has_book_in, has_mirror_in}
 use Rattle.task_core.specs.Tables.{look_up, IsEntryAt, AreAt}
 use Rattle.run_machine.proofs.Frames.{pools_are_numbered}
-use Rattle.task_core.proofs.NumberTests.{lt_or, below_by, same_by, apart_by, and_parts}
+use Rattle.task_core.proofs.NumberTests.{lt_or, below_by, same_by, apart_by}
 
 module _ {E : Type 0} (key : E → ℕ) (number : ℕ → ℕ) (is_used : ℕ → Bool) (IsMade : ℕ → E → Type 0) (bound : ℕ) (entries : List E) (table : List ℕ)
     (all : AreMade key number is_used IsMade bound entries table) where

@@ -4,7 +4,6 @@ use Rattle.std.specs.Prelude.{All, IsTrue, nat_lt, sum_by}
 use Rattle.std.specs.List.{list_any, range_with_len}
 use Rattle.std.proofs.lemmas.List.{length-replicate}
 use Rattle.std.proofs.lemmas.List.Elements.{All-append, All-cons, All-filter, All-map, All-nil, All-weaker}
-use Rattle.std.proofs.lemmas.List.FromFn.{get_or-range_with_len, length-range_with_len}
 use Rattle.std.proofs.lemmas.List.Sums.{sum_by-cons}
 use Rattle.fail_script.specs.Script.{Answers}
 use Rattle.stack_base.specs.declared.ids.PoolId.{PoolId}
@@ -44,6 +43,7 @@ use Rattle.run_machine.specs.Scene.{Setup, is_disk}
 use Rattle.task_steps.specs.Stage.{Stage, has_book, is_pool}
 use Rattle.task_steps.specs.TaskViews.{TaskOf}
 use Rattle.run_machine.specs.Tasks.{Todo, NoBio, Empty, Duty, Resizes, Starts, TaskState, Writer, Rescuer, Completer, Keeper, Keeps}
+use Rattle.run_machine.proofs.Passing.{below_all}
 use Rattle.task_steps.specs.Within.{IsItemWithin}
 use Rattle.task_core.proofs.NumberTests.{is_itself, is_below}
 use Rattle.task_core.proofs.opened.Behind.{fit_work, shared}
@@ -81,12 +81,6 @@ all_passing p (x ∷ xs) = by_test (all_passing p xs) (p x) refl
         let is : x ∷ filter p xs ≡ filter p (x ∷ xs) = rw (q) refl in
         subst (All (λ x. p x ≡ true)) is (All-cons (λ x. p x ≡ true) x (filter p xs) q rest)
     by_test rest false q = let is : filter p xs ≡ filter p (x ∷ xs) = rw (q) refl in subst (All (λ x. p x ≡ true)) is rest
-
-range_below : (n : ℕ) → All (λ k. k < n) (range_with_len 0 n)
-range_below n = λ k d lt.
-    let many = length-range_with_len 0 n in
-    let within : k < n = omega (arith, lt, many) in
-    let is = get_or-range_with_len 0 n k d within in omega (arith, is, within)
 
 -- the tasks of a scenario are at home in objects of it
 module _ (s : Scenario) (stage : Stage) (stacks : stage.routing.stack ≡ s.stack) (setups : routing_setup stage.routing ≡ opened.setup s)
@@ -130,7 +124,7 @@ module _ (s : Scenario) (stage : Stage) (stacks : stage.routing.stack ≡ s.stac
       let devices = filter (opened.setup s).rescuer (range_with_len 0 (opened.setup s).count) in
       let has : (opened.setup s).rescuer (get_or devices k d) ≡ true = all_passing (opened.setup s).rescuer (range_with_len 0 (opened.setup s).count) k d lt in
       let below = All-filter (opened.setup s).rescuer (λ dev. dev < (opened.setup s).count) (range_with_len 0 (opened.setup s).count)
-      (range_below (opened.setup s).count) k d lt in
+      (below_all (opened.setup s).count) k d lt in
       let known = is_below (get_or devices k d) (opened.setup s).count below in
       let both : (nat_lt (get_or devices k d) (opened.setup s).count && (opened.setup s).rescuer (get_or devices k d)) ≡ true =
       ap (λ b. b && (opened.setup s).rescuer (get_or devices k d)) known ∙ has in

@@ -1,5 +1,5 @@
 -- Rounds are counted, and duties are told round by round.
-use Rattle.std.proofs.Common.{◌≡◌, ◌≢◌, ◌⊎◌, inl, inr, ◌+◌, ◌<◌, ◌≤◌, ◌==◌, ◌++◌, ℕ, zero, suc, true, false, cond, List, [], ◌∷◌, length, map, take, get_or, max, replicate, set, refl, sym, ap, subst, ◌∙◌, arith}
+use Rattle.std.proofs.Common.{◌≡◌, ◌≢◌, ◌+◌, ◌<◌, ◌≤◌, ◌==◌, ◌++◌, ℕ, zero, suc, true, cond, List, [], ◌∷◌, length, map, take, get_or, max, replicate, set, refl, sym, ap, subst, ◌∙◌, arith}
 use Rattle.std.specs.Prelude.{fold, nat_le, sum, sum_by}
 use Rattle.std.specs.List.{flat_map, range_with_len}
 use Rattle.std.proofs.lemmas.Bool.Decides.{nat_tests}
@@ -70,27 +70,7 @@ round_inside c (round ∷ rounds) zero d lt = let le = start_le (max c round) ro
     start_le c (round ∷ rounds) = let le = start_le (max c round) rounds in omega (arith, le)
 round_inside c (round ∷ rounds) (suc i) d lt = round_inside (max c round) rounds i d (omega (arith, lt))
 
--- the writes from a round on are its own and those from the next one on
-pub from_next : (rounds : List ℕ) (round : ℕ) → from_round rounds round ≡ in_round rounds round + from_round rounds (round + 1)
-from_next [] round = refl
-from_next (r ∷ rounds) round = by_order (order r round) (from_next rounds round)
-  where
-    order : (a b : ℕ) → (a < b) ⊎ ((a ≡ b) ⊎ (b < a))
-    order a b = search arith
-
-    not_le : (a b : ℕ) → b < a → nat_le a b ≡ false
-    not_le a b lt = grind (lt, arith, nat_tests)
-
-    is_le : (a b : ℕ) → a ≤ b → nat_le a b ≡ true
-    is_le a b le = grind (le, arith, nat_tests)
-
-    by_order : (r < round) ⊎ ((r ≡ round) ⊎ (round < r)) → from_round rounds round ≡ in_round rounds round + from_round rounds (round + 1)
-        → from_round (r ∷ rounds) round ≡ in_round (r ∷ rounds) round + from_round (r ∷ rounds) (round + 1)
-    by_order (inl lt) rest = rw (not_le round r lt, not_le (round + 1) r (omega (arith, lt)), is_apart r round (λ e. absurd (omega (arith, lt, e)))) rest
-    by_order (inr (inl e)) rest = rw (is_le round r (omega (arith, e)), not_le (round + 1) r (omega (arith, e)), is_itself r round e) (omega (arith, rest))
-    by_order (inr (inr lt)) rest =
-        rw (is_le round r (omega (arith, lt)), is_le (round + 1) r (omega (arith, lt)), is_apart r round (λ e. absurd (omega (arith, lt, e)))) (omega (arith, rest))
-
+-- all writes are those of the first round and later ones
 pub from_first : (rounds : List ℕ) → length rounds ≡ from_round rounds 0
 from_first [] = refl
 from_first (r ∷ rounds) = let all = is_le r in rw (all) (ap suc (from_first rounds))

@@ -1,10 +1,9 @@
 -- What opened tasks know of devices is the setup of their scenario, and they are its tasks.
-use Rattle.std.proofs.Common.{◌≡◌, inl, inr, ◌<◌, ◌≤◌, ◌==◌, ◌++◌, ℕ, Bool, false, List, [], ◌∷◌, filter, get_or, map, refl, sym, ap, ◌∙◌, arith}
-use Rattle.std.specs.Prelude.{All, sum_by}
+use Rattle.std.proofs.Common.{◌≡◌, inl, inr, ◌<◌, ◌≤◌, ◌==◌, ◌++◌, ℕ, false, List, [], ◌∷◌, get_or, map, refl, sym, ap, ◌∙◌, arith}
+use Rattle.std.specs.Prelude.{sum_by}
 use Rattle.std.specs.List.{range_with_len}
 use Rattle.std.proofs.lemmas.Bool.Decides.{nat_tests}
 use Rattle.std.proofs.lemmas.List.{get_or_past}
-use Rattle.std.proofs.lemmas.List.Elements.{All-head, All-tail}
 use Rattle.fail_script.specs.Script.{Answers}
 use Rattle.stack_base.specs.declared.ids.PoolId.{PoolId}
 use Rattle.stack_base.specs.declared.stack.Stack.{Stack}
@@ -16,6 +15,7 @@ use Rattle.run_machine.specs.Opened as opened
 use Rattle.run_machine.specs.Scenario.{change_of}
 use Rattle.run_machine.specs.Scene.{setup_of}
 use Rattle.run_machine.specs.Tasks.{TaskState, Todo}
+use Rattle.run_machine.proofs.Passing.{none_passing}
 use Rattle.task_steps.specs.Routed.{Routing, places_at, routing_setup}
 use Rattle.task_steps.specs.TaskViews.{TaskOf}
 use Rattle.task_core.specs.opened.NewTasks.{AreServableWrites, others_in, with_routing}
@@ -23,10 +23,6 @@ use Rattle.task_core.specs.opened.OfOne.{states}
 use Rattle.task_core.specs.opened.OpenTasks.{AreTasksOf}
 use Rattle.task_core.proofs.NumberTests.{lt_or}
 use Rattle.task_core.proofs.opened.Sharing.{numbered_all}
-
-none_passing : {X : Type 0} (p : X → Bool) (xs : List X) → All (λ x. p x ≡ false) xs → filter p xs ≡ []
-none_passing p [] all = refl
-none_passing p (x ∷ xs) all = let first = All-head (λ x. p x ≡ false) x xs all in rw (first) (none_passing p xs (All-tail (λ x. p x ≡ false) x xs all))
 
 is_other : (a b : ℕ) → a < b → (a == b) ≡ false
 is_other a b lt = grind (lt, arith, nat_tests)

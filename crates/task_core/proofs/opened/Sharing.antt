@@ -19,6 +19,7 @@ use Rattle.task_core.specs.opened.NewTasks.{device_tasks, writer_with, shown_tas
 use Rattle.run_machine.specs.Scene.{Setup, is_disk}
 use Rattle.run_machine.specs.Opened.{at, is_by, numbered, numbered_from, share_of, nodes_of, is_writer, writers_of}
 use Rattle.run_machine.specs.Tasks.{Todo, TaskState, NoBio, Empty, Writer, Rescuer, Completer}
+use Rattle.run_machine.proofs.Passing.{filter_sum, none_passes}
 use Rattle.task_core.proofs.NumberTests.{clash}
 use Rattle.task_core.proofs.opened.Filling as fill
 
@@ -102,14 +103,6 @@ nodes_all stack first (round ∷ rounds) (write ∷ writes) e =
 nodes_all stack first [] (write ∷ writes) e = absurd (omega (arith, e))
 nodes_all stack first (round ∷ rounds) [] e = absurd (omega (arith, e))
 
-filter_le : {X : Type 0} (f : X → ℕ) (p : X → Bool) (xs : List X) → sum_by f (filter p xs) ≤ sum_by f xs
-filter_le f p [] = omega arith
-filter_le f p (x ∷ xs) = by_test (p x) refl (filter_le f p xs)
-  where
-    by_test : (b : Bool) → p x ≡ b → sum_by f (filter p xs) ≤ sum_by f xs → sum_by f (filter p (x ∷ xs)) ≤ sum_by f (x ∷ xs)
-    by_test true q rest = rw (q) (omega (arith, rest, sum_by-cons f x (filter p xs), sum_by-cons f x xs))
-    by_test false q rest = rw (q) (omega (arith, rest, sum_by-cons f x xs))
-
 pub writes_few : (stack : Stack) (writes : List Write) → length writes ≤ sum_by (λ write. nodes stack write) writes
 writes_few stack [] = omega arith
 writes_few stack (write ∷ writes) =
@@ -119,7 +112,7 @@ module _ (stack : Stack) (rounds : List ℕ) (writes : List Write) (shared : Are
   pub share_few : (writer : ℕ) → nodes_of stack (share_of rounds writes writer) < 2 ^ 32
   share_few writer =
       let all = nodes_all stack 0 rounds writes shared.paired in
-      let some = filter_le (λ (t : Todo). nodes stack t.write) (is_by writer) (numbered rounds writes) in
+      let some = filter_sum (λ (t : Todo). nodes stack t.write) (is_by writer) (numbered rounds writes) in
       let few = shared.few in
       omega (arith, all, some, few)
 
@@ -165,14 +158,6 @@ device_split of_devices.Rescuers setup n = kept_split (λ dev. Rescuer (at dev) 
 device_split of_devices.Completers setup n = kept_split (λ dev. Completer (at dev) Empty) (is_disk setup) n
 
 -- there is a writer exactly where it has a write
-any_kept : {X : Type 0} (p : X → Bool) (xs : List X) → list_any p xs ≡ false → filter p xs ≡ []
-any_kept p [] none = refl
-any_kept p (x ∷ xs) none = by_test (any_kept p xs) (p x) refl none
-  where
-    by_test : (list_any p xs ≡ false → filter p xs ≡ []) → (b : Bool) → p x ≡ b → list_any p (x ∷ xs) ≡ false → filter p (x ∷ xs) ≡ []
-    by_test rest true q none = let some : list_any p (x ∷ xs) ≡ true = rw (q) refl in absurd (clash (list_any p (x ∷ xs)) some none)
-    by_test rest false q none = let same : list_any p (x ∷ xs) ≡ list_any p xs = rw (q) refl in rw (q) (rest (sym same ∙ none))
-
 pub record IsSome {X : Type 0} (xs : List X) : Type 0 where
   pub first : X
   pub more : List X
@@ -194,7 +179,7 @@ pub writer_there : (rounds : List ℕ) (writes : List Write) (writer : ℕ) → 
 writer_there rounds writes writer = by_test (is_writer rounds writes writer) refl
   where
     by_test : (b : Bool) → is_writer rounds writes writer ≡ b → writer_with writer (share_of rounds writes writer) ≡ writers_of rounds writes (writer ∷ [])
-    by_test false q = rw (q) (ap (writer_with writer) (any_kept (is_by writer) (numbered rounds writes) q))
+    by_test false q = rw (q) (ap (writer_with writer) (none_passes (is_by writer) (numbered rounds writes) q))
     by_test true q =
         let found = any_some (is_by writer) (numbered rounds writes) q in
         rw (q) (ap (writer_with writer) found.is ∙ ap (λ todos. Writer writer todos NoBio rests ∷ []) (sym found.is))

@@ -4,7 +4,8 @@ use Rattle.task_steps.specs.KeeperViews.{duty_of}
 use Rattle.run_machine.specs.Scenario.{change_of}
 use Rattle.run_machine.specs.Tasks.{Starts}
 use Rattle.run_machine.specs.Opened.{changes_at, duties_in, from_round, in_round, rounds_in, starts_at}
-use Rattle.task_core.proofs.opened.Rounding.{duties_more, from_first, from_next, left_at}
+use Rattle.run_machine.proofs.FromRounds.{from_next}
+use Rattle.task_core.proofs.opened.Rounding.{duties_more, from_first, left_at}
 use Rattle.task_core.proofs.opening.rounds.duties_of.Goals as goal
 
 pub passing-init : goal.passing-init
