@@ -10,6 +10,10 @@ pub record TextPlace : Type 0 where
 abbrev pub left : TextPlace → List ℕ
 left at = drop at.place at.text
 
+-- the text begins with this line, which takes so many bytes, wherever the text is cut behind it
+abbrev pub BeginsWhereverCut : List ℕ → List ℕ → ℕ → Type 0
+BeginsWhereverCut text line taken = (more : ℕ) → lines (take (taken + more) text) ≡ line ∷ lines (take more (drop taken text))
+
 -- no line is left there, and the place stays
 abbrev pub StaysAtEnd : TextPlace → TextPlace → Type 0
 StaysAtEnd old new = (lines (left old) ≡ []) × (new ≡ old)

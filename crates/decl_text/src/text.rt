@@ -1,7 +1,7 @@
 //! The lines of a text.
-ghost use Rattle.std.specs.Prelude.{◌≡◌, ◌+◌, ◌<◌, ◌≤◌, ◌∷◌, ◌==◌, ℕ, length, drop, take, MatchOption, position};
+ghost use Rattle.std.specs.Prelude.{◌≡◌, ◌<◌, ◌≤◌, ◌∷◌, ◌==◌, length, drop, MatchOption, position};
 ghost use Rattle.decl_text.specs.Text.{lines};
-ghost use Rattle.decl_text.specs.Places.{IsNextLine, IsNextOfFront, StaysAtEnd};
+ghost use Rattle.decl_text.specs.Places.{BeginsWhereverCut, IsNextLine, IsNextOfFront, StaysAtEnd};
 
 use std::marker::Model;
 
@@ -73,7 +73,7 @@ fn first_line(text: &[u8]) -> (&[u8], usize)
     ensures line { lines text.now ≡ result.0.now ∷ lines (drop result.1 text.now) }
     ensures some { 1 ≤ result.1 }
     ensures within { result.1 ≤ length text.now }
-    ensures cut { (more : ℕ) → lines (take (result.1 + more) text.now) ≡ result.0.now ∷ lines (take more (drop result.1 text.now)) }
+    ensures cut { BeginsWhereverCut text.now result.0.now result.1 }
 {
     match end_of(text) {
         Some(end) => {

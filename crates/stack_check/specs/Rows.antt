@@ -1,5 +1,5 @@
 -- The checks of a device's line, by what they read of the devices before it.
-use Rattle.std.specs.Prelude.{◌+◌, ◌==◌, ◌&&◌, ◌||◌, if◌then◌else◌, nat_lt, nat_le, not, Bool, false, List, [], ◌∷◌, ℕ, length, map, is_none, is_some, Option, None, Some}
+use Rattle.std.specs.Prelude.{◌≡◌, ◌+◌, ◌==◌, ◌&&◌, ◌||◌, if◌then◌else◌, nat_lt, nat_le, not, Bool, false, List, [], ◌∷◌, ℕ, length, map, is_none, is_some, slice_index_or, Option, None, Some}
 use Rattle.std.specs.List.{list_any}
 use Rattle.stack_base.specs.Tree.{size}
 use Rattle.decl_text.specs.Known.{Declared, all_members, device_of, declares_mirror, number_in, tree_over, trees}
@@ -13,6 +13,10 @@ use Rattle.decl_text.specs.declared.item.What.TheVariants as what
 abbrev pub has_no_room : List Declared → What → Bool
 has_no_room devices (what.Disk sectors) = nat_le 32 (length devices) || nat_le 16 (disks devices) || nat_lt 262144 (all_sectors devices + sectors)
 has_no_room devices _ = nat_le 32 (length devices)
+
+-- these numbers have a flag too, beside those that had one
+abbrev pub SetsFlags : List Bool → List ℕ → List Bool → Type 0
+SetsFlags old numbers new = (n : ℕ) → slice_index_or new n false ≡ (slice_index_or old n false || is_among numbers n)
 
 -- the reserves of its pools
 abbrev pub pool_reserves : What → ℕ → List ℕ

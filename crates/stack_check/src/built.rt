@@ -2,9 +2,9 @@
 ghost use Rattle.std.specs.Prelude.{◌≡◌, ◌<◌, ◌≤◌, [], IfOk, IsTrue, false, map};
 ghost use Rattle.decl_text.specs.Text.{is_name};
 ghost use Rattle.decl_text.specs.Known.{declares_disk};
-ghost use Rattle.decl_text.specs.Accepting.{shown, what_of_kind};
+ghost use Rattle.decl_text.specs.Accepting.{what_of_kind};
 ghost use Rattle.stack_base.specs.Fault.{bads_of_kind};
-ghost use Rattle.stack_check.specs.Finish.{AreBuilt, ranges_of};
+ghost use Rattle.stack_check.specs.Finish.{AreBuilt, IsBuilt, ranges_of};
 ghost use Rattle.stack_check.specs.Sound.{AreSound, AreOfDisks, IsFit, records_of_what};
 
 use crate::draft::BadAt;
@@ -42,7 +42,7 @@ fn device_of(
 ) -> Result<Device, AllocError>
     requires fit { IsFit placed }
     requires clean { declares_disk placed.what ≡ false → ranges_of bad.now number ≡ [] }
-    ensures { IfOk result (λ device. (shown device ≡ placed.entry) × (bads_of_kind device.kind ≡ ranges_of bad.entry.now number)) }
+    ensures { IfOk result (λ device. IsBuilt placed.entry (ranges_of bad.entry.now number) device) }
 {
     let kind = kind_of(alloc, placed.what, number, bad)?;
     Ok(Device {

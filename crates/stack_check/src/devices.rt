@@ -1,11 +1,11 @@
 //! The devices that the lines so far declare.
-ghost use Rattle.std.specs.Prelude.{◌≡◌, ℕ, ◌<◌, ◌≤◌, ◌||◌, [], ◌∷◌, ◌++◌, All, IfSome, IsTrue, MatchResult, false, OnSome, is_none, length, map, slice_get, slice_index_or, unwrap_or};
+ghost use Rattle.std.specs.Prelude.{◌≡◌, ◌<◌, ◌≤◌, ◌||◌, [], ◌∷◌, ◌++◌, All, IfSome, IsTrue, MatchResult, false, OnSome, is_none, length, map, slice_get, unwrap_or};
 ghost use Rattle.std.specs.List.{list_any};
 ghost use Rattle.std.specs.Option.{option_map};
 ghost use Rattle.stack_base.specs.Tree.{size};
 ghost use Rattle.decl_text.specs.Known.{device_of, device_before, number_in, tree_of, trees};
-ghost use Rattle.decl_text.specs.Checks.{has_count, is_among, is_disk_device};
-ghost use Rattle.stack_check.specs.Rows.{device_reason, has_no_room, size_with, takes_taken};
+ghost use Rattle.decl_text.specs.Checks.{has_count, is_disk_device};
+ghost use Rattle.stack_check.specs.Rows.{SetsFlags, device_reason, has_no_room, size_with, takes_taken};
 ghost use Rattle.stack_check.specs.Sound.{AreSound, HasNumbers};
 
 use crate::placed::Placed;
@@ -256,7 +256,7 @@ impl<'a> Devices<'a> {
 /// Sets the flags of these devices.
 fn mark(flags: &mut [bool], members: &[DevId])
     requires { All (λ m. m.0 < length flags.old) members.now }
-    ensures { (k : ℕ) → slice_index_or flags.new k false ≡ (slice_index_or flags.old k false || is_among (map (λ m. m.0) members.now) k) }
+    ensures { SetsFlags flags.old (map (λ m. m.0) members.now) flags.new }
 {
     for member in members {
         flags[member.0 as usize] = true;

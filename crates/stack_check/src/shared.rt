@@ -1,10 +1,9 @@
 //! The scripts of all pools, by falling number.
-ghost use Rattle.std.specs.Prelude.{◌≡◌, ◌≢◌, ◌<◌, ◌≤◌, ◌++◌, All, IfOk, find, length, map, position};
+ghost use Rattle.std.specs.Prelude.{◌≡◌, ◌<◌, ◌≤◌, ◌++◌, All, IfOk, length, position};
 ghost use Rattle.stack_base.specs.PoolId.{pool_number};
-ghost use Rattle.stack_base.specs.declared.ids.PoolId.{PoolId as Pool};
 ghost use Rattle.decl_text.specs.Checks.{is_of_pool};
 ghost use Rattle.decl_text.specs.Accepting.{device_pools, pools};
-ghost use Rattle.stack_check.specs.Finish.{script_among};
+ghost use Rattle.stack_check.specs.Finish.{OthersKeepTheirs, script_among, shared_scripts};
 
 use crate::placed::Placed;
 use crate::scripts::Scripted;
@@ -22,7 +21,7 @@ pub(crate) fn share(
 ) -> Result<Vec<(PoolId, Script)>, AllocError>
     requires few { length placed.now ≤ 32 }
     requires small { All (λ s. pool_number s.pool ≤ 65) given.items }
-    ensures { IfOk result (λ shared. shared.items ≡ map (λ pool. (pool, script_among given.items tail pool)) (pools placed.now)) }
+    ensures { IfOk result (λ found. found.items ≡ shared_scripts placed.now given.items tail) }
 {
     let pools = pools_of(alloc, placed)?;
     let mut shared = Vec::new(alloc);
@@ -74,7 +73,7 @@ fn take_script(alloc: Global, given: &mut Vec<Scripted>, pool: PoolId, tail: boo
     requires pool { pool_number pool ≤ 65 }
     requires small { All (λ s. pool_number s.pool ≤ 65) given.old.items }
     ensures script { result ≡ script_among given.old.items tail pool }
-    ensures others { (other : Pool) → pool_number other ≢ pool_number pool → find (is_of_pool other) given.new.items ≡ find (is_of_pool other) given.old.items }
+    ensures others { OthersKeepTheirs pool given.old.items given.new.items }
     ensures small { All (λ s. pool_number s.pool ≤ 65) given.new.items }
 {
     match place_of(given, pool) {

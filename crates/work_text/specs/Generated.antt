@@ -102,9 +102,13 @@ abbrev pub words_of_runs : ℕ → List Run → List (List (List ℕ))
 words_of_runs number [] = []
 words_of_runs number (run ∷ more) = write_words number run ∷ words_of_runs (number + 1) more
 
--- behind the words of the declarations; each write has a sector, so one count for each sector is enough
+-- writes by the next words, as many as fit so many sectors; each write has a sector, so one count for each sector is enough
+abbrev pub fitting_writes : ℕ → Lcg → List (List (List ℕ))
+fitting_writes sectors g = words_of_runs 0 (runs sectors 0 (counts (sectors + 1) g))
+
+-- behind the words of the declarations
 abbrev pub writes : Lcg → List (List (List ℕ))
-writes g = words_of_runs 0 (runs (mirror_size g) 0 (counts (mirror_size g + 1) (behind_all 6 g)))
+writes g = fitting_writes (mirror_size g) (behind_all 6 g)
 
 -- ---- the text
 

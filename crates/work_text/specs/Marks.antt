@@ -1,5 +1,5 @@
 -- What the marks of sectors tell of the writes so far.
-use Rattle.std.specs.Prelude.{◌≡◌, ◌⊎◌, ◌+◌, ◌*◌, ◌^◌, ◌/◌, ◌%◌, ◌<◌, ◌≤◌, ◌==◌, ◌&&◌, if◌then◌else◌, nat_le, nat_lt, Bool, false, List, [], ℕ, length, map, slice_get, slice_index_or, Some}
+use Rattle.std.specs.Prelude.{◌≡◌, ◌⊎◌, ◌+◌, ◌*◌, ◌^◌, ◌/◌, ◌%◌, ◌<◌, ◌≤◌, ◌==◌, ◌&&◌, if◌then◌else◌, nat_le, nat_lt, Bool, false, List, [], ℕ, length, map, replicate, slice_get, slice_index_or, Some}
 use Rattle.std.specs.List.{list_any, range_with_len}
 use Rattle.stack_base.specs.Tree.{tree, size}
 use Rattle.stack_base.specs.declared.stack.Stack.{Stack}
@@ -33,6 +33,10 @@ marks_in count pages = map (mark_in pages) (range_with_len 0 count)
 pub record ArePages (count : ℕ) (pages : List (List ℕ)) : Type 0 where
   pub there : count ≤ 4096 * length pages
   pub small : count < 2 ^ 64
+
+-- blank pages, enough for so many sectors
+abbrev pub AreBlankFor : ℕ → List (List ℕ) → Type 0
+AreBlankFor sectors pages = (pages ≡ replicate (length pages) []) × (sectors ≤ 4096 * length pages)
 
 -- a page has room for its marks, and all of them or none
 pub record IsPage (capacity count : ℕ) : Type 0 where

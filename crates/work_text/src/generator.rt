@@ -1,6 +1,6 @@
 //! Makes a large text of a number.
 ghost use Rattle.std.specs.Prelude.{◌≡◌, ◌+◌, ◌%◌, ◌<◌, ◌≤◌, ◌++◌, flat_map, IfOk, OnOk};
-ghost use Rattle.work_text.specs.Generated.{behind, behind_all, chunk_in, counts, declaration_words, generated, limit_words, line_of, longest_in, memory_words, mirror_size, runs, stripe_size, stripe_words, text_of, word, write_words, words_of_runs};
+ghost use Rattle.work_text.specs.Generated.{behind, behind_all, chunk_in, declaration_words, fitting_writes, generated, limit_words, line_of, longest_in, memory_words, mirror_size, stripe_size, stripe_words, text_of, word, write_words};
 
 use itoa::Buffer;
 use rand_core::SeedableRng;
@@ -153,7 +153,7 @@ fn add_stripe_of<'a>(
 // Adds the writes that fit this many sectors.
 fn add_writes(text: &mut Vec<u8>, words: &mut Lcg64Xsh32, sectors: u64) -> Result<(), AllocError>
     requires { sectors ≤ 65536 }
-    ensures { OnOk result (text.new.items ≡ text.old.items ++ text_of (words_of_runs 0 (runs sectors 0 (counts (sectors + 1) words.old)))) }
+    ensures { OnOk result (text.new.items ≡ text.old.items ++ text_of (fitting_writes sectors words.old)) }
 {
     let mut number = 0;
     let mut start = 0;

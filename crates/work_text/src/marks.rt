@@ -1,8 +1,8 @@
 //! Which sectors of a device have a write of the present round.
-ghost use Rattle.std.specs.Prelude.{◌≡◌, ◌+◌, ◌*◌, ◌/◌, ◌==◌, ◌<◌, ◌≤◌, [], IfOk, length, replicate, slice_index_or};
+ghost use Rattle.std.specs.Prelude.{◌≡◌, ◌+◌, ◌/◌, ◌==◌, ◌<◌, ◌≤◌, [], IfOk, length, replicate, slice_index_or};
 ghost use Rattle.std.specs.List.{list_any, range_with_len};
 ghost use Rattle.stack_base.specs.Stack.{IsStack};
-ghost use Rattle.work_text.specs.Marks.{AreMarks, IsMarked, IsRow, IsSetAt, mark_in};
+ghost use Rattle.work_text.specs.Marks.{AreBlankFor, AreMarks, IsMarked, IsRow, IsSetAt, mark_in};
 
 use crate::mark_page::{PAGE, Page};
 use crate::names::is_member;
@@ -58,7 +58,7 @@ impl Model for Marks {
 
 // Empty pages for so many sectors.
 fn empty_pages(alloc: Global, sectors: u64) -> Result<Vec<Page>, AllocError>
-    ensures { IfOk result (λ pages. (pages.items ≡ replicate (length pages.items) []) × (sectors ≤ 4096 * length pages.items)) }
+    ensures { IfOk result (λ pages. AreBlankFor sectors pages.items) }
 {
     let mut pages = Vec::new(alloc);
     for _ in 0..sectors.div_ceil(PAGE) {

@@ -3,8 +3,9 @@ use Rattle.stack_base.specs.declared.stack.Stack.{Stack}
 use Rattle.stack_base.specs.Tree.{size}
 use Rattle.decl_text.specs.Known.{Known, Reserves, trees}
 use Rattle.decl_text.specs.Accepting.{Means, shown_devices}
+use Rattle.stack_check.specs.Finish.{shared_scripts}
 use Rattle.stack_check.specs.Sound.{AreSound}
-use Rattle.stack_check.proofs.FinishLemmas.{means_from, shared}
+use Rattle.stack_check.proofs.FinishLemmas.{means_from}
 use Rattle.stack_check.proofs.StackLemmas.{is_stack}
 use Rattle.stack_check.proofs.finish.meaning.Goals as goal
 
@@ -19,7 +20,7 @@ returns c =
     means_from known stack scripts c.into_placed-placed.result.0.items c.deref-2.result.now given c.reserves_of-fs.result
     c.into_placed-placed.ensures.devices c.deref-2.ensures.value c.into_given.ensures.scripts c.reserves_of-fs.ensures c.in_ok-devices.ensures
     (ap (λ (r : Reserves). r.bios) c.fs.view_is) (ap (λ (r : Reserves). r.vecs) c.fs.view_is)
-    (c.in_ok-scripts.ensures ∙ ap (λ ds. shared ds given (not inside.no_memory)) c.deref.ensures.value) in
+    (c.in_ok-scripts.ensures ∙ ap (λ ds. shared_scripts ds given (not inside.no_memory)) c.deref.ensures.value) in
     let sound : AreSound (shown_devices stack) = subst AreSound (sym c.in_ok-devices.ensures.shown) c.into_placed-placed.ensures.sound in
     let sizes : stack.sizes.items ≡ map size (trees (shown_devices stack)) =
     c.into_placed-placed.ensures.sizes ∙ ap (λ ds. map size (trees ds)) (sym c.in_ok-devices.ensures.shown) in
