@@ -95,9 +95,11 @@ pub fn events_have_charges()
     ensures later { EventsUseUpCharges }
 {}
 
-/// How many things pay for events the layout tells: of the elements that all writes need, their own bios, their
-/// vectors, the records of mirrors, and the bios of first pieces and of legs; and the fragments. So of each kind of
-/// event no run of any scenario has more than there are of what pays for it.
+/// How many things pay for events, the scenario tells by its layout, its scripts, its rounds and its changes of reserves:
+/// the bios of writes, their vectors, the records of mirrors, and the bios of first pieces and of legs, which are together
+/// the elements that all writes need; the fragments; the entries of scripts, the rounds behind the first, and the changes.
+/// Whatever the price of each kind of event, all that a scenario is charged is the sum of what each of these pays. And of
+/// each kind of event no run of any scenario has more than there are of what pays for it.
 pub fn each_kind_is_within_its_payers()
     ensures counted { PayersAreCounted }
     ensures kinds { EachKindIsWithinItsPayers }
@@ -189,8 +191,9 @@ pub fn images_are_of_completed()
 {}
 
 /// After every event of every run of every scenario all that is at work is of writes of the present round: each open node, what completers still
-/// carry of closed ones, and each bio that is submitted or brought or waits for a rescuer or in a disk. So nothing of an earlier round is left when
-/// a round starts. What a writer has gathered for a write that has not begun, and what a task that broke off keeps, is not at work.
+/// carry of closed ones, each bio that is submitted or brought or waits for a rescuer or in a disk, and each that a mirror copies. So nothing of an
+/// earlier round is left when a round starts. What a writer has gathered for a write that has not begun, and what a task that broke off keeps, is not
+/// at work.
 pub fn work_is_of_the_present_round()
     ensures { WorkIsPresent }
 {}

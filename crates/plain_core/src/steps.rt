@@ -22,10 +22,12 @@ use crate::steps::task::{Completer, Keeper, Rescuer, Task, Writer};
 use crate::steps::writer::{start, writer_step};
 use task_core::{Routes, What};
 
-/// The rescuer of a device's set goes on with what the event tells (`bio_alloc_rescue`, `block/bio.c`).
+/// The rescuer of a device's set goes on with what the event tells (`bio_alloc_rescue`, `block/bio.c`): with what it submits, or, where that is over,
+/// with the next bio that waits for it.
 ///
 /// # Errors
-/// Where it can't, or where it can, but there is no memory for it. Then nothing is changed.
+/// `NotEnabled` where no answer to its next request is what the event tells, and `Memory` where one is, but there is no memory to go on with it. Then
+/// nothing is changed.
 pub fn rescuer_step(
     routes: &Routes,
     objects: &mut Objects,
@@ -52,7 +54,8 @@ pub fn rescuer_step(
 /// A task goes on with what the event tells, where its next request can be answered so.
 ///
 /// # Errors
-/// Where it can't, or where it can, but there is no memory for it. Then nothing is changed.
+/// `NotEnabled` where the task may not ask yet, or where no answer to its next request is what the event tells, and `Memory` where one is, but there
+/// is no memory to go on with it. Then nothing is changed.
 pub fn task_step(
     routes: &Routes,
     objects: &mut Objects,

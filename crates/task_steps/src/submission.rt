@@ -187,7 +187,7 @@ impl Submission {
         }
     }
 
-    /// The bio is submitted, and none waits.
+    /// The submission of this bio, which has come to its driver while none waits.
     #[inline(always)] // as `becomes`
     pub fn begin(routes: &Routes, bio: BioElement) -> Submission
         requires within { IsWithinDevice routes.now.stack (item_of bio).bio }

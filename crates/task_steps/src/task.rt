@@ -68,7 +68,7 @@ impl Model for Task {
 }
 
 impl Task {
-    /// A task of this kind.
+    /// A task of this kind, which knows of devices what these routes tell.
     pub fn new(routes: Arc<Routes>, kind: Kind) -> Task
         ensures { result ≡ record { routing = routes.value; state = task_of kind } }
     {

@@ -106,7 +106,7 @@ impl Lists {
         }
     }
 
-    /// Leaves no bio.
+    /// Empties both lists.
     pub fn clear(&mut self)
         ensures { lists_of self.new ≡ no_lists }
     {

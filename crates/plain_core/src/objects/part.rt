@@ -122,7 +122,7 @@ impl Hand {
         Hand { pool: self.pool }
     }
 
-    /// The element with a bio in it.
+    /// The element with this bio and this pad in it, and with no segments.
     pub fn with(&self, bio: Bio, pad: Pad) -> Part
         ensures { result ≡ record self.now { bio = bio; pad = pad } }
     {

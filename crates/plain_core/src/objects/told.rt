@@ -34,7 +34,7 @@ pub fn gives(what: &What, pool: PoolId) -> bool
     }
 }
 
-/// Whether so many bios were punted.
+/// Whether so many bios of this device's set were punted.
 pub fn punts(what: &What, dev: DevId, moved: u64) -> bool
     ensures { IsDecisionOf result (what.now ≡ told.Punt dev moved) }
 {
@@ -72,7 +72,7 @@ pub fn pushes(what: &What, dev: DevId, start: u64, sectors: u64, leg: u32) -> bo
     }
 }
 
-/// Which bio of this disk ended, and how.
+/// Which bio of this disk ended, by its place among those that wait there, and how, if the event tells of one.
 pub fn completed_of(what: &What, disk: DevId) -> Option<(u64, Status)>
     ensures { IsCompletionRead disk what.now result }
 {

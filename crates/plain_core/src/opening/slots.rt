@@ -11,7 +11,8 @@ use crate::steps::task::{PlainDoing, PlainSubmission, Task};
 use std::alloc::{AllocError, Global};
 use task_core::TaskId;
 
-/// Where the place of a task is kept: writers come first, by their numbers, then rescuers and completers by their devices, and the keeper last.
+/// Where the place of a task is kept: writers come first, by their numbers, then all rescuers, by their devices, then all completers, by their disks,
+/// and the keeper last.
 pub fn slot_of(task: TaskId) -> u64
     ensures { result ≡ slot_of task }
 {

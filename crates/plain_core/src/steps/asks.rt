@@ -41,7 +41,7 @@ pub fn resize(objects: &mut Objects, pool: PoolId, min: u32, what: &What) -> Res
     objects.resize(pool, min, what)
 }
 
-/// A round starts.
+/// The round of this number starts.
 pub fn next_round(objects: &mut Objects, round: u32, what: &What) -> Result<(), CoreFault>
     ensures { AnswersRequest objects.old (NextRound round) what.now (λ done. Did) result objects.new }
 {

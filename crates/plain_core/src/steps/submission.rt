@@ -157,7 +157,8 @@ fn answer(
 /// A submission goes on with what the event tells, where its next request can be answered so.
 ///
 /// # Errors
-/// Where it can't, or where it can, but there is no memory for it. Then nothing is changed.
+/// `NotEnabled` where no answer to its next request is what the event tells, and `Memory` where one is, but there is no memory to go on with it. Then
+/// nothing is changed.
 pub fn submission_step(
     routes: &Routes,
     objects: &mut Objects,

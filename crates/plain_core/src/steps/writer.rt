@@ -193,7 +193,8 @@ fn write_step(
 /// A writer goes on with what the event tells.
 ///
 /// # Errors
-/// Where it can't, or where it can, but there is no memory for it. Then nothing is changed.
+/// `NotEnabled` where the round of its next write has not come, or where no answer to its next request is what the event tells, and `Memory` where one
+/// is, but there is no memory to go on with it. Then nothing is changed.
 pub fn writer_step(
     routes: &Routes,
     objects: &mut Objects,
