@@ -2,6 +2,7 @@
 use Rattle.std.specs.Prelude.{◌++◌, ℕ, List, [], ◌∷◌, codes, decimal}
 use Rattle.std.specs.List.{join_with_byte}
 use Rattle.stack_base.specs.declared.ids.PoolId.{PoolId}
+use Rattle.stack_base.specs.declared.ids.Status.{Status}
 use Rattle.stack_base.specs.declared.ids.PoolId.TheVariants.{FsBios, FsVecs, Bios, Records}
 use Rattle.stack_base.specs.declared.stack.Stack.{Stack}
 use Rattle.stack_base.specs.Names.{name_of_device}
@@ -47,6 +48,19 @@ task_word stack (task.Rescuer dev) = codes "r:" ++ name_of_device stack dev.0
 task_word stack (task.Completer disk) = codes "c:" ++ name_of_device stack disk.0
 task_word stack task.Keeper = codes "k"
 
+-- that a node was opened, that it was told of an end, that a write is done and that a round starts, in words
+abbrev pub link_words : ℕ → How → ℕ → List (List ℕ)
+link_words writer how node = codes "link" ∷ decimal writer ∷ how_word how ∷ decimal node ∷ []
+
+abbrev pub drop_words : ℕ → ℕ → Status → End → List (List ℕ)
+drop_words writer node status end = codes "drop" ∷ decimal writer ∷ decimal node ∷ status_word status ∷ end_word end ∷ []
+
+abbrev pub done_words : ℕ → Status → List (List ℕ)
+done_words write status = codes "done" ∷ decimal write ∷ status_word status ∷ []
+
+abbrev pub round_words : ℕ → List (List ℕ)
+round_words round = codes "round" ∷ decimal round ∷ []
+
 -- what a task did, in words
 abbrev pub what_words : Stack → What → List (List ℕ)
 what_words stack (what.Take pool got) = codes "take" ∷ pool_word stack pool ∷ got_word got ∷ []
@@ -57,12 +71,11 @@ what_words stack (what.Pop dev) = codes "pop" ∷ name_of_device stack dev.0 ∷
 what_words stack (what.Push disk at len leg) =
     codes "push" ∷ name_of_device stack disk.0 ∷ decimal at ∷ decimal len ∷ codes "leg" ∷ decimal leg ∷ []
 what_words stack (what.Complete disk index status) = codes "complete" ∷ name_of_device stack disk.0 ∷ decimal index ∷ status_word status ∷ []
-what_words stack (what.Link writer how node) = codes "link" ∷ decimal writer ∷ how_word how ∷ decimal node ∷ []
-what_words stack (what.Drop writer node status end) =
-    codes "drop" ∷ decimal writer ∷ decimal node ∷ status_word status ∷ end_word end ∷ []
-what_words stack (what.Done write status) = codes "done" ∷ decimal write ∷ status_word status ∷ []
+what_words stack (what.Link writer how node) = link_words writer how node
+what_words stack (what.Drop writer node status end) = drop_words writer node status end
+what_words stack (what.Done write status) = done_words write status
 what_words stack (what.Resize pool min) = codes "resize" ∷ pool_word stack pool ∷ decimal min ∷ []
-what_words stack (what.Round round) = codes "round" ∷ decimal round ∷ []
+what_words stack (what.Round round) = round_words round
 
 abbrev pub words_of : Stack → Event → List (List ℕ)
 words_of stack event = codes "event" ∷ task_word stack event.task ∷ what_words stack event.what

@@ -1,10 +1,9 @@
 //! Writes events.
-ghost use Rattle.std.specs.Prelude.{◌≡◌, ◌+◌, ◌≤◌, ◌++◌, ◌∷◌, [], codes, decimal, length};
-ghost use Rattle.trace_text.specs.Lines.{end_word, how_word, line_of_event, pool_word, task_word, what_words};
+ghost use Rattle.std.specs.Prelude.{◌≡◌, ◌+◌, ◌≤◌, ◌++◌, ◌∷◌, decimal, length};
+ghost use Rattle.trace_text.specs.Lines.{done_words, drop_words, line_of_event, link_words, pool_word, round_words, task_word, what_words};
 ghost use Rattle.stack_base.specs.Names.{name_of_device};
 ghost use Rattle.trace_text.specs.Writing.{spaced};
 ghost use Rattle.run_machine.specs.declared.event.What.TheVariants as what;
-ghost use Rattle.run_machine.specs.StatusWords.{status_word};
 
 use crate::verb::{end_word, got_word, how_word};
 use arrayvec::ArrayVec;
@@ -165,7 +164,7 @@ fn complete(into: &mut LineBytes, stack: &Stack, disk: DevId, index: u64, status
 
 fn link(into: &mut LineBytes, writer: u32, how: How, node: u32)
     requires { length into.old.items ≤ 27 }
-    ensures { into.new.items ≡ into.old.items ++ spaced (codes "link" ∷ decimal writer ∷ how_word how ∷ decimal node ∷ []) }
+    ensures { into.new.items ≡ into.old.items ++ spaced (link_words writer how node) }
 {
     put(into, b"link");
     put_number(into, u64::from(writer));
@@ -175,7 +174,7 @@ fn link(into: &mut LineBytes, writer: u32, how: How, node: u32)
 
 fn drop_node(into: &mut LineBytes, writer: u32, node: u32, status: Status, end: End)
     requires { length into.old.items ≤ 27 }
-    ensures { into.new.items ≡ into.old.items ++ spaced (codes "drop" ∷ decimal writer ∷ decimal node ∷ status_word status ∷ end_word end ∷ []) }
+    ensures { into.new.items ≡ into.old.items ++ spaced (drop_words writer node status end) }
 {
     put(into, b"drop");
     put_number(into, u64::from(writer));
@@ -186,7 +185,7 @@ fn drop_node(into: &mut LineBytes, writer: u32, node: u32, status: Status, end: 
 
 fn done(into: &mut LineBytes, write: u32, status: Status)
     requires { length into.old.items ≤ 27 }
-    ensures { into.new.items ≡ into.old.items ++ spaced (codes "done" ∷ decimal write ∷ status_word status ∷ []) }
+    ensures { into.new.items ≡ into.old.items ++ spaced (done_words write status) }
 {
     put(into, b"done");
     put_number(into, u64::from(write));
@@ -204,7 +203,7 @@ fn resize(into: &mut LineBytes, stack: &Stack, pool: PoolId, min: u32)
 
 fn round_starts(into: &mut LineBytes, round: u32)
     requires { length into.old.items ≤ 27 }
-    ensures { into.new.items ≡ into.old.items ++ spaced (codes "round" ∷ decimal round ∷ []) }
+    ensures { into.new.items ≡ into.old.items ++ spaced (round_words round) }
 {
     put(into, b"round");
     put_number(into, u64::from(round));

@@ -11,12 +11,14 @@ use Rattle.decl_text.specs.Known.{Known, device_of, present}
 use Rattle.decl_text.specs.Checks.{is_empty_list}
 use Rattle.decl_text.specs.Accepting.{shown_devices}
 use Rattle.decl_text.specs.Refusals.{first_found}
+use Rattle.decl_text.specs.declared.line.LineFault.{LineFault}
 use Rattle.decl_text.specs.declared.reason.Reason.{Reason}
 use Rattle.decl_text.specs.declared.item.Item.{Item}
 use Rattle.decl_text.specs.declared.item.Item.TheVariants as item
 use Rattle.work_text.specs.Work.{as_written, resized, known_of, last_round, all_checks}
 use Rattle.work_text.specs.declared.Resize.{Resize}
 use Rattle.work_text.specs.declared.Work.{Work}
+use Rattle.work_text.specs.Lines.{AddsWork}
 use Rattle.work_text.specs.Marks.{is_member, AreMarks}
 use Rattle.work_text.specs.declared.draft.Draft.{Draft}
 
@@ -27,6 +29,10 @@ known_with stack work syncs =
 
 abbrev pub known_so_far : Stack → Draft → Known
 known_so_far stack draft = known_with stack draft.work draft.syncs
+
+-- what is told passes all checks by what a draft knows so far, and the draft knows it then, or this check finds it
+abbrev pub AddsToDraft : Stack → Draft → Item → Draft → Result (Unit {0}) LineFault → Type 0
+AddsToDraft stack before said after_it result = AddsWork (known_so_far stack before) said (known_so_far stack after_it) result
 
 -- the stack serves the writes, they need so much, and the marks tell of those of the present round
 pub record IsDraft (stack : Stack) (draft : Draft) : Type 0 where

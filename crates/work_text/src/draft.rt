@@ -5,8 +5,8 @@ ghost use Rattle.stack_base.specs.Tree.{size, tree};
 ghost use Rattle.decl_text.specs.Fit.{IsFitStack};
 ghost use Rattle.decl_text.specs.Stands.{stand_of};
 ghost use Rattle.decl_text.specs.declared.item.Item.TheVariants as item;
-ghost use Rattle.work_text.specs.Draft.{ChecksWrite, IsDraft, IsLeftOf, known_so_far};
-ghost use Rattle.work_text.specs.Lines.{AddsWork, CanStand, HasSectors, ReadsLine, told_item};
+ghost use Rattle.work_text.specs.Draft.{AddsToDraft, ChecksWrite, IsDraft, IsLeftOf, known_so_far};
+ghost use Rattle.work_text.specs.Lines.{CanStand, HasSectors, ReadsLine, told_item};
 ghost use Rattle.work_text.specs.Work.{known_of};
 
 use crate::limits::{MOST_ELEMENTS, MOST_RESERVE, MOST_RESIZES, MOST_SECTORS, MOST_SYNCS};
@@ -126,7 +126,7 @@ impl Draft {
         requires sectors { HasSectors told.now }
         ensures draft { OnOk result (IsDraft stack.now self.new) }
         ensures entries { OnOk result (self.new.work.bound.z ≡ self.old.work.bound.z) }
-        ensures added { AddsWork (known_so_far stack.now self.old) (told_item told.now) (known_so_far stack.now self.new) result }
+        ensures added { AddsToDraft stack.now self.old (told_item told.now) self.new result }
     {
         match told {
             Told::Write {
@@ -146,7 +146,7 @@ impl Draft {
         requires draft { IsDraft stack.now self.old }
         ensures draft { OnOk result (IsDraft stack.now self.new) }
         ensures entries { OnOk result (self.new.work.bound.z ≡ self.old.work.bound.z) }
-        ensures added { AddsWork (known_so_far stack.now self.old) item.Sync (known_so_far stack.now self.new) result }
+        ensures added { AddsToDraft stack.now self.old item.Sync self.new result }
     {
         if self.syncs >= MOST_SYNCS {
             return Err(LineFault::Wrong(Reason::TooLarge));
@@ -163,7 +163,7 @@ impl Draft {
         requires draft { IsDraft stack.now self.old }
         ensures draft { OnOk result (IsDraft stack.now self.new) }
         ensures entries { OnOk result (self.new.work.bound.z ≡ self.old.work.bound.z) }
-        ensures added { AddsWork (known_so_far stack.now self.old) (item.Resize name.now min) (known_so_far stack.now self.new) result }
+        ensures added { AddsToDraft stack.now self.old (item.Resize name.now min) self.new result }
     {
         let pool = pool_of(stack, name);
         if resizes::has_resize(&self.work.resizes, self.syncs, pool) {
@@ -202,7 +202,7 @@ impl Draft {
         requires some { 1 ≤ range.len }
         ensures draft { OnOk result (IsDraft stack.now self.new) }
         ensures entries { OnOk result (self.new.work.bound.z ≡ self.old.work.bound.z) }
-        ensures added { AddsWork (known_so_far stack.now self.old) (item.Write task name.now range tag) (known_so_far stack.now self.new) result }
+        ensures added { AddsToDraft stack.now self.old (item.Write task name.now range tag) self.new result }
     {
         let Some(dev) = device_of(stack, name) else {
             return Err(LineFault::Wrong(Reason::NoSuchDevice));
