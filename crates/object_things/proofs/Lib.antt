@@ -3,6 +3,6 @@ mod Pops
 pub mod Rising
 pub mod Looking
 pub mod Refused
-mod Spent
+pub mod Spent
 mod Counting
 mod Adding

@@ -11,59 +11,19 @@ use Rattle.mempool_core.specs.Pool.{LedgerPool}
 use Rattle.seat_lock.specs.History.{Leads}
 use Rattle.run_machine.specs.Laws.{Object, OfPool, OfRescuer, OfDisk, OfBook, OfTally, OfNone}
 use Rattle.run_machine.specs.Requests.{Request, Reply, TakeBio, TakeVec, TakeSlip, GiveBio, GiveVec, GiveSlip, Punt, Pop, Push, Complete, Link, Drop, Done, Resize, NextRound, LookRound, LookLeft, Missed, Present, LeftOver, Nothing, Spent}
-use Rattle.object_things.specs.Books.{BookServes, BookLooks}
-use Rattle.object_things.specs.Disks.{DiskServes, DiskLooks}
+use Rattle.object_things.specs.Books.{BookLooks}
+use Rattle.object_things.specs.Disks.{DiskLooks}
 use Rattle.object_things.specs.Histories.{Call, FoundNone}
-use Rattle.object_things.specs.Lists.{ListServes, ListLooks}
-use Rattle.object_things.specs.Pools.{PoolServes, PoolLooks}
+use Rattle.object_things.specs.Lists.{ListLooks}
+use Rattle.object_things.specs.Pools.{PoolLooks}
 use Rattle.object_things.specs.Stamps.{ThingState, StepOf, is_spent}
-use Rattle.object_things.specs.Tallies.{TallyServes, TallyLooks}
+use Rattle.object_things.specs.Tallies.{TallyLooks}
+use Rattle.object_things.proofs.Spent.{book_unserved, book_keeps, disk_unserved, disk_keeps, list_unserved, list_keeps, pool_unserved, pool_keeps, tally_unserved, tally_keeps}
 use Rattle.shared_objects.specs.Kinds.{ThingAt, serves_at, looks_at, answers_at}
 use Rattle.shared_objects.specs.Logs.{is_stop}
 use Rattle.shared_objects.proofs.tickets.CallOwners.{first_there}
 
 -- a look that is not told that there was no ticket leaves the object marked or unmarked
-pool_keeps : (old new : ThingState LedgerPool) (asked : Request) (reply : Reply) → PoolLooks old asked reply new → is_spent reply ≡ false → new.spent ≡ old.spent
--- a miss that drew no ticket leaves as many
-pool_keeps old new (TakeBio set waits) (Missed used) looks not_none = looks.3
-pool_keeps old new TakeVec (Missed used) looks not_none = looks.3
-pool_keeps old new (TakeSlip dev) (Missed used) looks not_none = looks.3
--- who is told that there was no ticket is left out
-pool_keeps old new (TakeBio set waits) Spent looks not_none = absurd (true≢false not_none)
-pool_keeps old new TakeVec Spent looks not_none = absurd (true≢false not_none)
-pool_keeps old new (TakeSlip dev) Spent looks not_none = absurd (true≢false not_none)
-pool_keeps old new (GiveBio bio) Spent looks not_none = absurd (true≢false not_none)
-pool_keeps old new (GiveVec vector) Spent looks not_none = absurd (true≢false not_none)
-pool_keeps old new (GiveSlip slip) Spent looks not_none = absurd (true≢false not_none)
-pool_keeps old new (Resize pool min) Spent looks not_none = absurd (true≢false not_none)
--- a look at a pool is nothing else
-pool_keeps old new asked reply looks not_none = absurd looks
-
-list_keeps : (old new : ThingState Rescue) (asked : Request) (reply : Reply) → ListLooks old asked reply new → is_spent reply ≡ false → new.spent ≡ old.spent
-list_keeps old new (Pop dev) Nothing looks not_none = looks.1.1
-list_keeps old new (Punt dev moved) Spent looks not_none = absurd (true≢false not_none)
-list_keeps old new (Pop dev) Spent looks not_none = absurd (true≢false not_none)
-list_keeps old new asked reply looks not_none = absurd looks
-
-disk_keeps : (old new : ThingState DiskState) (asked : Request) (reply : Reply) → DiskLooks old asked reply new → is_spent reply ≡ false → new.spent ≡ old.spent
-disk_keeps old new (Complete disk) (LeftOver count) looks not_none = looks.1.1
-disk_keeps old new (Complete disk) Nothing looks not_none = looks.1.1
-disk_keeps old new (Push bio) Spent looks not_none = absurd (true≢false not_none)
-disk_keeps old new (Complete disk) Spent looks not_none = absurd (true≢false not_none)
-disk_keeps old new asked reply looks not_none = absurd looks
-
-book_keeps : (old new : ThingState BookState) (asked : Request) (reply : Reply) → BookLooks old asked reply new → is_spent reply ≡ false → new.spent ≡ old.spent
-book_keeps old new (Link writer opening) Spent looks not_none = absurd (true≢false not_none)
-book_keeps old new (Drop writer node status part) Spent looks not_none = absurd (true≢false not_none)
-book_keeps old new asked reply looks not_none = absurd looks
-
-tally_keeps : (old new : ThingState TallyState) (asked : Request) (reply : Reply) → TallyLooks old asked reply new → is_spent reply ≡ false → new.spent ≡ old.spent
-tally_keeps old new LookRound (Present round) looks not_none = looks.1.1
-tally_keeps old new LookLeft (LeftOver count) looks not_none = looks.1.1
-tally_keeps old new (Done write status) Spent looks not_none = absurd (true≢false not_none)
-tally_keeps old new (NextRound round) Spent looks not_none = absurd (true≢false not_none)
-tally_keeps old new asked reply looks not_none = absurd looks
-
 look_keeps : (name : Object) (old new : ThingState (ThingAt name)) (asked : Request) (reply : Reply) → looks_at name old asked reply new → is_spent reply ≡ false → new.spent ≡ old.spent
 look_keeps (OfPool number) old new asked reply looks not_none = pool_keeps old new asked reply looks not_none
 look_keeps (OfRescuer dev) old new asked reply looks not_none = list_keeps old new asked reply looks not_none
@@ -82,32 +42,12 @@ looks_spent name old new asked reply looks had none = by_test (is_spent reply) r
     by_test false is = absurd (true≢false (sym none ∙ look_keeps name old new asked reply looks is ∙ had))
 
 -- nothing that was served said so
-none_pool : {X : Type 0} (old new : LedgerPool) (asked : Request) → PoolServes old asked Spent new → X
-none_pool old new (GiveBio bio) serves = absurd serves
-none_pool old new asked serves = absurd serves
-
-none_list : {X : Type 0} (old new : Rescue) (asked : Request) → ListServes old asked Spent new → X
-none_list old new (Pop dev) serves = absurd serves
-none_list old new asked serves = absurd serves
-
-none_disk : {X : Type 0} (old new : DiskState) (asked : Request) → DiskServes old asked Spent new → X
-none_disk old new (Push bio) serves = absurd serves
-none_disk old new asked serves = absurd serves
-
-none_book : {X : Type 0} (old new : BookState) (asked : Request) → BookServes old asked Spent new → X
-none_book old new (Link writer opening) serves = absurd serves
-none_book old new asked serves = absurd serves
-
-none_tally : {X : Type 0} (old new : TallyState) (asked : Request) → TallyServes old asked Spent new → X
-none_tally old new (Done write status) serves = absurd serves
-none_tally old new asked serves = absurd serves
-
 pub none_served : {X : Type 0} (name : Object) (old new : ThingAt name) (asked : Request) → serves_at name old asked Spent new → X
-none_served (OfPool number) old new asked serves = none_pool old new asked serves
-none_served (OfRescuer dev) old new asked serves = none_list old new asked serves
-none_served (OfDisk dev) old new asked serves = none_disk old new asked serves
-none_served (OfBook writer) old new asked serves = none_book old new asked serves
-none_served OfTally old new asked serves = none_tally old new asked serves
+none_served (OfPool number) old new asked serves = absurd (pool_unserved old asked new serves)
+none_served (OfRescuer dev) old new asked serves = absurd (list_unserved old asked new serves)
+none_served (OfDisk dev) old new asked serves = absurd (disk_unserved old asked new serves)
+none_served (OfBook writer) old new asked serves = absurd (book_unserved old asked new serves)
+none_served OfTally old new asked serves = absurd (tally_unserved old asked new serves)
 none_served OfNone old new asked serves = absurd serves
 
 -- where an object has no more tickets, a call found none
