@@ -6,8 +6,8 @@ use Rattle.std.proofs.lemmas.Bool.{cases_eq, cases_lt}
 use Rattle.std.proofs.lemmas.Bool.Decides.{nat_tests}
 use Rattle.std.proofs.lemmas.List.FromFn.{get_or-map-range_with_len, length-map-range_with_len}
 use Rattle.stack_base.specs.declared.ids.Range.{Range}
-use Rattle.model_disks.specs.Runs.{EndsWithin, IsApart, IsFirst, IsNextRun, flag, runs_from, starts_run}
-use Rattle.model_disks.proofs.WrittenLemmas.{no_runs, next_run_is, run_has_sectors, unset_at}
+use Rattle.model_disks.specs.Runs.{EndsWithin, IsApart, IsFirst, IsNextRun, flag, runs_from}
+use Rattle.model_disks.proofs.WrittenLemmas.{inside_starts_none, no_runs, next_run_is, run_has_sectors, unset_at}
 use Rattle.mirror_scrub.specs.declared.pair.Pair.{Pair}
 use Rattle.mirror_scrub.specs.declared.stretch.Stretch.{Stretch}
 use Rattle.mirror_scrub.specs.Seen.{differing}
@@ -123,15 +123,11 @@ run_after flags from next None behind none first = first_after flags true from n
 run_after flags from next (Some run) behind none first =
     record { start = first_after flags true from next run.start behind none first.start; inside = first.inside; end = first.end }
 
-no_start_inside : (flags : List Bool) (x : ℕ) → 0 < x → flag flags (x - 1) ≡ true → starts_run flags x ≡ false
-unfolding starts_run
-no_start_inside flags x some set = grind (arith, nat_tests)
-
 -- a place that is not inside a run is not set where it is behind one that is
 pub unset_behind : (flags : List Bool) (from : ℕ) → IsApart flags from → 0 < from → flag flags (from - 1) ≡ true → flag flags from ≡ false
 unset_behind flags from apart some set = by_flag (flag flags from) refl where
   by_flag : (b : Bool) → flag flags from ≡ b → flag flags from ≡ false
-  by_flag true is = cc (apart is, no_start_inside flags from some set)
+  by_flag true is = cc (apart is, inside_starts_none flags from some set)
   by_flag false is = is
 
 -- The first run of flags, from a place that is not inside one.

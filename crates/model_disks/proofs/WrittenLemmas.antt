@@ -49,7 +49,7 @@ pub unset_starts_none : (flags : List Bool) (x : ℕ) → flag flags x ≡ false
 unfolding starts_run
 unset_starts_none flags x unset = rw unset refl
 
-inside_starts_none : (flags : List Bool) (x : ℕ) → 0 < x → flag flags (x - 1) ≡ true → starts_run flags x ≡ false
+pub inside_starts_none : (flags : List Bool) (x : ℕ) → 0 < x → flag flags (x - 1) ≡ true → starts_run flags x ≡ false
 unfolding starts_run
 inside_starts_none flags x some set = grind (arith, nat_tests)
 

@@ -106,7 +106,7 @@ passed_order p (t ∷ ts) by = by_test (each_passed (λ (other : Todo). t.round 
     by_test first rest false = rest
 
 -- the keeper has a start for each round but the first, and no change takes all of a reserve
-starts_all : (s : Scenario) (a n : ℕ) → starts (flat_map (duties_of s) (range_with_len a n)) ≡ n
+pub starts_all : (s : Scenario) (a n : ℕ) → starts (flat_map (duties_of s) (range_with_len a n)) ≡ n
 starts_all s a zero = refl
 starts_all s a (suc n) = by_changes (starts_all s (a + 1) n) (filter (λ (change : Change). change.round == a) s.changes)
   where

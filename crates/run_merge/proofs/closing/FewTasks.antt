@@ -5,7 +5,8 @@ use Rattle.std.proofs.lemmas.List.FromFn.{length-range_with_len}
 use Rattle.run_machine.specs.Opened.{Scenario, setup, tasks}
 use Rattle.run_machine.specs.Scene.{is_disk}
 use Rattle.block_core.specs.Scenarios.{IsScenario}
-use Rattle.shared_objects.proofs.sharing.FewTasks.{few_of, tasks_counted}
+use Rattle.shared_objects.proofs.row_lemmas.SeatNumbers.{few_of}
+use Rattle.shared_objects.proofs.sharing.FewTasks.{tasks_counted}
 
 pub few_tasks : (s : Scenario) → IsScenario s → length (tasks s) ≤ 2 ^ 24
 few_tasks s good =

@@ -2,7 +2,7 @@
 use Rattle.std.proofs.Common.{◌≡◌, ◌||◌, ℕ, Bool, true, false, List, [], ◌∷◌, Some, refl, sym, ◌∙◌, ap, subst, arith}
 use Rattle.std.specs.Prelude.{Contains, slice_get}
 use Rattle.std.specs.List.{list_any}
-use Rattle.std.proofs.lemmas.Bool.{true≢false}
+use Rattle.std.proofs.lemmas.Bool.{true≢false, or_parts}
 use Rattle.std.proofs.lemmas.List.Elements.{All-contains_itself, All-weaker}
 use Rattle.tick_clock.specs.Tickets.{PassState}
 use Rattle.run_machine.specs.Laws.{Object, OfNone, object_of}
@@ -17,14 +17,6 @@ use Rattle.shared_objects.proofs.SameNames.{same_self, same_is}
 use Rattle.shared_objects.proofs.tickets.CallOwners.{filter_there, logged, kept}
 use Rattle.run_merge.proofs.enough_shown.LogLeads.{AskSome}
 
-pub or_first : (a b : Bool) → (a || b) ≡ false → a ≡ false
-or_first true b h = absurd (true≢false h)
-or_first false b h = refl
-
-pub or_second : (a b : Bool) → (a || b) ≡ false → b ≡ false
-or_second true b h = absurd (true≢false h)
-or_second false b h = h
-
 pub turned : (a b : Object) → is_same_object a b ≡ false → is_same_object b a ≡ false
 turned a b not = by_test (is_same_object b a) refl
   where
@@ -35,8 +27,9 @@ turned a b not = by_test (is_same_object b a) refl
 none_turned : (o : Object) (names : List Object) → list_any (λ name. is_same_object name o) names ≡ false → list_any (is_same_object o) names ≡ false
 none_turned o [] none = refl
 none_turned o (name ∷ names) none =
-    let first = turned name o (or_first (is_same_object name o) (list_any (λ n. is_same_object n o) names) none) in
-    let rest = none_turned o names (or_second (is_same_object name o) (list_any (λ n. is_same_object n o) names) none) in
+    let parts = or_parts (is_same_object name o) (list_any (λ n. is_same_object n o) names) none in
+    let first = turned name o parts.0 in
+    let rest = none_turned o names parts.1 in
     ap (λ b. b || list_any (is_same_object o) names) first ∙ rest
 
 none_in : {X Y : Type 0} (x : X) → Contains [] x → Y

@@ -1,8 +1,8 @@
 -- The keeper starts no more rounds than there are behind the first, so each that starts is there.
-use Rattle.std.proofs.Common.{◌≡◌, ◌+◌, ◌-◌, ◌≤◌, ◌==◌, ◌++◌, cond, ℕ, zero, suc, Bool, true, false, List, [], ◌∷◌, Option, None, Some, length, filter, refl, sym, ◌∙◌, ap, subst, arith}
+use Rattle.std.proofs.Common.{◌≡◌, ◌+◌, ◌-◌, ◌≤◌, ◌==◌, ◌++◌, cond, ℕ, Bool, true, false, List, [], ◌∷◌, Option, None, Some, length, filter, refl, sym, ◌∙◌, ap, subst, arith}
 use Rattle.std.specs.Option.{is_some}
 use Rattle.std.specs.Prelude.{IsTrue, map, sum_by}
-use Rattle.std.specs.List.{range_with_len, flat_map}
+use Rattle.std.specs.List.{range_with_len}
 use Rattle.std.proofs.lemmas.Bool.{true≢false}
 use Rattle.std.proofs.lemmas.List.Elements.{All-head, All-tail}
 use Rattle.std.proofs.lemmas.List.FromFn.{length-map-range_with_len}
@@ -16,13 +16,14 @@ use Rattle.run_machine.specs.Events.{id_of}
 use Rattle.run_machine.specs.Laws.{OfTally}
 use Rattle.run_machine.specs.Submissions.{rests}
 use Rattle.run_machine.specs.Objects.{TallyState}
-use Rattle.run_machine.specs.Opened.{Change, Scenario, at, duties, duties_of, keepers, round_count, tasks, todos_of, writers, writes_from, writes_in}
+use Rattle.run_machine.specs.Opened.{Scenario, at, duties, keepers, round_count, tasks, todos_of, writers, writes_in}
 use Rattle.run_machine.specs.Opened as opened
 use Rattle.run_machine.specs.Requests.{Request, Reply, Done, NextRound, Did, OutIs}
 use Rattle.run_machine.specs.Scene.{Setup, is_disk}
 use Rattle.run_machine.specs.Tasks.{NoBio, Empty, Duty, Resizes, Starts, Keeps, Stops, TaskState, Writer, Rescuer, Completer, Keeper, request, answered, after_resize}
 use Rattle.run_machine.proofs.OneState.{id_stays}
 use Rattle.block_core.proofs.sound.Posts.{starts}
+use Rattle.block_core.proofs.start.PostsAtStart.{starts_all}
 use Rattle.object_things.specs.Histories.{Call, drawn_in}
 use Rattle.object_things.specs.Stamps.{ThingState, StepOf}
 use Rattle.object_things.specs.Tallies.{TallyServes, TallyLooks}
@@ -163,15 +164,6 @@ tally_starts (call ∷ history) old new leads = by_ticket call.told.drawn leads.
 
 -- the tasks of a scenario start each round but the first
 module _ (s : Scenario) where
-  starts_all : (a n : ℕ) → starts (flat_map (duties_of s) (range_with_len a n)) ≡ n
-  starts_all a zero = refl
-  starts_all a (suc n) = by_changes (starts_all (a + 1) n) (filter (λ (change : Change). change.round == a) s.changes)
-    where
-      by_changes : starts (flat_map (duties_of s) (range_with_len (a + 1) n)) ≡ n → (cs : List Change)
-          → starts ((map (λ (change : Change). Resizes change.pool change.min (writes_from s a)) cs ++ Starts a (writes_from s a) ∷ []) ++ flat_map (duties_of s) (range_with_len (a + 1) n)) ≡ suc n
-      by_changes rest [] = omega (arith, rest)
-      by_changes rest (change ∷ cs) = by_changes rest cs
-
   none_of : {X : Type 0} (f : X → TaskState) (xs : List X) → ((x : X) → starts_left (f x) ≡ 0) → sum_by starts_left (map f xs) ≡ 0
   none_of f [] none = refl
   none_of f (x ∷ xs) none =
@@ -187,7 +179,7 @@ module _ (s : Scenario) where
       let b = none_of (λ dev. Rescuer (at dev) rests) (filter (opened.setup s).rescuer (range_with_len 0 (opened.setup s).count)) (λ x. refl) in
       let c = none_of (λ dev. Completer (at dev) Empty) (filter (is_disk (opened.setup s)) (range_with_len 0 (opened.setup s).count)) (λ x. refl) in
       let d = keeper_starts (duties s) in
-      let e = starts_all 1 (round_count s - 1) in
+      let e = starts_all s 1 (round_count s - 1) in
       let x = sum_by-append starts_left (map (λ writer. Writer writer (todos_of s writer) NoBio rests) (writers s))
       (map (λ dev. Rescuer (at dev) rests) (filter (opened.setup s).rescuer (range_with_len 0 (opened.setup s).count))
       ++ (map (λ dev. Completer (at dev) Empty) (filter (is_disk (opened.setup s)) (range_with_len 0 (opened.setup s).count)) ++ keepers (duties s))) in

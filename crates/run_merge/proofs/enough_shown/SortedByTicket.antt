@@ -2,7 +2,7 @@
 use Rattle.std.proofs.Common.{◌≡◌, ◌+◌, ◌-◌, ◌<◌, ◌==◌, ◌++◌, ◌||◌, cond, ℕ, zero, suc, Bool, true, false, nat_lt, List, [], ◌∷◌, filter, refl, sym, ◌∙◌, ap, subst, arith}
 use Rattle.std.specs.Prelude.{All, map}
 use Rattle.std.specs.List.{list_any}
-use Rattle.std.proofs.lemmas.Bool.{true≢false, eq-eqb, ne_eqb, eqb-true, eqb-false, lt-ltb}
+use Rattle.std.proofs.lemmas.Bool.{true≢false, or_parts, eq-eqb, ne_eqb, eqb-true, eqb-false, lt-ltb}
 use Rattle.std.proofs.lemmas.List.{append_assoc}
 use Rattle.std.proofs.lemmas.List.Elements.{All-head, All-tail, All-nil, All-filter, All-append, filter-append}
 use Rattle.seat_lock.specs.History.{indicator, count, calls_by}
@@ -16,7 +16,7 @@ use Rattle.shared_objects.proofs.SameNames.{same_is}
 use Rattle.run_merge.specs.Merging.{Ticketed, insert, sorted_by_ticket, RiseFrom, all_of, done_by}
 use Rattle.run_merge.proofs.enough_shown.CallTickets.{events_told, events_untold, rises_above}
 use Rattle.run_merge.proofs.enough_shown.CallEvents.{drawn_entry, ticketed_events, event_histories}
-use Rattle.run_merge.proofs.enough_shown.CalledObjects.{or_first, or_second, turned}
+use Rattle.run_merge.proofs.enough_shown.CalledObjects.{turned}
 use Rattle.run_merge.proofs.enough_shown.LogLeads.{is_told}
 use Rattle.run_merge.proofs.merging.Picked.{is_at, is_by}
 use Rattle.run_merge.proofs.merging.TicketOrder.{Ordered, insert_front, sorted_ordered, all_sorted}
@@ -96,10 +96,9 @@ module _ (e : Ticketed) (events : List Ticketed) where
   no_other : (names : List Object) → list_any (is_same_object (object_of e.entry.asked)) names ≡ false → parts names (e ∷ events) ≡ parts names events
   no_other [] none = refl
   no_other (name ∷ names) none =
-      let first = or_first (is_same_object (object_of e.entry.asked) name) (list_any (is_same_object (object_of e.entry.asked)) names) none in
-      let others = or_second (is_same_object (object_of e.entry.asked) name) (list_any (is_same_object (object_of e.entry.asked)) names) none in
-      ap (λ b. cond b (e ∷ filter (is_at name) events) (filter (is_at name) events) ++ parts names (e ∷ events)) (turned (object_of e.entry.asked) name first)
-      ∙ ap (λ l. filter (is_at name) events ++ l) (no_other names others)
+      let no = or_parts (is_same_object (object_of e.entry.asked) name) (list_any (is_same_object (object_of e.entry.asked)) names) none in
+      ap (λ b. cond b (e ∷ filter (is_at name) events) (filter (is_at name) events) ++ parts names (e ∷ events)) (turned (object_of e.entry.asked) name no.0)
+      ∙ ap (λ l. filter (is_at name) events ++ l) (no_other names no.1)
 
   put_in : (names : List Object) → Apart is_same_object names → list_any (λ name. is_same_object name (object_of e.entry.asked)) names ≡ true → IsPut names e events
   put_in [] apart there = absurd (true≢false (sym there))

@@ -40,7 +40,7 @@ use Rattle.run_merge.proofs.enough_shown.RoundsStarted.{starts_left, task_starts
 use Rattle.run_merge.proofs.enough_shown.SortedByTicket.{picks_mine, events_to, done_is}
 use Rattle.run_merge.proofs.enough_shown.LogLeads.{is_told, AskSome, Walked, walk}
 use Rattle.run_merge.proofs.closing.EventsAndEntries.{sorted_length}
-use Rattle.shared_objects.proofs.sharing.FewTasks.{few_of}
+use Rattle.shared_objects.proofs.row_lemmas.SeatNumbers.{few_of}
 use Rattle.shared_objects.proofs.steps.BrokenRests.{broken_rests}
 use Rattle.shared_objects.proofs.logs.StepNotes.{HasTicket}
 use Rattle.run_merge.proofs.merging.Picked.{is_at, is_by, entries_filter, filter_swap}

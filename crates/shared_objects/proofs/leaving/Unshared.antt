@@ -1,7 +1,8 @@
 -- An object that was not shared has no history.
 use Rattle.std.proofs.Common.{◌≡◌, ◌==◌, ℕ, Bool, true, false, List, [], ◌∷◌, arith, refl, sym, ◌∙◌, map, true≢false}
-use Rattle.std.specs.Prelude.{◌||◌, ◌++◌, if◌then◌else◌}
+use Rattle.std.specs.Prelude.{◌++◌, if◌then◌else◌}
 use Rattle.std.specs.List.{list_any}
+use Rattle.std.proofs.lemmas.Bool.{or_parts}
 use Rattle.std.proofs.lemmas.Bool.Decides.{nat_tests}
 use Rattle.run_machine.specs.Laws.{Object, OfPool, OfRescuer, OfDisk, OfBook, OfTally, OfNone}
 use Rattle.task_core.specs.Plains.{is_bios_number}
@@ -12,14 +13,10 @@ use Rattle.shared_objects.specs.ClosedByName.{history_in, names_of}
 use Rattle.shared_objects.specs.Holding.{dev_key, set_key, slip_key, writer_key}
 use Rattle.shared_objects.specs.declared.closed.Closed.{Closed}
 
-both_false : (a b : Bool) → (a || b) ≡ false → (a ≡ false) × (b ≡ false)
-both_false false b e = (refl, e)
-both_false true b e = absurd (true≢false e)
-
 apart_any : {X : Type 0} (p : X → Bool) (xs ys : List X) → list_any p (xs ++ ys) ≡ false → (list_any p xs ≡ false) × (list_any p ys ≡ false)
 apart_any p [] ys e = (refl, e)
 apart_any p (x ∷ xs) ys e =
-    let parts = both_false (p x) (list_any p (xs ++ ys)) e in let rest = apart_any p xs ys parts.1 in (rw (parts.0) rest.0, rest.1)
+    let parts = or_parts (p x) (list_any p (xs ++ ys)) e in let rest = apart_any p xs ys parts.1 in (rw (parts.0) rest.0, rest.1)
 
 turned : (a b : ℕ) → (a == b) ≡ (b == a)
 turned a b = grind (arith, nat_tests)
@@ -28,7 +25,7 @@ not_there : {E X : Type 0} (name : Object) (n : ℕ) (key : E → ℕ) (of : E �
     → (es : List E) → list_any (is_same_object name) (map of es) ≡ false → look_up key value none es n ≡ none n
 not_there name n key of value none same [] e = refl
 not_there name n key of value none same (x ∷ xs) e =
-    let parts = both_false (is_same_object name (of x)) (list_any (is_same_object name) (map of xs)) e in
+    let parts = or_parts (is_same_object name (of x)) (list_any (is_same_object name) (map of xs)) e in
     let other : (key x == n) ≡ false = turned (key x) n ∙ sym (same x) ∙ parts.0 in
     let rest = not_there name n key of value none same xs parts.1 in rw (other) rest
 
@@ -45,12 +42,12 @@ module _ (closed : Closed) where
       × (list_any (is_same_object name) (map (λ entry. OfBook (writer_key entry.0)) closed.books.items) ≡ false) × (is_same_object name OfTally ≡ false)
   parts_of name none =
       let bios = apart_any (is_same_object name) (map (λ entry. OfPool (set_key entry.0)) closed.bios.items) _ none in
-      let vecs = both_false (is_same_object name (OfPool 64)) _ bios.1 in
+      let vecs = or_parts (is_same_object name (OfPool 64)) _ bios.1 in
       let records = apart_any (is_same_object name) (map (λ entry. OfPool (slip_key entry.0)) closed.records.items) _ vecs.1 in
       let lists = apart_any (is_same_object name) (map (λ entry. OfRescuer (dev_key entry.0)) closed.lists.items) _ records.1 in
       let disks = apart_any (is_same_object name) (map (λ shut. OfDisk shut.thing.object.dev.0) closed.disks.items) _ lists.1 in
       let books = apart_any (is_same_object name) (map (λ entry. OfBook (writer_key entry.0)) closed.books.items) _ disks.1 in
-      (bios.0, vecs.0, records.0, lists.0, disks.0, books.0, (both_false (is_same_object name OfTally) false books.1).0)
+      (bios.0, vecs.0, records.0, lists.0, disks.0, books.0, (or_parts (is_same_object name OfTally) false books.1).0)
 
   pub others_in : (name : Object) → AreNone name → history_in closed name ≡ []
   others_in (OfPool n) none =

@@ -47,9 +47,9 @@ module _ {X : Type 0} (p q : X → Bool) (implies : (x : X) → p x ≡ true →
           ap (λ b. filter p (cond b (x ∷ filter q xs) (filter q xs))) hq ∙ rest ∙ ap (λ b. cond b (x ∷ filter p xs) (filter p xs)) (sym hp)
 
 module _ {X : Type 0} (p : X → Bool) where
-  at_most : (xs : List X) → length (filter p xs) ≤ length xs
-  at_most [] = omega arith
-  at_most (x ∷ xs) = by_case (p x) (at_most xs)
+  pub few_of : (xs : List X) → length (filter p xs) ≤ length xs
+  few_of [] = omega arith
+  few_of (x ∷ xs) = by_case (p x) (few_of xs)
     where
       by_case : (b : Bool) → length (filter p xs) ≤ length xs → length (cond b (x ∷ filter p xs) (filter p xs)) ≤ length (x ∷ xs)
       by_case true h = omega (arith, h)
@@ -62,7 +62,7 @@ module _ {X : Type 0} (p : X → Bool) where
   -- where all are picked, each is to be picked
   pub all_picked : (xs : List X) → filter p xs ≡ xs → All (λ x. p x ≡ true) xs
   all_picked [] e = λ k d lt. absurd (omega (arith, lt))
-  all_picked (x ∷ xs) e = by_case (p x) refl e (at_most xs) (λ h. all_picked xs h)
+  all_picked (x ∷ xs) e = by_case (p x) refl e (few_of xs) (λ h. all_picked xs h)
     where
       by_case : (b : Bool) → p x ≡ b → cond b (x ∷ filter p xs) (filter p xs) ≡ x ∷ xs → length (filter p xs) ≤ length xs → (filter p xs ≡ xs → All (λ y. p y ≡ true) xs)
           → All (λ y. p y ≡ true) (x ∷ xs)

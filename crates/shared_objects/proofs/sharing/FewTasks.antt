@@ -1,5 +1,5 @@
 -- What was opened has few tasks: eight writers, a rescuer or a completer for each device, and a keeper.
-use Rattle.std.proofs.Common.{◌≡◌, ◌+◌, ◌≤◌, ◌++◌, ◌&&◌, cond, ℕ, Bool, true, false, true≢false, List, [], ◌∷◌, length, filter, Option, Some, None, arith, refl, sym, ap}
+use Rattle.std.proofs.Common.{◌≡◌, ◌+◌, ◌≤◌, ◌++◌, cond, ℕ, Bool, true, false, true≢false, List, [], ◌∷◌, length, filter, Option, Some, None, arith, refl, sym, ap}
 use Rattle.std.specs.Prelude.{map, slice_get}
 use Rattle.std.specs.List.{range_with_len, list_any}
 use Rattle.std.proofs.lemmas.List.{length-map, length-append}
@@ -23,15 +23,9 @@ use Rattle.task_steps.specs.TaskViews.{TaskOf}
 use Rattle.task_core.specs.declared.opening.Opened.{Opened}
 use Rattle.task_core.specs.opened.OfOne.{IsOpened, scenario_in}
 use Rattle.shared_objects.specs.Rans.{most_tasks}
+use Rattle.std.proofs.lemmas.Bool.{and_parts}
 use Rattle.task_core.proofs.NumberTests.{clash}
-
-pub few_of : {X : Type 0} (p : X → Bool) (xs : List X) → length (filter p xs) ≤ length xs
-few_of p [] = omega arith
-few_of p (x ∷ xs) = by_test (p x) (few_of p xs)
-  where
-    by_test : (b : Bool) → length (filter p xs) ≤ length xs → length (cond b (x ∷ filter p xs) (filter p xs)) ≤ length (x ∷ xs)
-    by_test true le = omega (arith, le)
-    by_test false le = omega (arith, le)
+use Rattle.shared_objects.proofs.row_lemmas.SeatNumbers.{few_of}
 
 -- two tests that never both pass
 few_of_both : {X : Type 0} (p q : X → Bool) → ((x : X) → p x ≡ true → q x ≡ true → ⊥) → (xs : List X) → length (filter p xs) + length (filter q xs) ≤ length xs
@@ -44,10 +38,6 @@ few_of_both p q apart (x ∷ xs) = by_test (p x) (q x) refl refl (few_of_both p 
     by_test true false e f le = omega (arith, le)
     by_test false true e f le = omega (arith, le)
     by_test false false e f le = omega (arith, le)
-
-right_of : (a b : Bool) → (a && b) ≡ true → b ≡ true
-right_of true b e = e
-right_of false b e = absurd (true≢false (sym e))
 
 -- a disk has no rescuer
 module _ (stack : Stack) (good : IsStack stack) (fit : IsFitStack stack) (number : ℕ) where
@@ -92,7 +82,7 @@ few_in : (s : Scenario) → IsStack s.stack → IsFitStack s.stack → length (t
 few_in s good fit =
     let all = range_with_len 0 (setup s).count in
     let apart = few_of_both (setup s).rescuer (is_disk (setup s))
-    (λ dev rescuer is. disks_have_none s.stack good fit dev rescuer (right_of (is_device (setup s) dev) (keeps_data (tree s.stack dev)) is)) all in
+    (λ dev rescuer is. disks_have_none s.stack good fit dev rescuer (and_parts (is_device (setup s) dev) (keeps_data (tree s.stack dev)) is).1) all in
     let devices = good.few in
     omega (arith, tasks_counted s, apart, length-range_with_len 0 (setup s).count, devices)
 

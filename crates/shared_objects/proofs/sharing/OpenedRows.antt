@@ -21,15 +21,13 @@ use Rattle.task_core.specs.ObjectsOf.{IsBookOf, IsDiskOf}
 use Rattle.task_core.specs.Plains.{bios_at, book_number, disk_number, is_bios_number, list_number, no_book, no_pool, objects_of, pool_at, records_at, records_number, set_number, stage_of}
 use Rattle.run_machine.specs.Opened.{opened_disk}
 use Rattle.task_core.specs.Tables.{is_entry_of, look_up}
-use Rattle.task_core.proofs.NumberTests.{is_itself}
+use Rattle.task_core.proofs.NumberTests.{is_apart, is_itself}
 use Rattle.task_core.proofs.PoolLemmas.{stands_for_bios, stands_for_records}
+use Rattle.task_core.proofs.opened.NewPools.{sets_apart, slips_apart}
 use Rattle.task_steps.specs.Stage.{AreServed, has_disk_in, has_rescuer_in, has_book_in, has_mirror_in}
 use Rattle.object_things.specs.Pools.{IsPoolOf}
 use Rattle.shared_objects.specs.Opening.{CanShare, IsPoolAt}
 use Rattle.shared_objects.proofs.row_lemmas.CallsApart.{all_more}
-
-is_other : (a b : ℕ) → a ≢ b → (a == b) ≡ false
-is_other a b apart = grind (apart, arith, nat_tests)
 
 module _ {E : Type 0} (key : E → ℕ) (number : ℕ → ℕ) (is_used : ℕ → Bool) (apart : (i n : ℕ) → i < n → number i ≢ number n) where
   -- an entry is that of an index among so many from one on, and the first of its number
@@ -49,7 +47,7 @@ module _ {E : Type 0} (key : E → ℕ) (number : ℕ → ℕ) (is_used : ℕ �
       by_entry : (x : E) (xs : List E) (is : is_used first ≡ true) → key x ≡ number first → (y : E) → IsIndexed (first + 1) count xs y → IsIndexed first (suc count) (x ∷ xs) y
       by_entry x xs is here y s =
           let lo = s.least in let hi = s.below in
-          let other : (key x == number s.index) ≡ false = is_other (key x) (number s.index) (λ same. apart first s.index (omega (arith, lo)) (sym here ∙ same)) in
+          let other : (key x == number s.index) ≡ false = is_apart (key x) (number s.index) (λ same. apart first s.index (omega (arith, lo)) (sym here ∙ same)) in
           record { index = s.index; least = omega (arith, lo); below = omega (arith, hi); used = s.used; keyed = s.keyed; found = rw (other) s.found }
 
       by_case : (b : Bool) → is_used first ≡ b → (es : List E) → map key es ≡ map number (cond b (first ∷ filter is_used (range_with_len (first + 1) count)) (filter is_used (range_with_len (first + 1) count)))
@@ -98,15 +96,6 @@ looked_up key value none entries n entry found = ap (λ o. option_map_or value o
 by_itself : (i n : ℕ) → i < n → itself i ≢ itself n
 by_itself i n lt e = absurd (omega (arith, lt, e))
 
-by_set : (count : ℕ) → count ≤ 32 → (i n : ℕ) → i < n → set_index i ≢ set_index n
-by_set count few zero zero lt e = absurd (omega (arith, lt))
-by_set count few zero (suc n) lt e = absurd (omega (arith, e))
-by_set count few (suc i) zero lt e = absurd (omega (arith, lt))
-by_set count few (suc i) (suc n) lt e = absurd (omega (arith, lt, e))
-
-by_slips : (i n : ℕ) → i < n → slip_index i ≢ slip_index n
-by_slips i n lt e = absurd (omega (arith, lt, e))
-
 -- a number of a set is not that of the vectors, nor that of records
 set_kind : (count index : ℕ) → count ≤ 32 → index < suc count → (set_index index ≢ 64) × (is_bios_number (set_index index) ≡ true)
 set_kind count zero few lt = (λ e. absurd (omega (arith, e)), refl)
@@ -139,7 +128,7 @@ module _ (o : Opened) (opened : IsOpened o) where
 
   bios : All (λ (entry : SetId × LedgerPool). IsPoolAt (stage_of plain) (set_number entry) entry.1) plain.bios.items
   bios = λ k d lt.
-      let is = each_entry set_number set_index (has_set_at plain.stage.value) (by_set count few)
+      let is = each_entry set_number set_index (has_set_at plain.stage.value) sets_apart
       (IsNewSet plain.stage.value o.accepted.value.scripts.items (reserves_in o.work.value.resizes.items)) (suc count) plain.bios.items plain.index.bios opened.rows.bios k d lt in
       let entry : SetId × LedgerPool = get_or plain.bios.items k d in
       let kind = set_kind count is.index few is.below in
@@ -150,7 +139,7 @@ module _ (o : Opened) (opened : IsOpened o) where
 
   records : All (λ (entry : DevId × LedgerPool). IsPoolAt (stage_of plain) (records_number entry) entry.1) plain.records.items
   records = λ k d lt.
-      let is = each_entry records_number slip_index (has_mirror_in plain.stage.value) by_slips
+      let is = each_entry records_number slip_index (has_mirror_in plain.stage.value) slips_apart
       (IsNewRecords plain.stage.value o.accepted.value.scripts.items (reserves_in o.work.value.resizes.items)) count plain.records.items plain.index.records opened.rows.records k d lt in
       let entry : DevId × LedgerPool = get_or plain.records.items k d in
       let kind = slip_kind count is.index few is.below in
