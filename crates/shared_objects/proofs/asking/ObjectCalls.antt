@@ -1,12 +1,11 @@
 -- What one call makes of what holds of a desk, and of the calls that its task has made: for books, disks, lists of rescuers and the tally.
-use Rattle.std.proofs.Common.{◌≡◌, ◌+◌, ◌++◌, ℕ, List, [], ◌∷◌, Option, sym, ap, subst}
+use Rattle.std.proofs.Common.{◌≡◌, ℕ, List, Option, refl, sym, ap, subst}
 use Rattle.std.specs.Prelude.{IsTrue, slice_index_or}
 use Rattle.std.specs.Global.{Vec}
 use Rattle.tick_clock.specs.Tickets.{PassState}
 use Rattle.seat_lock.specs.Seats.{LockId, SeatState, IsOf}
 use Rattle.stack_base.specs.declared.ids.DevId.{DevId}
 use Rattle.run_machine.specs.Laws.{OfRescuer, OfDisk, OfBook, OfTally, object_of}
-use Rattle.run_machine.specs.Maps.{upd}
 use Rattle.run_machine.specs.Opened.{at}
 use Rattle.run_machine.specs.Requests.{Request}
 use Rattle.task_steps.specs.Stage.{RequestFits, Owes, has_book, has_disk, has_rescuer}
@@ -33,9 +32,9 @@ use Rattle.shared_objects.specs.declared.locks.Locks.{Locks}
 use Rattle.shared_objects.specs.declared.seats.TaskSeats.{TaskSeats}
 use Rattle.shared_objects.specs.Calling.{AreSeatedAt, FitsWith, HasAsked, HasAskedAt}
 use Rattle.shared_objects.specs.Desks.{HasCalled}
-use Rattle.shared_objects.specs.Holding.{AreLocked, AreSeatsOf, DeskHolds, calls_in, calls_of, desk_of, dev_key, stage_at, writer_key}
+use Rattle.shared_objects.specs.Holding.{AreLocked, AreSeatsOf, DeskHolds, calls_of, desk_of, dev_key, stage_at, writer_key}
 use Rattle.shared_objects.proofs.asking.PassAndCalls.{SeatCalls, fits_with, has_called, home_again, numbered_stays, owed_of, seat_calls}
-use Rattle.shared_objects.proofs.asking.RowCalls.{mark_as, row_call, row_calls, row_fits, row_owed, row_seats}
+use Rattle.shared_objects.proofs.asking.RowCalls.{mark_as, row_called, row_fits, row_home, row_owed, row_seats}
 use Rattle.shared_objects.proofs.asking.RowSeats.{seated_at}
 
 module _ (locks : Locks) (seats : TaskSeats) (holds : DeskHolds locks seats) where
@@ -62,16 +61,10 @@ module _ (locks : Locks) (seats : TaskSeats) (holds : DeskHolds locks seats) whe
       abbrev with_book : TaskSeats
       with_book = record seats { pass = after; books = new }
 
-      abbrev book_call : SeatCalls seats.number made.seat.1.known made.now.known seats.pass (book_asked ask) (book_replied said) after
-      book_call =
-          row_call book_locked book_seats n place is there book_asked book_replied BookOwes made (λ m asking replied owed. owed.pass)
-
-      book_calls : calls_in writer_key new.items ≡ upd (calls_in writer_key seats.books.items) n (calls_in writer_key seats.books.items n ++ record { by = seats.number + 1; asked = book_asked ask; told = book_call.told } ∷ [])
-      book_calls =
-          row_calls book_locked book_seats n place is there book_asked book_replied BookOwes made (λ m asking replied owed. owed.pass)
-
       pub book_called : HasCalled (desk_of seats) (book_asked ask) (book_replied said) (desk_of with_book)
-      book_called = has_called (OfBook n) (calls_of seats) (calls_of with_book) named book_call (ap (λ (f : ℕ → List Call). record (calls_of seats) { book = f }) book_calls)
+      book_called =
+          row_called book_locked book_seats n place is there book_asked book_replied BookOwes made (λ m asking replied owed. owed.pass)
+          (calls_of seats) (λ f. record (calls_of seats) { book = f }) named (λ call. refl)
 
       pub book_holds : DeskHolds locks with_book
       book_holds = record {
@@ -85,7 +78,7 @@ module _ (locks : Locks) (seats : TaskSeats) (holds : DeskHolds locks seats) whe
           books = subst (λ r. AreSeatsOf seats.number r new.items) rows_are (row_seats book_locked book_seats n place is there book_asked book_replied BookOwes made);
           tally = holds.seated.tally;
         };
-        passed = home_again locks.common.value.clock book_call holds.passed;
+        passed = row_home book_locked book_seats n place is there book_asked book_replied BookOwes made (λ m asking replied owed. owed.pass) holds.passed;
       }
 
       pub book_owed : Owes (stage_at locks) (book_asked ask) (book_replied said)
@@ -121,16 +114,10 @@ module _ (locks : Locks) (seats : TaskSeats) (holds : DeskHolds locks seats) whe
       abbrev with_disk : TaskSeats
       with_disk = record seats { pass = after; disks = new }
 
-      abbrev disk_call : SeatCalls seats.number made.seat.1.known made.now.known seats.pass (disk_asked ask) (disk_replied said) after
-      disk_call =
-          row_call disk_locked disk_seats n place is there disk_asked disk_replied DiskOwes made (λ m asking replied owed. owed.pass)
-
-      pub disk_calls : calls_in dev_key new.items ≡ upd (calls_in dev_key seats.disks.items) n (calls_in dev_key seats.disks.items n ++ record { by = seats.number + 1; asked = disk_asked ask; told = disk_call.told } ∷ [])
-      disk_calls =
-          row_calls disk_locked disk_seats n place is there disk_asked disk_replied DiskOwes made (λ m asking replied owed. owed.pass)
-
       abbrev pub disk_called : HasCalled (desk_of seats) (disk_asked ask) (disk_replied said) (desk_of with_disk)
-      disk_called = has_called (OfDisk n) (calls_of seats) (calls_of with_disk) named disk_call (ap (λ (f : ℕ → List Call). record (calls_of seats) { disk = f }) disk_calls)
+      disk_called =
+          row_called disk_locked disk_seats n place is there disk_asked disk_replied DiskOwes made (λ m asking replied owed. owed.pass)
+          (calls_of seats) (λ f. record (calls_of seats) { disk = f }) named (λ call. refl)
 
       -- and the entry keeps the index that was chosen
       pub disk_choice : KeepsChoice ask (disk_replied said) disk_called.told.chosen
@@ -148,7 +135,7 @@ module _ (locks : Locks) (seats : TaskSeats) (holds : DeskHolds locks seats) whe
           books = holds.seated.books;
           tally = holds.seated.tally;
         };
-        passed = home_again locks.common.value.clock disk_call holds.passed;
+        passed = row_home disk_locked disk_seats n place is there disk_asked disk_replied DiskOwes made (λ m asking replied owed. owed.pass) holds.passed;
       }
 
       pub disk_says : DiskSays (stage_at locks) ask said
@@ -179,16 +166,10 @@ module _ (locks : Locks) (seats : TaskSeats) (holds : DeskHolds locks seats) whe
       abbrev with_list : TaskSeats
       with_list = record seats { pass = after; lists = new }
 
-      abbrev list_call : SeatCalls seats.number made.seat.1.known made.now.known seats.pass (list_asked ask) (list_replied said) after
-      list_call =
-          row_call list_locked list_seats n place is there list_asked list_replied ListOwes made (λ m asking replied owed. owed.pass)
-
-      list_calls : calls_in dev_key new.items ≡ upd (calls_in dev_key seats.lists.items) n (calls_in dev_key seats.lists.items n ++ record { by = seats.number + 1; asked = list_asked ask; told = list_call.told } ∷ [])
-      list_calls =
-          row_calls list_locked list_seats n place is there list_asked list_replied ListOwes made (λ m asking replied owed. owed.pass)
-
       pub list_called : HasCalled (desk_of seats) (list_asked ask) (list_replied said) (desk_of with_list)
-      list_called = has_called (OfRescuer n) (calls_of seats) (calls_of with_list) named list_call (ap (λ (f : ℕ → List Call). record (calls_of seats) { rescue = f }) list_calls)
+      list_called =
+          row_called list_locked list_seats n place is there list_asked list_replied ListOwes made (λ m asking replied owed. owed.pass)
+          (calls_of seats) (λ f. record (calls_of seats) { rescue = f }) named (λ call. refl)
 
       pub list_holds : DeskHolds locks with_list
       list_holds = record {
@@ -202,7 +183,7 @@ module _ (locks : Locks) (seats : TaskSeats) (holds : DeskHolds locks seats) whe
           books = holds.seated.books;
           tally = holds.seated.tally;
         };
-        passed = home_again locks.common.value.clock list_call holds.passed;
+        passed = row_home list_locked list_seats n place is there list_asked list_replied ListOwes made (λ m asking replied owed. owed.pass) holds.passed;
       }
 
       pub list_owed : Owes (stage_at locks) (list_asked ask) (list_replied said)

@@ -30,7 +30,7 @@ use Rattle.shared_objects.specs.Holding.{AreLocked, AreSeatsOf, DeskHolds, calls
 use Rattle.task_core.specs.Plains.{by_kind}
 use Rattle.shared_objects.proofs.asking.PassAndCalls.{SeatCalls, fits_with, has_called, home_again, numbered_stays, owed_of, seat_calls}
 use Rattle.task_core.proofs.PoolLemmas.{bios_change, records_change, vecs_change, stands_for_bios, stands_for_records, bios_not_64, bios_of_set, slips_not_64, slips_of_set}
-use Rattle.shared_objects.proofs.asking.RowCalls.{mark_as, row_call, row_calls, row_fits, row_owed, row_seats}
+use Rattle.shared_objects.proofs.asking.RowCalls.{mark_as, row_called, row_fits, row_home, row_owed, row_seats}
 use Rattle.shared_objects.proofs.asking.RowSeats.{seated_at}
 
 module _ (locks : Locks) (seats : TaskSeats) (holds : DeskHolds locks seats) where
@@ -57,23 +57,13 @@ module _ (locks : Locks) (seats : TaskSeats) (holds : DeskHolds locks seats) whe
       abbrev with_bios : TaskSeats
       with_bios = record seats { pass = after; bios = new }
 
-      abbrev bios_call : SeatCalls seats.number made.seat.1.known made.now.known seats.pass (pool_asked ask) (pool_replied said) after
-      bios_call =
-          row_call bios_locked bios_seats n place is there pool_asked pool_replied (PoolOwes {P = (BioBody Pad)} IsClearBody) made (λ m asking replied owed. owed.pass)
-
-      bios_calls : calls_in set_key new.items ≡ upd (calls_in set_key seats.bios.items) n (calls_in set_key seats.bios.items n ++ record { by = seats.number + 1; asked = pool_asked ask; told = bios_call.told } ∷ [])
-      bios_calls =
-          row_calls bios_locked bios_seats n place is there pool_asked pool_replied (PoolOwes {P = (BioBody Pad)} IsClearBody) made (λ m asking replied owed. owed.pass)
-
       pub bios_called : HasCalled (desk_of seats) (pool_asked ask) (pool_replied said) (desk_of with_bios)
       bios_called =
-          let call : Call = record { by = seats.number + 1; asked = pool_asked ask; told = bios_call.told } in
-          has_called (OfPool n) (calls_of seats) (calls_of with_bios) named bios_call
-          (ap (λ (f : ℕ → List Call). record (calls_of seats) { pool = f })
-          (ap (λ f. by_kind (own seats.vecs.known) f (calls_in slip_key seats.records.items)) bios_calls
-          ∙ bios_change (own seats.vecs.known) (calls_in set_key seats.bios.items) (calls_in slip_key seats.records.items) n _ (bios_not_64 locks.common.value.opened n holds.locked.opened is) (bios_of_set locks.common.value.opened n is)
-          ∙ ap (λ xs. upd (calls_of seats).pool n (xs ++ call ∷ []))
-          (sym (stands_for_bios (own seats.vecs.known) (calls_in set_key seats.bios.items) (calls_in slip_key seats.records.items) n (bios_not_64 locks.common.value.opened n holds.locked.opened is) (bios_of_set locks.common.value.opened n is)))))
+          row_called bios_locked bios_seats n place is there pool_asked pool_replied (PoolOwes {P = (BioBody Pad)} IsClearBody) made (λ m asking replied owed. owed.pass)
+          (calls_of seats) (λ f. record (calls_of seats) { pool = by_kind (own seats.vecs.known) f (calls_in slip_key seats.records.items) }) named
+          (λ call. ap (λ (f : ℕ → List Call). record (calls_of seats) { pool = f })
+          (bios_change (own seats.vecs.known) (calls_in set_key seats.bios.items) (calls_in slip_key seats.records.items) n _ (bios_not_64 locks.common.value.opened n holds.locked.opened is) (bios_of_set locks.common.value.opened n is)
+          ∙ ap (λ xs. upd (calls_of seats).pool n (xs ++ call ∷ [])) (sym (stands_for_bios (own seats.vecs.known) (calls_in set_key seats.bios.items) (calls_in slip_key seats.records.items) n (bios_not_64 locks.common.value.opened n holds.locked.opened is) (bios_of_set locks.common.value.opened n is)))))
 
       pub bios_holds : DeskHolds locks with_bios
       bios_holds = record {
@@ -87,7 +77,7 @@ module _ (locks : Locks) (seats : TaskSeats) (holds : DeskHolds locks seats) whe
           books = holds.seated.books;
           tally = holds.seated.tally;
         };
-        passed = home_again locks.common.value.clock bios_call holds.passed;
+        passed = row_home bios_locked bios_seats n place is there pool_asked pool_replied (PoolOwes {P = (BioBody Pad)} IsClearBody) made (λ m asking replied owed. owed.pass) holds.passed;
       }
 
       pub bios_says : PoolSays IsClearBody ((stage_at locks).ledger n) ask said
@@ -118,23 +108,13 @@ module _ (locks : Locks) (seats : TaskSeats) (holds : DeskHolds locks seats) whe
       abbrev with_slips : TaskSeats
       with_slips = record seats { pass = after; records = new }
 
-      abbrev slips_call : SeatCalls seats.number made.seat.1.known made.now.known seats.pass (pool_asked ask) (pool_replied said) after
-      slips_call =
-          row_call slips_locked slips_seats n place is there pool_asked pool_replied (PoolOwes {P = Slip} IsClearSlip) made (λ m asking replied owed. owed.pass)
-
-      slips_calls : calls_in slip_key new.items ≡ upd (calls_in slip_key seats.records.items) n (calls_in slip_key seats.records.items n ++ record { by = seats.number + 1; asked = pool_asked ask; told = slips_call.told } ∷ [])
-      slips_calls =
-          row_calls slips_locked slips_seats n place is there pool_asked pool_replied (PoolOwes {P = Slip} IsClearSlip) made (λ m asking replied owed. owed.pass)
-
       pub slips_called : HasCalled (desk_of seats) (pool_asked ask) (pool_replied said) (desk_of with_slips)
       slips_called =
-          let call : Call = record { by = seats.number + 1; asked = pool_asked ask; told = slips_call.told } in
-          has_called (OfPool n) (calls_of seats) (calls_of with_slips) named slips_call
-          (ap (λ (f : ℕ → List Call). record (calls_of seats) { pool = f })
-          (ap (λ f. by_kind (own seats.vecs.known) (calls_in set_key seats.bios.items) f) slips_calls
-          ∙ records_change (own seats.vecs.known) (calls_in set_key seats.bios.items) (calls_in slip_key seats.records.items) n _ (slips_not_64 locks.common.value.opened n is) (slips_of_set locks.common.value.opened n holds.locked.opened is)
-          ∙ ap (λ xs. upd (calls_of seats).pool n (xs ++ call ∷ []))
-          (sym (stands_for_records (own seats.vecs.known) (calls_in set_key seats.bios.items) (calls_in slip_key seats.records.items) n (slips_not_64 locks.common.value.opened n is) (slips_of_set locks.common.value.opened n holds.locked.opened is)))))
+          row_called slips_locked slips_seats n place is there pool_asked pool_replied (PoolOwes {P = Slip} IsClearSlip) made (λ m asking replied owed. owed.pass)
+          (calls_of seats) (λ f. record (calls_of seats) { pool = by_kind (own seats.vecs.known) (calls_in set_key seats.bios.items) f }) named
+          (λ call. ap (λ (f : ℕ → List Call). record (calls_of seats) { pool = f })
+          (records_change (own seats.vecs.known) (calls_in set_key seats.bios.items) (calls_in slip_key seats.records.items) n _ (slips_not_64 locks.common.value.opened n is) (slips_of_set locks.common.value.opened n holds.locked.opened is)
+          ∙ ap (λ xs. upd (calls_of seats).pool n (xs ++ call ∷ [])) (sym (stands_for_records (own seats.vecs.known) (calls_in set_key seats.bios.items) (calls_in slip_key seats.records.items) n (slips_not_64 locks.common.value.opened n is) (slips_of_set locks.common.value.opened n holds.locked.opened is)))))
 
       pub slips_holds : DeskHolds locks with_slips
       slips_holds = record {
@@ -148,7 +128,7 @@ module _ (locks : Locks) (seats : TaskSeats) (holds : DeskHolds locks seats) whe
           books = holds.seated.books;
           tally = holds.seated.tally;
         };
-        passed = home_again locks.common.value.clock slips_call holds.passed;
+        passed = row_home slips_locked slips_seats n place is there pool_asked pool_replied (PoolOwes {P = Slip} IsClearSlip) made (λ m asking replied owed. owed.pass) holds.passed;
       }
 
       pub slips_says : PoolSays IsClearSlip ((stage_at locks).ledger n) ask said

@@ -1,17 +1,20 @@
 -- One call of an object among those of its kind.
-use Rattle.std.proofs.Common.{◌≡◌, ◌+◌, ◌++◌, ℕ, Bool, List, [], ◌∷◌, Option, get_or, sym, subst}
+use Rattle.std.proofs.Common.{◌≡◌, ◌+◌, ◌++◌, ℕ, Bool, List, [], ◌∷◌, Option, sym, ◌∙◌, ap, subst}
 use Rattle.std.specs.Prelude.{IsTrue, slice_index_or}
 use Rattle.tick_clock.specs.Tickets.{PassState}
 use Rattle.seat_lock.specs.Seats.{LockId, SeatState}
-use Rattle.run_machine.specs.Laws.{Object}
+use Rattle.run_machine.specs.Laws.{Object, object_of}
 use Rattle.run_machine.specs.Maps.{upd}
 use Rattle.run_machine.specs.Requests.{Request, Reply}
 use Rattle.object_things.specs.declared.stamp.Asking.{Asking}
 use Rattle.object_things.specs.declared.stamp.Replied.{Replied}
+use Rattle.object_things.specs.Histories.{Call}
 use Rattle.object_things.specs.Stamps.{CommonState, MarkState, Told}
 use Rattle.shared_objects.specs.Calling.{FitsWith, HasAskedAt}
+use Rattle.shared_objects.specs.Calls.{CallsAt, with_call}
+use Rattle.shared_objects.specs.Desks.{HasCalled}
 use Rattle.shared_objects.specs.Holding.{AreLocked, AreSeatsOf, IsPassOf, IsSeatOf, calls_in}
-use Rattle.shared_objects.proofs.asking.PassAndCalls.{SeatCalls, PassesBy, fits_with, numbered_stays, owed_of, seat_calls, told_by}
+use Rattle.shared_objects.proofs.asking.PassAndCalls.{SeatCalls, PassesBy, fits_with, has_called, home_again, numbered_stays, owed_of, seat_calls, told_by}
 use Rattle.shared_objects.proofs.asking.RowSeats.{named_at, seat_of, calls_now, seats_now}
 
 abbrev pub mark_as : CommonState → Object → MarkState
@@ -44,6 +47,18 @@ module _ {K T : Type 0} {key : K → ℕ} {mark : T → MarkState} {name : ℕ �
       row_calls =
           calls_now locked seated n i is place made.lock made.lock_is made.seat made.seat_is made.now new made.changed
           (record { by = task + 1; asked = asked_of ask; told = row_call.told }) row_call.calls
+
+      -- and it is a call of the task, whose calls at all objects are `whole` of those at the objects of this kind
+      abbrev pub row_called : (calls : CallsAt) (whole : (ℕ → List Call) → CallsAt) → object_of (asked_of ask) ≡ name n
+          → ((call : Call) → whole (upd (calls_in key seats) n (calls_in key seats n ++ call ∷ [])) ≡ with_call calls (name n) call)
+          → HasCalled (record { number = task + 1; pass = before; calls = calls }) (asked_of ask) (reply_of said)
+          (record { number = task + 1; pass = after; calls = whole (calls_in key new) })
+      row_called calls whole named adds =
+          has_called (name n) calls (whole (calls_in key new)) named row_call
+          (ap whole row_calls ∙ adds (record { by = task + 1; asked = asked_of ask; told = row_call.told }))
+
+      pub row_home : IsPassOf common.clock before → IsPassOf common.clock after
+      row_home home = home_again common.clock row_call home
 
     pub row_seats : AreSeatsOf task locks new
     row_seats =
