@@ -98,6 +98,10 @@ pub record DeskHolds (locks : Locks) (seats : TaskSeats) : Type 0 where
   pub seated : SeatsHold locks seats
   pub passed : IsPassOf locks.common.value.clock seats.pass
 
+-- it holds again behind a step, with locks of the same stage as before
+abbrev pub StillHolds : Locks → Locks → TaskSeats → Type 0
+StillHolds old new seats = DeskHolds new seats × (stage_at new ≡ stage_at old)
+
 -- the calls by the numbers of the objects of a kind
 abbrev pub calls_in : {K T : Type 0} → (K → ℕ) → List (K × SeatState T Request Told) → ℕ → List Call
 calls_in {K = K} {T = T} key seats = look_up (λ (e : K × SeatState T Request Told). key e.0) (λ e. own e.1.known) (λ number. []) seats

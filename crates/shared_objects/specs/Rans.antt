@@ -82,6 +82,10 @@ pub record RanState : Type 0 where
   pub stopped : Bool
   pub noted : Option Noted
 
+-- it has made no step yet
+abbrev pub unstepped : TaskOf → TaskSeats → TaskOf → Locks → Option Noted → RanState
+unstepped task seats first home noted = record { task = task; seats = seats; first = first; home = home; events = 0; stopped = false; noted = noted }
+
 -- what is known of it beside the task and its seats, which may stand at a desk meanwhile
 pub record ProgressState : Type 0 where
   pub first : TaskOf

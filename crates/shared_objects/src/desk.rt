@@ -1,7 +1,7 @@
 //! The desk of a task.
 ghost use Rattle.std.specs.Prelude.{◌≡◌};
 ghost use Rattle.task_steps.specs.Homes.{IsTaskOf};
-ghost use Rattle.shared_objects.specs.Holding.{DeskHolds, stage_at};
+ghost use Rattle.shared_objects.specs.Holding.{DeskHolds, StillHolds, stage_at};
 ghost use Rattle.shared_objects.specs.Logs.{seen_by};
 ghost use Rattle.shared_objects.specs.Rans.{ChosenWith, TurnsWith};
 
@@ -56,7 +56,7 @@ impl<'a, R: Wait> Desk<'a, R> {
         requires task { IsTaskOf (stage_at self.old.locks.now) task.old.state }
         ensures turns { TurnsWith self.old.locks.now task.old self.old.seats task.new self.new.seats result }
         ensures chosen { ChosenWith C.chooses task.old.state self.old.seats self.new.seats chooser.old result chooser.new }
-        ensures kept { DeskHolds self.new.locks.now self.new.seats × (stage_at self.new.locks.now ≡ stage_at self.old.locks.now) }
+        ensures kept { StillHolds self.old.locks.now self.new.locks.now self.new.seats }
         ensures same { task.new.routing ≡ task.old.routing }
         ensures locks { self.new.locks.now ≡ self.old.locks.now }
     {

@@ -66,12 +66,11 @@ impl Model for Ran {
 }
 
 impl Ran {
-    ghost use Rattle.std.specs.Prelude.{false};
     ghost use Rattle.run_machine.specs.Events.{id_of};
     ghost use Rattle.task_steps.specs.Homes.{IsTaskOf};
     ghost use Rattle.shared_objects.specs.Holding.{DeskHolds, desk_of, stage_at};
     ghost use Rattle.shared_objects.specs.Joining.{HasJoinedSeats, IsPutAway};
-    ghost use Rattle.shared_objects.specs.Rans.{ChosenWith, IsNewDesk, IsOtherPass, RanHolds, TurnsWith, progress_of, ran_key, ran_of};
+    ghost use Rattle.shared_objects.specs.Rans.{ChosenWith, IsNewDesk, IsOtherPass, RanHolds, TurnsWith, progress_of, ran_key, ran_of, unstepped};
     ghost use Rattle.shared_objects.specs.Shared.{FirstsHold};
 
     /// A task as it was opened, with seats of these locks, at which nothing was called yet, and an empty list for its events, where the locks
@@ -82,7 +81,7 @@ impl Ran {
         requires task { IsTaskOf (stage_at locks.now) task.state }
         requires pass { IsOtherPass seats.pass }
         requires unused { IsNewDesk (desk_of seats) }
-        ensures made { result ≡ record { task = task; seats = seats; first = task; home = locks.now; events = 0; stopped = false; noted = result.noted } }
+        ensures made { result ≡ unstepped task seats task locks.now result.noted }
         ensures blank { IsBlank result.noted }
         ensures listed { is_some result.noted ≡ locks.now.trace }
     {

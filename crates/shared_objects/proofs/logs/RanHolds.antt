@@ -16,22 +16,19 @@ use Rattle.shared_objects.specs.Desks.{DeskState, DeskServes, HasCalled, PassOn}
 use Rattle.shared_objects.specs.Holding.{DeskHolds, desk_of, stage_at}
 use Rattle.shared_objects.specs.Logs.{seen_by}
 use Rattle.shared_objects.specs.Noting.{IsBlank, NotesStep}
-use Rattle.shared_objects.specs.Rans.{IsNewDesk, IsOtherPass, ProgressState, RanHolds, RanKey, RanState, StepsKeepTasks, events_after, ran_key, ran_of, stopped_after, TurnsWith}
+use Rattle.shared_objects.specs.Rans.{IsNewDesk, IsOtherPass, ProgressState, RanHolds, RanKey, RanState, StepsKeepTasks, events_after, ran_key, ran_of, stopped_after, unstepped, TurnsWith}
 use Rattle.shared_objects.specs.declared.locks.Locks.{Locks}
 use Rattle.shared_objects.specs.declared.noted.Noted.{Noted}
 use Rattle.shared_objects.specs.declared.seats.TaskSeats.{TaskSeats}
 use Rattle.shared_objects.proofs.logs.StepKeeps.{new_desks_are_ran, steps_keep_ran}
 use Rattle.shared_objects.proofs.steps.TurnsSeen.{turns_keep}
 
-abbrev opened_at : Option Noted → TaskOf → TaskSeats → TaskOf → Locks → RanState
-opened_at noted task seats first home = record { task = task; seats = seats; first = first; home = home; events = 0; stopped = false; noted = noted }
-
 pub new_holds : (task : TaskOf) (seats : TaskSeats) (locks : Locks) (first : TaskOf) (home : Locks) (noted : Option Noted) → first ≡ task → home ≡ locks
     → DeskHolds locks seats → task.routing ≡ (stage_at locks).routing → IsTaskOf (stage_at locks) task.state → IsOtherPass seats.pass → IsNewDesk (desk_of seats) → IsBlank noted
     → is_some noted ≡ locks.trace
-    → RanHolds (record { task = task; seats = seats; first = first; home = home; events = 0; stopped = false; noted = noted })
+    → RanHolds (unstepped task seats first home noted)
 new_holds task seats locks first home noted first_is home_is desk routing of pass unused blank listed =
-    let here : RanHolds (opened_at noted task seats task locks) = record {
+    let here : RanHolds (unstepped task seats task locks noted) = record {
       desk = desk;
       routing = routing;
       task = of;
@@ -39,7 +36,7 @@ new_holds task seats locks first home noted first_is home_is desk routing of pas
       listed = listed;
       ran = new_desks_are_ran task (desk_of seats) noted unused blank;
     } in
-    subst (λ h. RanHolds (opened_at noted task seats first h)) (sym home_is) (subst (λ f. RanHolds (opened_at noted task seats f locks)) (sym first_is) here)
+    subst (λ h. RanHolds (unstepped task seats first h noted)) (sym home_is) (subst (λ f. RanHolds (unstepped task seats f locks noted)) (sym first_is) here)
 
 -- a step takes no list away, and brings none
 stays_listed : (step : Step) (seen : ℕ) (old new : Option Noted) → NotesStep step seen old new → is_some new ≡ is_some old

@@ -14,7 +14,7 @@ use Rattle.shared_objects.specs.Calls.{calls_at}
 use Rattle.shared_objects.specs.Holding.{AreSeatsOf, DeskHolds, IsPassOf, IsSeatOf, LocksHold, SeatsHold, calls_in, calls_of, desk_of, dev_key, set_key, slip_key, writer_key}
 use Rattle.shared_objects.specs.Opening.{AreNew, IsNewAt, IsTaskAt, first_pass_of}
 use Rattle.shared_objects.specs.Noting.{IsBlank}
-use Rattle.shared_objects.specs.Rans.{IsNewDesk, IsOtherPass, IsUnused, RanState}
+use Rattle.shared_objects.specs.Rans.{IsNewDesk, IsOtherPass, IsUnused, RanState, unstepped}
 use Rattle.shared_objects.specs.Rows.{Abreast}
 use Rattle.shared_objects.specs.declared.locks.Locks.{Locks}
 use Rattle.shared_objects.specs.declared.seats.TaskSeats.{TaskSeats}
@@ -70,7 +70,7 @@ module _ (n : ℕ) (locks : Locks) (seats : TaskSeats) (are : AreNew n locks sea
   other_pass = subst IsOtherPass (sym are.pass) (refl, refl)
 
   -- a task with these seats is as it was opened
-  pub task_is : (task : TaskOf) (ran : RanState) → ran ≡ record { task = task; seats = seats; first = task; home = locks; events = 0; stopped = false; noted = ran.noted } → IsBlank ran.noted
+  pub task_is : (task : TaskOf) (ran : RanState) → ran ≡ unstepped task seats task locks ran.noted → IsBlank ran.noted
       → IsTaskAt locks n task (Some ran)
   task_is task ran is blank = subst (λ r. IsTaskAt locks n task (Some r)) (sym is)
       (record { task = refl; desk = new_desk; events = refl; stopped = refl; blank = blank }, ap (λ k. record { first = task; home = locks; number = k }) are.number)

@@ -1,7 +1,7 @@
 //! Steps of a task that calls.
 ghost use Rattle.std.specs.Prelude.{◌≡◌};
 ghost use Rattle.task_steps.specs.Homes.{IsTaskOf};
-ghost use Rattle.shared_objects.specs.Holding.{DeskHolds, stage_at};
+ghost use Rattle.shared_objects.specs.Holding.{DeskHolds, StillHolds, stage_at};
 ghost use Rattle.shared_objects.specs.Rans.{ChosenWith, TurnsWith};
 
 use crate::caller::Caller;
@@ -16,7 +16,7 @@ impl<'a, R: Wait> Caller<'a, R> {
         requires task { IsTaskOf (stage_at self.old.locks.now) task.old.state }
         ensures turns { TurnsWith self.old.locks.now task.old self.old.seats.now task.new self.new.seats.now result }
         ensures chosen { ChosenWith C.chooses task.old.state self.old.seats.now self.new.seats.now chooser.old result chooser.new }
-        ensures kept { DeskHolds self.new.locks.now self.new.seats.now × (stage_at self.new.locks.now ≡ stage_at self.old.locks.now) }
+        ensures kept { StillHolds self.old.locks.now self.new.locks.now self.new.seats.now }
         ensures same { task.new.routing ≡ task.old.routing }
         ensures locks { self.new.locks.now ≡ self.old.locks.now }
         ensures lent { self.new.seats.ghost_name ≡ self.old.seats.ghost_name }
