@@ -34,6 +34,10 @@ no_head = record { ticket = None; list = 0; at = 0 }
 abbrev pub node : List Head → ℕ → Head
 node nodes number = slice_index_or nodes number no_head
 
+-- the smaller head of the two below an inner node
+abbrev pub smaller_below : List Head → ℕ → Head
+smaller_below nodes number = smaller (node nodes (2 * number)) (node nodes (2 * number + 1))
+
 -- heads that stand before the leaves of a list of lists, and these
 pub record AreHeadsAdded {T : Type 0} (rows : List (List (ℕ × T))) (old new : List Head) : Type 0 where
   pub long : length new ≡ length old + length rows
@@ -43,7 +47,7 @@ pub record AreHeadsAdded {T : Type 0} (rows : List (List (ℕ × T))) (old new :
 -- the smaller head of the two below it.
 pub record AreInner (count : ℕ) (nodes : List Head) (Are : ℕ → Type 0) : Type 0 where
   pub long : length nodes ≡ count + count
-  pub inner : (number : ℕ) → 1 ≤ number → number < count → Are number → node nodes number ≡ smaller (node nodes (2 * number)) (node nodes (2 * number + 1))
+  pub inner : (number : ℕ) → 1 ≤ number → number < count → Are number → node nodes number ≡ smaller_below nodes number
 
 -- each inner node has it
 abbrev pub IsTournament : ℕ → List Head → Type 0

@@ -4,7 +4,7 @@
 //! node `count + k`. Each inner node has the head of the two below it that comes first. So a list that goes on plays again on its way to the root
 //! alone, which is the logarithm of the number of lists.
 ghost use Rattle.std.specs.Prelude.{◌≡◌, ◌+◌, ◌*◌, ◌<◌, ◌≤◌, [], ℕ, IfOk, length, slice_index_or, slice_set};
-ghost use Rattle.run_merge.specs.Heads.{AreHeadsAdded, TakesHead, IsTournament, IsTournamentBut, IsTournamentAt, winner_of, head_at, node, rows, smaller};
+ghost use Rattle.run_merge.specs.Heads.{AreHeadsAdded, TakesHead, IsTournament, IsTournamentBut, IsTournamentAt, winner_of, head_at, node, rows, smaller, smaller_below};
 
 use std::alloc::{AllocError, Global};
 
@@ -55,7 +55,7 @@ fn add_heads<T>(lists: &[Vec<(u64, T)>], nodes: &mut Vec<Head>) -> Result<(), Al
 // Plays the match at an inner node.
 fn play(nodes: &mut Vec<Head>, number: usize)
     requires { 2 * number + 1 < length nodes.old.items }
-    ensures { nodes.new.items ≡ slice_set nodes.old.items number (smaller (node nodes.old.items (2 * number)) (node nodes.old.items (2 * number + 1))) }
+    ensures { nodes.new.items ≡ slice_set nodes.old.items number (smaller_below nodes.old.items number) }
 {
     nodes[number] = smaller(nodes[2 * number], nodes[2 * number + 1]);
 }
