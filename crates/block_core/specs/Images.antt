@@ -60,15 +60,14 @@ abbrev pub OneARound : Scenario → ℕ → ℕ → Type 0
 OneARound s disk at = (f g : Fragment) → IsOfScenario s f → IsOfScenario s g → writes_at s f disk at ≡ true → writes_at s g disk at ≡ true
     → round_at s f ≡ round_at s g → f ≡ g
 
--- and of these fragments those that write it come round by round
-abbrev pub ComeInRounds : Scenario → ℕ → ℕ → List Fragment → Type 0
-ComeInRounds s disk at fragments =
-    AllPairs (λ f g. writes_at s f disk at ≡ true → writes_at s g disk at ≡ true → round_at s f ≤ round_at s g) fragments
+-- none of these fragments comes behind one of a later round
+abbrev pub ComeInRounds : Scenario → List Fragment → Type 0
+ComeInRounds s fragments = AllPairs (λ f g. round_at s f ≤ round_at s g) fragments
 
--- In every run they come round by round, since nothing of an earlier round is left when a round starts.
+-- In every run fragments are completed round by round, since nothing of an earlier round is left when a round starts.
 abbrev pub RoundsComeInOrder : Type 0
 RoundsComeInOrder = (s : Scenario) (ledger : ℕ → LedgerId) (events : List Event) (state : State) → IsScenario s → IsNaming ledger
-    → (run : IsRun (scene s ledger) (start s) events state) (disk at : ℕ) → ComeInRounds s disk at (completed (scene s ledger) (start s) events state run)
+    → (run : IsRun (scene s ledger) (start s) events state) → ComeInRounds s (completed (scene s ledger) (start s) events state run)
 
 -- and where no two writes of a round have a sector in common, one fragment a round at most writes a sector
 abbrev pub OneFragmentASectorARound : Type 0

@@ -40,5 +40,5 @@ images_are_laid_out s ledger events state good apart naming run ended =
       sized = λ disk. (own disk).sized;
       laid = λ disk at lt.
           laid_by_rounds s ledger events state good naming run none disk at lt (one_fragment_a_sector_a_round s good apart disk at)
-          (rounds_come_in_order s ledger events state good naming run disk at);
+          (rounds_come_in_order s ledger events state good naming run);
     }

@@ -1,7 +1,7 @@
 -- Images are laid out where one fragment a round at most writes a sector, and rounds are completed one after the other.
 use Rattle.std.proofs.Common.{◌≡◌, ◌+◌, ◌-◌, ◌<◌, ◌≤◌, ◌==◌, ◌⊎◌, if◌then◌else◌, ℕ, zero, suc, Bool, true, false, List, [], ◌∷◌, length, map, Some, inl, inr, refl, sym, ◌∙◌, ap, subst, arith}
 use Rattle.std.specs.Prelude.{All, Contains, slice_get, slice_index_or, nat_le, nat_lt, zip}
-use Rattle.std.specs.List.{AllPairs, range_with_len}
+use Rattle.std.specs.List.{range_with_len}
 use Rattle.std.specs.Option.{option_map_or}
 use Rattle.std.proofs.lemmas.Bool.{eq-eqb}
 use Rattle.std.proofs.lemmas.Bool.Decides.{nat_tests}
@@ -64,14 +64,11 @@ module _ (s : Scenario) (disk at : ℕ) where
   not_true true no_way = absurd (no_way refl)
   not_true false no_way = refl
 
-  abbrev Rise : List Fragment → Type 0
-  Rise fs = AllPairs (λ f g. writes f ≡ true → writes g ≡ true → round_at s f ≤ round_at s g) fs
-
-  rest_rise : (g : Fragment) (gs : List Fragment) → Rise (g ∷ gs) → Rise gs
+  rest_rise : (g : Fragment) (gs : List Fragment) → ComeInRounds s (g ∷ gs) → ComeInRounds s gs
   rest_rise g gs pairs = λ i j d lt within. pairs (suc i) (suc j) d (omega (arith, lt)) (omega (arith, within))
 
-  first_rise : (g : Fragment) (gs : List Fragment) → Rise (g ∷ gs) → All (λ h. writes g ≡ true → writes h ≡ true → round_at s g ≤ round_at s h) gs
-  first_rise g gs pairs = All-from_get_or (λ h. writes g ≡ true → writes h ≡ true → round_at s g ≤ round_at s h) gs g (λ i lt. pairs 0 (suc i) g (omega arith) (omega (arith, lt)))
+  first_rise : (g : Fragment) (gs : List Fragment) → ComeInRounds s (g ∷ gs) → All (λ h. round_at s g ≤ round_at s h) gs
+  first_rise g gs pairs = All-from_get_or (λ h. round_at s g ≤ round_at s h) gs g (λ i lt. pairs 0 (suc i) g (omega arith) (omega (arith, lt)))
 
   -- the fragment of the latest round that writes the sector
   abbrev IsLast : Fragment → List Fragment → Type 0
@@ -81,7 +78,7 @@ module _ (s : Scenario) (disk at : ℕ) where
   last_in f g gs (zero, within, is) none = is
   last_in f g gs (suc k, within, is) none = absurd (omega (arith, none, times_some f gs (k, omega (arith, within), is)))
 
-  pub last_held : (f : Fragment) (fs : List Fragment) (held : List ℕ) → Contains fs f → writes f ≡ true → IsLast f fs → Rise fs → held_after s disk at fs held ≡ data_of f
+  pub last_held : (f : Fragment) (fs : List Fragment) (held : List ℕ) → Contains fs f → writes f ≡ true → IsLast f fs → ComeInRounds s fs → held_after s disk at fs held ≡ data_of f
   last_held f [] held (k, within, is) here last rise = absurd (omega (arith, within))
   last_held f (g ∷ gs) held c here last rise = elim (same_or_not (fragment_count f gs) 0) [
     | inr some ↦ last_held f gs (put s disk at g held) (some_times f gs (omega (arith, some))) here (λ h in_rest w. last h (Contains-append_right (g ∷ []) gs h in_rest) w) (rest_rise g gs rise)
@@ -93,7 +90,7 @@ module _ (s : Scenario) (disk at : ℕ) where
         (all_map (Contains gs) (λ h. writes h ≡ false) (λ h in_rest. not_true (writes h) (λ w. elim (last h (Contains-append_right (g ∷ []) gs h in_rest) w) [
           | inl e ↦ let some = times_some f gs (subst (Contains gs) e in_rest) in omega (arith, none, some)
           | inr lower ↦
-              let order = All-contains (λ h. writes g ≡ true → writes h ≡ true → round_at s g ≤ round_at s h) gs h above in_rest mine w in
+              let order = All-contains (λ h. round_at s g ≤ round_at s h) gs h above in_rest in
               let round : round_at s g ≡ round_at s f = ap (round_at s) same in
               omega (arith, order, lower, round)
         ])) gs (All-contains_itself gs))
@@ -201,7 +198,7 @@ module _ (s : Scenario) (good : IsScenario s) (disk at : ℕ) where
 -- where nothing is left to come, one fragment a round at most writes the sector, and rounds were completed one after the other, it holds what is
 -- laid out there
 pub laid_by_rounds : (s : Scenario) (ledger : ℕ → LedgerId) (events : List Event) (state : State) → IsScenario s → IsNaming ledger → (run : IsRun (scene s ledger) (start s) events state)
-    → NothingComes (scene s ledger) state → (disk at : ℕ) → at < size (tree s.stack disk) → OneARound s disk at → ComeInRounds s disk at (completed (scene s ledger) (start s) events state run)
+    → NothingComes (scene s ledger) state → (disk at : ℕ) → at < size (tree s.stack disk) → OneARound s disk at → ComeInRounds s (completed (scene s ledger) (start s) events state run)
     → IsLaid s.stack s.writes s.rounds disk at (slice_index_or (state.objects.disk disk).image at [])
 laid_by_rounds s ledger events state good naming run none disk at lt one rise = record {
   written = λ number write found there latest.

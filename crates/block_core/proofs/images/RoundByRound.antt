@@ -104,9 +104,8 @@ module _ (s : Scenario) (ledger : ℕ → LedgerId) (f : Fair (scene s ledger)) 
       )
 
 pub rounds_come_in_order : RoundsComeInOrder
-rounds_come_in_order s ledger events state good naming run disk at =
+rounds_come_in_order s ledger events state good naming run =
     let f : Fair (scene s ledger) = record { named = naming } in
     let g = ground s.stack good.stack (setup_in s).places in
-    let rise = runs_rise s ledger f g (start s) events state (start_whole s ledger good naming) run
-    (λ before between r. (work_is_present s ledger before between good naming r).bios.pending) in
-    λ i j d lt within w v. rise.1 i j d lt within
+    (runs_rise s ledger f g (start s) events state (start_whole s ledger good naming) run
+    (λ before between r. (work_is_present s ledger before between good naming r).bios.pending)).1
