@@ -87,8 +87,8 @@ pub fn runs_are_bounded()
 {}
 
 /// However the kinds of event are priced, the events of no run of any scenario cost more than all that pays for them, by the table of what each bio,
-/// vector, record, fragment, entry, round and change pays for: so no charge is used twice. Nor do the events behind any reached state cost more than
-/// the charges that are open there without those that are open behind them.
+/// vector, record, fragment, entry, round and change pays for: so no charge is used twice, and no more is ever spent than is charged. Nor do the
+/// events behind any reached state cost more than the charges that are open there without those that are open behind them.
 pub fn events_have_charges()
     ensures all { CostsAreCharged }
     ensures spent { NoMoreIsSpent }
@@ -105,9 +105,9 @@ pub fn each_kind_is_within_its_payers()
     ensures kinds { EachKindIsWithinItsPayers }
 {}
 
-/// Where no take of a run misses, the layout alone fixes how many events it has once it has ended: each element is taken and given back, each node
-/// linked, and each fragment pushed and completed; each fragment and each node under another is told to a node, each write is done, and the
-/// keeper has done all that it has to.
+/// Where no take of a run misses, the layout, the rounds and the changes of reserves fix how many events it has once it has ended: each element is
+/// taken and given back, each node linked, and each fragment pushed and completed; each fragment and each node under another is told to a node,
+/// each write is done, and the keeper has done all that it has to.
 pub fn steps_without_misses()
     ensures { StepsWithoutMisses }
 {}
