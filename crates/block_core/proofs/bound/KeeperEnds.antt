@@ -52,6 +52,7 @@ module _ (scene : Scene) (s : State) (all : (place : ℕ) → KeepsLater (s.task
   goes place y h = all-upd KeepsLater s.task place y all h
 
   stays_later : (m : Move) → Can scene s m → (other : ℕ) → KeepsLater ((after scene s m).task other)
+  -- takes, misses, punts, pops, pushes, completions, links, drops, gives and ends of writes: no duties change
   stays_later (moves.TakesFirst place writer todo later move) c = goes place _ tt
   stays_later (moves.TakesVector place writer todo later item move) c = goes place _ tt
   stays_later (moves.TakesSub place x doing lists dev waits move) c = goes place _ (lined x doing lists _ c.2)
@@ -70,6 +71,7 @@ module _ (scene : Scene) (s : State) (all : (place : ℕ) → KeepsLater (s.task
   stays_later (moves.Closes place disk carried writer key status part node) c = goes place _ tt
   stays_later (moves.Gives place disk writer number closed held) c = goes place _ tt
   stays_later (moves.Ends place disk writer closed) c = goes place _ tt
+  -- resizes and rounds: the duties behind it are as they were
   stays_later (moves.Resized place pool min later duties) c =
       let h : Each HasLater (Resizes pool min later ∷ duties) = subst KeepsLater c.1 (all place) in
       goes place (Keeper (Keeps duties)) h.1

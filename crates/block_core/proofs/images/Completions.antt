@@ -140,6 +140,7 @@ module _ (scene : Scene) (s : State) where
 
   -- what an event's task brings
   pub move_brings : (m : Move) → Can scene s m → brought (s.task (place_of m)) ((after scene s m).task (place_of m)) ≡ ended m
+  -- takes, misses, punts, pops and pushes: no task comes to bring a bio
   move_brings (moves.TakesFirst place writer todo later move) c = here place _ _ c.1
   move_brings (moves.TakesVector place writer todo later item move) c = here place _ _ c.1
   move_brings (moves.TakesSub place x doing lists dev waits move) c = here place x _ c.1 ∙ submission_brings x doing lists _ c.2
@@ -149,13 +150,17 @@ module _ (scene : Scene) (s : State) where
   move_brings (moves.Punts place x doing lists dev) c = here place x _ c.1 ∙ submission_brings x doing lists _ c.2
   move_brings (moves.Pops place dev bio bios) c = here place _ _ c.1
   move_brings (moves.Pushes place x bio lists) c = here place x _ c.1 ∙ submission_brings x (Drives bio ToPush) lists _ c.2
+  -- completions: the completer brings the bio that its disk completed
   move_brings (moves.Completed place disk index bio status new) c = here place _ _ c.1
+  -- links: no task comes to bring a bio
   move_brings (moves.Begins place writer todo later item vector key) c = here place _ _ c.1
   move_brings (moves.Chained place x bio lists hand number kind sizes members key node) c = here place x _ c.1 ∙ submission_brings x (Drives bio (ToCut (Links hand))) lists _ c.2
   move_brings (moves.Mastered place x bio lists slip key node) c = here place x _ c.1 ∙ submission_brings x (Drives bio (ToMaster slip)) lists _ c.2
   move_brings (moves.Legged place x bio lists master leg hand key node) c = here place x _ c.1 ∙ submission_brings x (Copies bio master leg (Links hand)) lists _ c.2
+  -- drops: the completer brought or carried something before, and brings no other bio
   move_brings (moves.Told place disk carried writer key status part node) c = here place _ _ c.1 ∙ tells_brings disk carried writer key status part _ c.2
   move_brings (moves.Closes place disk carried writer key status part node) c = here place _ _ c.1 ∙ tells_brings disk carried writer key status part _ c.2
+  -- gives, ends of writes, resizes and rounds: no task comes to bring a bio
   move_brings (moves.Gives place disk writer number closed held) c = here place _ _ c.1
   move_brings (moves.Ends place disk writer closed) c = here place _ _ c.1
   move_brings (moves.Resized place pool min later duties) c = here place _ _ c.1

@@ -161,11 +161,14 @@ module _ (s : Scenario) (ledger : ℕ → LedgerId) (st : State) (a : Placed (se
       (record { waiting = All-push (IsWaiting s bio.bio.dev.0) (st.objects.disk bio.bio.dev.0).pending bio old.waiting (there, refl); bads = old.bads; sized = old.sized })
 
   pub own_stays : (m : Move) → Can here st m → (number : ℕ) → IsOwn s number ((after here st m).objects.disk number)
+  -- pushes: the bio is there, and goes to its own disk
   own_stays (moves.Pushes place x bio lists) c =
       let d : DoingPlaced (setup_in s) (limit_of x) (Drives bio ToPush) lists = placed_at (setup_in s) st a place x (Drives bio ToPush) lists c.1 c.2 in
       pushed_own bio d.1.0.0
+  -- completions: the disk keeps its bad ranges and its size, and the other bios wait on
   own_stays (moves.Completed place disk index bio ending new) c =
       upd_keeps (IsOwn s) st.objects.disk disk.0 new own (own_after s disk.0 (st.objects.disk disk.0) index bio ending new (own disk.0) c.3)
+  -- takes, misses, punts, pops, links, drops, gives, ends of writes, resizes and rounds: no disk changes
   own_stays (moves.TakesFirst place writer todo later move) c = own
   own_stays (moves.TakesVector place writer todo later item move) c = own
   own_stays (moves.TakesSub place x doing lists dev waits move) c = own
@@ -208,7 +211,9 @@ module _ (s : Scenario) (ledger : ℕ → LedgerId) (st : State) (a : Placed (se
   -- what an event makes of a sector
   pub event_holds : (m : Move) → Can here st m → total_weight here (misfits (unfit s)) st ≡ 0 → (number x : ℕ)
       → slice_index_or ((after here st m).objects.disk number).image x [] ≡ held_after s number x (ended m) (slice_index_or (st.objects.disk number).image x [])
+  -- pushes: a bio waits in its disk, and no sector changes
   event_holds (moves.Pushes place x bio lists) c none number at = same_held number at bio.bio.dev.0 (pushed bio (st.objects.disk bio.bio.dev.0)) refl
+  -- completions: the bio has its own data, and sectors of other disks stay as they are
   event_holds (moves.Completed place disk index bio ending new) c none number at =
       let old = own disk.0 in
       let sector : ℕ → List ℕ = λ k. slice_index_or (st.objects.disk k).image at [] in
@@ -222,6 +227,7 @@ module _ (s : Scenario) (ledger : ℕ → LedgerId) (st : State) (a : Placed (se
         | inr ne ↦ ap (λ (d : DiskState). slice_index_or d.image at []) (upd-other st.objects.disk disk.0 new number ne)
             ∙ sym (elsewhere s number at (fragment_of bio.bio) (sector number) (λ q. ne (sym q ∙ mine.1)))
       ]
+  -- takes, misses, punts, pops, links, drops, gives, ends of writes, resizes and rounds: no disk changes
   event_holds (moves.TakesFirst place writer todo later move) c none number at = refl
   event_holds (moves.TakesVector place writer todo later item move) c none number at = refl
   event_holds (moves.TakesSub place x doing lists dev waits move) c none number at = refl

@@ -53,6 +53,7 @@ submission_zero : (limit : ℕ) (submission : Submission) → submission_weight 
 submission_zero limit submission = omega (arith, doing_zero limit submission.doing, zeros submission.lists.list0, zeros submission.lists.list1)
 
 pub no_bare : (scene : Scene) (s : State) → total_weight scene bare s ≡ 0 → (m : Move) → Can scene s m → total_weight scene bare (after scene s m) ≡ 0
+-- takes, misses, punts, pops, pushes and completions: no node changes
 no_bare scene s none (moves.TakesFirst place writer todo later move) c = omega (arith, none, delta scene bare s (moves.TakesFirst place writer todo later move) c)
 no_bare scene s none (moves.TakesVector place writer todo later item move) c = omega (arith, none, delta scene bare s (moves.TakesVector place writer todo later item move) c)
 no_bare scene s none (moves.TakesSub place x doing lists dev waits move) c = omega (arith, none, delta scene bare s (moves.TakesSub place x doing lists dev waits move) c)
@@ -63,6 +64,7 @@ no_bare scene s none (moves.Punts place x doing lists dev) c = omega (arith, non
 no_bare scene s none (moves.Pops place dev bio bios) c = omega (arith, none, delta scene bare s (moves.Pops place dev bio bios) c, submission_zero dev.0 (settled scene.setup (bio ∷ [])))
 no_bare scene s none (moves.Pushes place x bio lists) c = omega (arith, none, delta scene bare s (moves.Pushes place x bio lists) c, submission_zero (limit_of x) (goes_on scene.setup bio.bio.dev lists))
 no_bare scene s none (moves.Completed place disk index bio status new) c = omega (arith, none, delta scene bare s (moves.Completed place disk index bio status new) c)
+-- links of writes and of pieces: the new node is no master, and one above it keeps its record
 no_bare scene s none (moves.Begins place writer todo later item vector key) c =
     omega (arith, none, delta scene bare s (moves.Begins place writer todo later item vector key) c, submission_zero 32 (settled scene.setup (filled_of writer todo item vector key ∷ [])))
 no_bare scene s none (moves.Chained place x bio lists hand number kind sizes members key node) c =
@@ -72,8 +74,10 @@ no_bare scene s none (moves.Chained place x bio lists hand number kind sizes mem
       delta scene bare s (moves.Chained place x bio lists hand number kind sizes members key node) c,
       submission_zero (limit_of x) (goes_on scene.setup bio.bio.dev (cut_lists bio lists hand (first_length kind sizes bio.bio.range) key kind sizes members)),
     )
+-- links of masters: the master has its record, and the node above it keeps its own
 no_bare scene s none (moves.Mastered place x bio lists slip key node) c =
     omega (arith, none, delta scene bare s (moves.Mastered place x bio lists slip key node) c, submission_zero (limit_of x) (copies scene.setup lists bio.bio key 0))
+-- links of legs: the new node is no master
 no_bare scene s none (moves.Legged place x bio lists master leg hand key node) c =
     omega (
       arith,
@@ -81,8 +85,11 @@ no_bare scene s none (moves.Legged place x bio lists master leg hand key node) c
       delta scene bare s (moves.Legged place x bio lists master leg hand key node) c,
       submission_zero (limit_of x) (copies scene.setup (submitted (leg_at bio hand leg key (tree_at scene.setup bio.dev)) lists) bio master (leg + 1)),
     )
+-- drops that leave a node open: it keeps its record
 no_bare scene s none (moves.Told place disk carried writer key status part node) c = omega (arith, none, delta scene bare s (moves.Told place disk carried writer key status part node) c)
+-- drops that close a node: one that is closed is not counted
 no_bare scene s none (moves.Closes place disk carried writer key status part node) c = omega (arith, none, delta scene bare s (moves.Closes place disk carried writer key status part node) c)
+-- gives, ends of writes, resizes and rounds: no open node changes
 no_bare scene s none (moves.Gives place disk writer number closed held) c = omega (arith, none, delta scene bare s (moves.Gives place disk writer number closed held) c)
 no_bare scene s none (moves.Ends place disk writer closed) c = omega (arith, none, delta scene bare s (moves.Ends place disk writer closed) c)
 no_bare scene s none (moves.Resized place pool min later duties) c = omega (arith, none, delta scene bare s (moves.Resized place pool min later duties) c)

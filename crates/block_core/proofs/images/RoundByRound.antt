@@ -31,6 +31,7 @@ use Rattle.block_core.proofs.images.Present.{work_is_present}
 
 -- no event goes back to an earlier round
 round_on : (scene : Scene) (s : State) (m : Move) → s.objects.tally.round ≤ (after scene s m).objects.tally.round
+-- takes, misses, punts, pops, pushes, completions, links, drops, gives, ends of writes and resizes: the same round
 round_on scene s (moves.TakesFirst place writer todo later move) = omega arith
 round_on scene s (moves.TakesVector place writer todo later item move) = omega arith
 round_on scene s (moves.TakesSub place x doing lists dev waits move) = omega arith
@@ -50,6 +51,7 @@ round_on scene s (moves.Closes place disk carried writer key status part node) =
 round_on scene s (moves.Gives place disk writer number closed held) = omega arith
 round_on scene s (moves.Ends place disk writer closed) = omega arith
 round_on scene s (moves.Resized place pool min later duties) = omega arith
+-- rounds: the next round
 round_on scene s (moves.Started place round later duties) = omega arith
 
 no_pairs : (R : Fragment → Fragment → Type 0) → AllPairs R []

@@ -50,6 +50,7 @@ module _ (scene : Scene) (s : State) (g : Ground scene.setup) (p : Placed scene.
   was writer key node at = subst IsAlive at (i writer key)
 
   pub alive : (m : Move) → Can scene s m → (w k : ℕ) → IsAlive (node_at ((after scene s m).objects.book w) k)
+  -- takes, misses, punts, pops, pushes and completions: no book changes
   alive (moves.TakesFirst place writer todo later move) c = i
   alive (moves.TakesVector place writer todo later item move) c = i
   alive (moves.TakesSub place x doing lists dev waits move) c = i
@@ -60,12 +61,15 @@ module _ (scene : Scene) (s : State) (g : Ground scene.setup) (p : Placed scene.
   alive (moves.Pops place dev bio bios) c = i
   alive (moves.Pushes place x bio lists) c = i
   alive (moves.Completed place disk index bio status new) c = i
+  -- links of writes: the top node waits for one end
   alive (moves.Begins place writer todo later item vector key) c =
       let v = vacant_at (s.objects.book writer) key c.3 in
       of_book writer _ (nodes_all IsAlive (s.objects.book writer) key (Some (top_node todo.number (vector_of todo vector))) v.1 (i writer) (omega arith))
+  -- links of pieces: the new node waits for one end, and the node above it for one more than before
   alive (moves.Chained place x bio lists hand number kind sizes members key node) c =
       let old = was bio.bio.writer bio.bio.node node c.5 in
       of_book bio.bio.writer _ (two_all IsAlive (s.objects.book bio.bio.writer) key bio.bio.node node (child_node node.write bio.bio.node) (raised node) c.6 c.5 (i bio.bio.writer) (omega arith) (omega (arith, old)))
+  -- links of masters: the master waits for its legs, of which a mirror has one at least
   alive (moves.Mastered place x bio lists slip key node) c =
       let old = was bio.bio.writer bio.bio.node node c.4 in
       let d = placed_at scene.setup s p place x (Drives bio (ToMaster slip)) lists c.1 c.2 in
@@ -77,14 +81,18 @@ module _ (scene : Scene) (s : State) (g : Ground scene.setup) (p : Placed scene.
       by_tree (Leaf number sectors) is a has = absurd a
       by_tree (Split number kind sizes members) is a has = absurd a
       by_tree (Mirrored number sizes members) is a has = has.0
+  -- links of legs: the node of the leg waits for one end
   alive (moves.Legged place x bio lists master leg hand key node) c =
       let v = vacant_at (s.objects.book bio.writer) key c.5 in
       of_book bio.writer _ (nodes_all IsAlive (s.objects.book bio.writer) key (Some (leg_node node.write master)) v.1 (i bio.writer) (omega arith))
+  -- drops that leave a node open: it waited for more than one end
   alive (moves.Told place disk carried writer key status part node) c =
       let lt = c.5 in
       of_book writer _ (nodes_all IsAlive (s.objects.book writer) key (Some (lowered (told node status part))) (within_book (s.objects.book writer) key node c.4) (i writer) (omega (arith, lt)))
+  -- drops that close a node: its place is vacant then
   alive (moves.Closes place disk carried writer key status part node) c =
       of_book writer _ (nodes_all IsAlive (s.objects.book writer) key None (within_book (s.objects.book writer) key node c.4) (i writer) tt)
+  -- gives, ends of writes, resizes and rounds: no book changes
   alive (moves.Gives place disk writer number closed held) c = i
   alive (moves.Ends place disk writer closed) c = i
   alive (moves.Resized place pool min later duties) c = i

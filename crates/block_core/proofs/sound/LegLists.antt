@@ -103,8 +103,10 @@ module _ (scene : Scene) (s : State) where
   -- an open node keeps its role as long as it is open
   pub stays_or_closes : (m : Move) → Can scene s m → (w k : ℕ) (node : Node) → node_at (s.objects.book w) k ≡ Some node
       → StaysOrCloses (node_at ((after scene s m).objects.book w) k) node
+  -- links of writes: the new node is made at a vacant place
   stays_or_closes (moves.Begins place writer todo later item vector key) c w k node at =
       in_books s.objects.book writer _ w k node (in_made (s.objects.book writer) key (top_node todo.number (vector_of todo vector)) k node c.3) at
+  -- links of pieces and of masters: the new node is made at a vacant place, and the node above it keeps its role
   stays_or_closes (moves.Chained place x bio lists hand number kind sizes members key above) c w k node at =
       in_books s.objects.book bio.bio.writer _ w k node
       (in_two (s.objects.book bio.bio.writer) key bio.bio.node (child_node above.write bio.bio.node) above (raised above) k node c.6 c.5 refl) at
@@ -112,15 +114,19 @@ module _ (scene : Scene) (s : State) where
       in_books s.objects.book bio.bio.writer _ w k node
       (in_two (s.objects.book bio.bio.writer) key bio.bio.node (master_node above.write bio.bio.node slip (legs_of (tree_at scene.setup bio.bio.dev))) above (keeping bio above) k node c.5 c.4
       refl) at
+  -- links of legs: the new node is made at a vacant place
   stays_or_closes (moves.Legged place x bio lists master leg hand key above) c w k node at =
       in_books s.objects.book bio.writer _ w k node (in_made (s.objects.book bio.writer) key (leg_node above.write master) k node c.5) at
+  -- drops that leave a node open: it keeps its role
   stays_or_closes (moves.Told place disk carried writer key status part old) c w k node at =
       in_books s.objects.book writer _ w k node
       (in_book (s.objects.book writer) key (Some (lowered (told old status part))) k node (within_book (s.objects.book writer) key old c.4)
       (λ found is. inl (lowered (told old status part), refl, (let e : Some old ≡ Some found = sym c.4 ∙ is in let q : old ≡ found = cc in ap (λ (n : Node). n.role) q)))) at
+  -- drops that close a node: that node closes, and the others stay open
   stays_or_closes (moves.Closes place disk carried writer key status part old) c w k node at =
       in_books s.objects.book writer _ w k node
       (in_book (s.objects.book writer) key None k node (within_book (s.objects.book writer) key old c.4) (λ found is. inr refl)) at
+  -- takes, misses, punts, pops, pushes, completions, gives, ends of writes, resizes and rounds: no book changes
   stays_or_closes (moves.TakesFirst place writer todo later move) c w k node at = stays w k node at
   stays_or_closes (moves.TakesVector place writer todo later item move) c w k node at = stays w k node at
   stays_or_closes (moves.TakesSub place x doing lists dev waits move) c w k node at = stays w k node at

@@ -35,12 +35,14 @@ module _ (scene : Scene) (s : State) (all : (p : ℕ) → IsWithin (s.objects.po
   moved number move p = all-upd IsWithin s.objects.pool number (after_move (s.objects.pool number) move) all (move_within (s.objects.pool number) move (all number)) p
 
   pub stays_within : (m : Move) → (p : ℕ) → IsWithin ((after scene s m).objects.pool p)
+  -- takes and misses: the position goes on to the end of the script at most
   stays_within (moves.TakesFirst place writer todo later move) = moved 65 move
   stays_within (moves.TakesVector place writer todo later item move) = moved 64 move
   stays_within (moves.TakesSub place x doing lists dev waits move) = moved (2 * dev.0) move
   stays_within (moves.TakesSlip place x bio lists move) = moved (2 * bio.bio.dev.0 + 1) move
   stays_within (moves.MissesOne place x number used) = moved number (misses used)
   stays_within (moves.MissesTry place x doing lists dev used) = moved (2 * dev.0) (misses used)
+  -- punts, pops, pushes, completions, links and drops: no pool changes
   stays_within (moves.Punts place x doing lists dev) = all
   stays_within (moves.Pops place dev bio bios) = all
   stays_within (moves.Pushes place x bio lists) = all
@@ -51,7 +53,11 @@ module _ (scene : Scene) (s : State) (all : (p : ℕ) → IsWithin (s.objects.po
   stays_within (moves.Legged place x bio lists master leg hand key node) = all
   stays_within (moves.Told place disk carried writer key status part node) = all
   stays_within (moves.Closes place disk carried writer key status part node) = all
+  -- gives: the position stays
   stays_within (moves.Gives place disk writer number closed held) = moved number gives
+  -- ends of writes: no pool changes
   stays_within (moves.Ends place disk writer closed) = all
+  -- resizes: the position stays
   stays_within (moves.Resized place pool min later duties) = moved (pool_number pool) (resizes min)
+  -- rounds: no pool changes
   stays_within (moves.Started place round later duties) = all

@@ -146,26 +146,35 @@ module _ (rounds : List ℕ) (ids : ℕ → TaskId) (keeper : ℕ) (scene : Scen
       other_tally tally j (upd s.task place (Completer disk Empty) j) (λ ds was own. let q = was own in omega (arith, q, long)) (goes place (Completer disk Empty) (t.0, tt) j)
 
   tasks : (m : Move) → Can scene s m → (j : ℕ) → Post (after scene s m).objects.tally j ((after scene s m).task j)
+  -- takes of writers: the write that something is taken for is still to begin
   tasks (moves.TakesFirst place writer todo later move) c = let t = at place _ c.1 in goes place _ (t.0, (t.1.0, tt))
   tasks (moves.TakesVector place writer todo later item move) c = let t = at place _ c.1 in goes place _ (t.0, (t.1.0, tt))
+  -- takes of submissions, misses and punts: at most the submission of the task changes
   tasks (moves.TakesSub place x doing lists dev waits move) c = on_submission place x doing lists _ c.1 c.2
   tasks (moves.TakesSlip place x bio lists move) c = on_submission place x (Drives bio ToRecord) lists _ c.1 c.2
   tasks (moves.MissesOne place x number used) c = goes place x (at place x c.1)
   tasks (moves.MissesTry place x doing lists dev used) c = on_submission place x doing lists _ c.1 c.2
   tasks (moves.Punts place x doing lists dev) c = on_submission place x doing lists _ c.1 c.2
+  -- pops, pushes and completions: the task stays what it is, and a completer has not failed
   tasks (moves.Pops place dev bio bios) c = let t = at place _ c.1 in goes place _ (t.0, tt)
   tasks (moves.Pushes place x bio lists) c = on_submission place x (Drives bio ToPush) lists _ c.1 c.2
   tasks (moves.Completed place disk index bio status new) c = let t = at place _ c.1 in goes place _ (t.0, tt)
+  -- links of writes: the writes behind it stand by their rounds
   tasks (moves.Begins place writer todo later item vector key) c =
       let t = at place (Writer writer (todo ∷ later) (gathered_of item vector) rests) c.1 in goes place _ (t.0, (t.1.0.1, tt))
+  -- links of pieces, of masters and of legs: nothing changes in the task but its submission
   tasks (moves.Chained place x bio lists hand number kind sizes members key node) c = on_submission place x (Drives bio (ToCut (Links hand))) lists _ c.1 c.2
   tasks (moves.Mastered place x bio lists slip key node) c = on_submission place x (Drives bio (ToMaster slip)) lists _ c.1 c.2
   tasks (moves.Legged place x bio lists master leg hand key node) c = on_submission place x (Copies bio master leg (Links hand)) lists _ c.1 c.2
+  -- drops and gives: the completer has not failed
   tasks (moves.Told place disk carried writer key status part node) c = let t = at place _ c.1 in goes place _ (t.0, tt)
   tasks (moves.Closes place disk carried writer key status part node) c = let t = at place _ c.1 in goes place _ (t.0, tt)
   tasks (moves.Gives place disk writer number closed held) c = let t = at place _ c.1 in goes place _ (t.0, tt)
+  -- ends of writes: the tally has as many rounds as before
   tasks (moves.Ends place disk writer closed) c = ended place disk writer closed c
+  -- resizes: the keeper has as many rounds before it as before
   tasks (moves.Resized place pool min later duties) c = let t = at place _ c.1 in goes place _ (t.0, (t.1.0.1, t.1.1, in_tasks place duties c.0))
+  -- rounds: the tally is one round further, and the keeper has one round less before it
   tasks (moves.Started place round later duties) c = started place round later duties c
 
   -- a move but a resize leaves a pool its reserve
@@ -183,12 +192,14 @@ module _ (rounds : List ℕ) (ids : ℕ → TaskId) (keeper : ℕ) (scene : Scen
   take_min pool (resizes min) h = absurd h
 
   mins : (m : Move) → Can scene s m → (q : ℕ) → IsPool scene.setup q → 1 ≤ ((after scene s m).objects.pool q).facts.min
+  -- takes and misses: the pool keeps its reserve
   mins (moves.TakesFirst place writer todo later move) c = one_pool 65 move (take_min (s.objects.pool 65) move c.2)
   mins (moves.TakesVector place writer todo later item move) c = one_pool 64 move (take_min (s.objects.pool 64) move c.2)
   mins (moves.TakesSub place x doing lists dev waits move) c = one_pool (2 * dev.0) move (take_min (s.objects.pool (2 * dev.0)) move c.4)
   mins (moves.TakesSlip place x bio lists move) c = one_pool (2 * bio.bio.dev.0 + 1) move (take_min (s.objects.pool (2 * bio.bio.dev.0 + 1)) move c.3)
   mins (moves.MissesOne place x number used) c = one_pool number (misses used) refl
   mins (moves.MissesTry place x doing lists dev used) c = one_pool (2 * dev.0) (misses used) refl
+  -- punts, pops, pushes, completions, links and drops: no pool changes
   mins (moves.Punts place x doing lists dev) c = i.mins
   mins (moves.Pops place dev bio bios) c = i.mins
   mins (moves.Pushes place x bio lists) c = i.mins
@@ -199,11 +210,15 @@ module _ (rounds : List ℕ) (ids : ℕ → TaskId) (keeper : ℕ) (scene : Scen
   mins (moves.Legged place x bio lists master leg hand key node) c = i.mins
   mins (moves.Told place disk carried writer key status part node) c = i.mins
   mins (moves.Closes place disk carried writer key status part node) c = i.mins
+  -- gives: the pool keeps its reserve
   mins (moves.Gives place disk writer number closed held) c = one_pool number gives refl
+  -- ends of writes: no pool changes
   mins (moves.Ends place disk writer closed) c = i.mins
+  -- resizes: the new reserve is one element at least
   mins (moves.Resized place pool min later duties) c =
       let t = at place _ c.1 in
       upd_keeps (λ q (pool : PoolState). IsPool scene.setup q → 1 ≤ pool.facts.min) s.objects.pool (pool_number pool) (after_move (s.objects.pool (pool_number pool)) (resizes min)) i.mins (λ own. t.1.0.0)
+  -- rounds: no pool changes
   mins (moves.Started place round later duties) c = i.mins
 
   disk_there : (bio : Bio) → bio.dev.0 < scene.setup.count → Suits (tree_at scene.setup bio.dev) ToPush → is_disk scene.setup bio.dev.0 ≡ true
@@ -218,10 +233,12 @@ module _ (rounds : List ℕ) (ids : ℕ → TaskId) (keeper : ℕ) (scene : Scen
       by_tree (Mirrored number sizes members) suits = absurd suits
 
   disks : (m : Move) → Can scene s m → (dev : ℕ) → (((after scene s m).objects.disk dev).pending ≡ []) ⊎ (is_disk scene.setup dev ≡ true)
+  -- pushes: a bio is pushed where its device is a disk
   disks (moves.Pushes place x bio lists) c =
       let suits = submission_fits scene x (Drives bio ToPush) lists (subst (TaskFits scene) c.1 (k.tasks place)) c.2 in
       upd_keeps (λ d (disk : DiskState). (disk.pending ≡ []) ⊎ (is_disk scene.setup d ≡ true)) s.objects.disk bio.bio.dev.0 (pushed bio (s.objects.disk bio.bio.dev.0)) i.disks
       (inr (disk_there bio.bio c.3 suits))
+  -- completions: a device that had a bio is a disk
   disks (moves.Completed place disk index bio status new) c =
       upd_keeps (λ d (disk : DiskState). (disk.pending ≡ []) ⊎ (is_disk scene.setup d ≡ true)) s.objects.disk disk.0 new i.disks (by_old (i.disks disk.0))
     where
@@ -231,6 +248,7 @@ module _ (rounds : List ℕ) (ids : ℕ → TaskId) (keeper : ℕ) (scene : Scen
           let z : length (s.objects.disk disk.0).pending ≡ 0 = ap length none in
           absurd (omega (arith, lt, z))
       by_old (inr is) = inr is
+  -- takes, misses, punts, pops, links, drops, gives, ends of writes, resizes and rounds: no disk changes
   disks (moves.TakesFirst place writer todo later move) c = i.disks
   disks (moves.TakesVector place writer todo later item move) c = i.disks
   disks (moves.TakesSub place x doing lists dev waits move) c = i.disks
@@ -255,6 +273,7 @@ module _ (rounds : List ℕ) (ids : ℕ → TaskId) (keeper : ℕ) (scene : Scen
 
 -- no event adds a round
 pub left_long : (scene : Scene) (s : State) (m : Move) → length (after scene s m).objects.tally.left ≡ length s.objects.tally.left
+-- takes, misses, punts, pops, pushes, completions, links, drops and gives: the tally stays as it is
 left_long scene s (moves.TakesFirst place writer todo later move) = refl
 left_long scene s (moves.TakesVector place writer todo later item move) = refl
 left_long scene s (moves.TakesSub place x doing lists dev waits move) = refl
@@ -272,6 +291,8 @@ left_long scene s (moves.Legged place x bio lists master leg hand key node) = re
 left_long scene s (moves.Told place disk carried writer key status part node) = refl
 left_long scene s (moves.Closes place disk carried writer key status part node) = refl
 left_long scene s (moves.Gives place disk writer number closed held) = refl
+-- ends of writes: one count changes at its place
 left_long scene s (moves.Ends place disk writer closed) = length-set s.objects.tally.left s.objects.tally.round (slice_index_or s.objects.tally.left s.objects.tally.round 0 - 1)
+-- resizes and rounds: the counts stay as they are
 left_long scene s (moves.Resized place pool min later duties) = refl
 left_long scene s (moves.Started place round later duties) = refl

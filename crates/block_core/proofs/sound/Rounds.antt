@@ -140,6 +140,7 @@ module _ (rounds : List ℕ) (keeper : ℕ) (scene : Scene) (s : State) (i : Tal
       ]
 
   tasks : (m : Move) → Can scene s m → (j : ℕ) → TaskRounds rounds keeper (after scene s m).objects.tally.round j ((after scene s m).task j)
+  -- takes, misses, punts, pops, pushes and completions: writers and the keeper have the same before them
   tasks (moves.TakesFirst place writer todo later move) c = goes place _ (at_task place _ c.1)
   tasks (moves.TakesVector place writer todo later item move) c = goes place _ (at_task place _ c.1)
   tasks (moves.TakesSub place x doing lists dev waits move) c = on_submission place x _ c.1
@@ -150,17 +151,22 @@ module _ (rounds : List ℕ) (keeper : ℕ) (scene : Scene) (s : State) (i : Tal
   tasks (moves.Pops place dev bio bios) c = goes place _ tt
   tasks (moves.Pushes place x bio lists) c = on_submission place x _ c.1
   tasks (moves.Completed place disk index bio status new) c = goes place _ tt
+  -- links of writes: the writes behind it are of their rounds
   tasks (moves.Begins place writer todo later item vector key) c =
       let t = at_task place (Writer writer (todo ∷ later) (gathered_of item vector) rests) c.1 in goes place _ t.1
+  -- links of pieces, of masters and of legs: writers and the keeper have the same before them
   tasks (moves.Chained place x bio lists hand number kind sizes members key node) c = on_submission place x _ c.1
   tasks (moves.Mastered place x bio lists slip key node) c = on_submission place x _ c.1
   tasks (moves.Legged place x bio lists master leg hand key node) c = on_submission place x _ c.1
+  -- drops, gives and ends of writes: by completers, which have no rounds
   tasks (moves.Told place disk carried writer key status part node) c = goes place _ tt
   tasks (moves.Closes place disk carried writer key status part node) c = goes place _ tt
   tasks (moves.Gives place disk writer number closed held) c = goes place _ tt
   tasks (moves.Ends place disk writer closed) c = goes place _ tt
+  -- resizes: the duties behind it fit the present round
   tasks (moves.Resized place pool min later duties) c =
       let t = at_task place _ c.1 in goes place _ (keeps_fit place duties s.objects.tally.round t.0 t.1.1)
+  -- rounds: the duties behind it fit the next round
   tasks (moves.Started place round later duties) c = started place round later duties c
 
   -- an event that leaves the tally as it is
@@ -269,8 +275,10 @@ module _ (rounds : List ℕ) (keeper : ℕ) (scene : Scene) (s : State) (i : Tal
       by_round r (inr ne) before done = i.tally.past r (omega (arith, before, ne))
 
   pub stays_tallied : (m : Move) → Can scene s m → Tallied rounds keeper scene (after scene s m)
+  -- takes of bios by writers: the write is not of a later round
   stays_tallied (moves.TakesFirst place writer todo later move) c =
       quiet (moves.TakesFirst place writer todo later move) c refl (λ r. refl) (λ r. refl) (λ r lt. not_later place writer todo later NoBio rests c.1 c.3 r lt)
+  -- other takes, misses, punts, pops, pushes and completions: no write is begun or done
   stays_tallied (moves.TakesVector place writer todo later item move) c = quiet (moves.TakesVector place writer todo later item move) c refl (λ r. refl) (λ r. refl) (λ r lt. refl)
   stays_tallied (moves.TakesSub place x doing lists dev waits move) c = quiet (moves.TakesSub place x doing lists dev waits move) c refl (λ r. refl) (λ r. refl) (λ r lt. refl)
   stays_tallied (moves.TakesSlip place x bio lists move) c = quiet (moves.TakesSlip place x bio lists move) c refl (λ r. refl) (λ r. refl) (λ r lt. refl)
@@ -280,10 +288,12 @@ module _ (rounds : List ℕ) (keeper : ℕ) (scene : Scene) (s : State) (i : Tal
   stays_tallied (moves.Pops place dev bio bios) c = quiet (moves.Pops place dev bio bios) c refl (λ r. refl) (λ r. refl) (λ r lt. refl)
   stays_tallied (moves.Pushes place x bio lists) c = quiet (moves.Pushes place x bio lists) c refl (λ r. refl) (λ r. refl) (λ r lt. refl)
   stays_tallied (moves.Completed place disk index bio status new) c = quiet (moves.Completed place disk index bio status new) c refl (λ r. refl) (λ r. refl) (λ r lt. refl)
+  -- links of writes: the write was counted as one that is to come, and is counted by its top node
   stays_tallied (moves.Begins place writer todo later item None key) c =
       quiet (moves.Begins place writer todo later item None key) c refl (λ r. refl) (λ r. omega arith) (λ r lt. omega arith)
   stays_tallied (moves.Begins place writer todo later item (Some vector) key) c =
       quiet (moves.Begins place writer todo later item (Some vector) key) c refl (λ r. refl) (λ r. omega arith) (λ r lt. omega arith)
+  -- links of pieces, of masters and of legs, drops and gives: no write is begun or done
   stays_tallied (moves.Chained place x bio lists hand number kind sizes members key node) c =
       quiet (moves.Chained place x bio lists hand number kind sizes members key node) c refl (λ r. refl) (λ r. refl) (λ r lt. refl)
   stays_tallied (moves.Mastered place x bio lists slip key node) c = quiet (moves.Mastered place x bio lists slip key node) c refl (λ r. refl) (λ r. refl) (λ r lt. refl)
@@ -293,6 +303,9 @@ module _ (rounds : List ℕ) (keeper : ℕ) (scene : Scene) (s : State) (i : Tal
   stays_tallied (moves.Closes place disk carried writer key status part node) c =
       quiet (moves.Closes place disk carried writer key status part node) c refl (λ r. refl) (λ r. refl) (λ r lt. refl)
   stays_tallied (moves.Gives place disk writer number closed held) c = quiet (moves.Gives place disk writer number closed held) c refl (λ r. refl) (λ r. refl) (λ r lt. refl)
+  -- ends of writes: a write of the present round is done
   stays_tallied (moves.Ends place disk writer closed) c = ends place disk writer closed c
+  -- resizes: no write is begun or done
   stays_tallied (moves.Resized place pool min later duties) c = quiet (moves.Resized place pool min later duties) c refl (λ r. refl) (λ r. refl) (λ r lt. refl)
+  -- rounds: the next round starts
   stays_tallied (moves.Started place round later duties) c = starts place round later duties c

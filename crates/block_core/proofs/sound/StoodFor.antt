@@ -219,7 +219,9 @@ stays_standing scene s was_master i t m c = record {
 
 -- an event closes a master exactly where its move does
 pub closed_so : (scene : Scene) (s : State) (was_master : ℕ → Bool) (m : Move) → Can scene s m → masters_after s (place_of m) (touch_by m) was_master ≡ was_after was_master m
+-- drops that close a node: the node that closes is the one at its place
 closed_so scene s was_master (moves.Closes place disk carried writer key status part node) c = ap (λ found. upd was_master place (is_master_at found)) c.4
+-- all others: no node closes
 closed_so scene s was_master (moves.TakesFirst place writer todo later move) c = refl
 closed_so scene s was_master (moves.TakesVector place writer todo later item move) c = refl
 closed_so scene s was_master (moves.TakesSub place x doing lists dev waits move) c = refl

@@ -120,9 +120,12 @@ module _ (scene : Scene) (s : State) (f : Fair scene) (i : Kept scene s) where
       (wants_fit scene.setup doing dev old new lists more wants (submission_fits scene x doing lists (at_place place x is) h))
 
   pub tasks : (m : Move) → Can scene s m → (other : ℕ) → TaskFits scene ((after scene s m).task other)
+  -- takes of writers: a writer that has something in hand has nothing submitted
   tasks (moves.TakesFirst place writer todo later move) c = let fits = at_place place _ c.1 in goes place _ (fits.0, refl, refl)
   tasks (moves.TakesVector place writer todo later item move) c = let fits = at_place place _ c.1 in goes place _ (fits.0, refl, refl)
+  -- takes of bios by submissions: only what is wanted changes
   tasks (moves.TakesSub place x doing lists dev waits move) c = wants_on place x doing lists lists dev (Takes waits) _ c.1 c.2 c.3
+  -- takes of records: where a record was asked for, the device is a mirror
   tasks (moves.TakesSlip place x bio lists move) c =
       on_submission place x (Drives bio ToRecord) lists _ c.1 c.2 tt (by_tree (tree_at scene.setup bio.bio.dev) (submission_fits scene x (Drives bio ToRecord) lists (at_place place x c.1) c.2))
     where
@@ -130,25 +133,33 @@ module _ (scene : Scene) (s : State) (f : Fair scene) (i : Kept scene s) where
       by_tree (Leaf number sectors) fits = fits
       by_tree (Split number kind sizes members) fits = fits
       by_tree (Mirrored number sizes members) fits = tt
+  -- misses and punts: the task stays as it is, or what it wants changes
   tasks (moves.MissesOne place x number used) c = goes place x (at_place place x c.1)
   tasks (moves.MissesTry place x doing lists dev used) c = wants_on place x doing lists lists dev (Takes false) WantsPunt c.1 c.2 c.3
   tasks (moves.Punts place x doing lists dev) c = wants_on place x doing lists (unpunted (Of dev) lists) dev WantsPunt (Takes true) c.1 c.2 c.3
+  -- pops and pushes: what the submission does next suits its device
   tasks (moves.Pops place dev bio bios) c = goes place _ (c.2, settled_fits scene.setup (bio ∷ []))
   tasks (moves.Pushes place x bio lists) c = on_submission place x (Drives bio ToPush) lists _ c.1 c.2 tt (settled_fits scene.setup (order bio.bio.dev lists))
+  -- completions: the completer stays at its disk
   tasks (moves.Completed place disk index bio status new) c = goes place _ c.2
+  -- links of writes and of pieces: what the submission does next suits its device
   tasks (moves.Begins place writer todo later item vector key) c = goes place _ (c.2, settled_fits scene.setup (filled_of writer todo item vector key ∷ []), tt)
   tasks (moves.Chained place x bio lists hand number kind sizes members key node) c =
       on_submission place x (Drives bio (ToCut (Links hand))) lists _ c.1 c.2 tt
       (settled_fits scene.setup (order bio.bio.dev (cut_lists bio lists hand (first_length kind sizes bio.bio.range) key kind sizes members)))
+  -- links of masters: the first leg is one of the mirror, or none is copied
   tasks (moves.Mastered place x bio lists slip key node) c =
       on_submission place x (Drives bio (ToMaster slip)) lists _ c.1 c.2 tt (copies_fit scene.setup lists bio.bio key 0 (omega arith))
+  -- links of legs: the next leg is one of the mirror, or all are copied
   tasks (moves.Legged place x bio lists master leg hand key node) c =
       let lt = submission_fits scene x (Copies bio master leg (Links hand)) lists (at_place place x c.1) c.2 in
       on_submission place x (Copies bio master leg (Links hand)) lists _ c.1 c.2 tt
       (copies_fit scene.setup (submitted (leg_at bio hand leg key (tree_at scene.setup bio.dev)) lists) bio master (leg + 1) (omega (arith, lt)))
+  -- drops, gives and ends of writes: the completer stays at its disk
   tasks (moves.Told place disk carried writer key status part node) c = goes place _ (at_place place _ c.1)
   tasks (moves.Closes place disk carried writer key status part node) c = goes place _ (at_place place _ c.1)
   tasks (moves.Gives place disk writer number closed held) c = goes place _ (at_place place _ c.1)
   tasks (moves.Ends place disk writer closed) c = goes place _ (at_place place _ c.1)
+  -- resizes and rounds: the keeper goes on
   tasks (moves.Resized place pool min later duties) c = goes place _ tt
   tasks (moves.Started place round later duties) c = goes place _ tt

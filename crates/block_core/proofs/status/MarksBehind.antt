@@ -45,18 +45,23 @@ module _ (scene : Scene) (ends : Fragment → Status) (written : ℕ → Status 
   ]
 
   pub fair_after : (m : Move) → Can scene s m → (w k : ℕ) → IsMark (marks_by setup ends mark m w k)
+  -- links of writes: the mark of the top node is of the run of its write
   fair_after (moves.Begins place writer todo later item vector key) c =
       with_fair writer key (new_mark false (todo_may setup ends todo)) (record { alone = λ end ne. plan_alone ends _ end ne; failed = λ same. absurd cc })
+  -- links of pieces: the mark of the new node is of the run of its piece
   fair_after (moves.Chained place x bio lists hand number kind sizes members key node) c =
       let child = piece bio hand (first_length kind sizes bio.bio.range) key kind sizes members in
       with_fair bio.bio.writer key (new_mark false (bio_may setup ends child.bio)) (new_fair child.bio)
+  -- links of masters: the run of a mirrored bio may end well, or with an error of no kind
   fair_after (moves.Mastered place x bio lists slip key node) c =
       let d = placed_at setup s a place x (Drives bio (ToMaster slip)) lists c.1 c.2 in
       let mirror = mirror_may ends (tree_at setup bio.bio.dev) bio.bio bio.bio.range bio.bio.dev.0 slip d.3 in
       with_fair bio.bio.writer key (new_mark true (bio_may setup ends bio.bio)) (record { alone = λ end ne. plan_alone ends _ end ne; failed = λ same. mirror.failed })
+  -- links of legs: the mark of the new node is of the run of its leg
   fair_after (moves.Legged place x bio lists master leg hand key node) c =
       let item = leg_at bio hand leg key (tree_at setup bio.dev) in
       with_fair bio.writer key (new_mark false (bio_may setup ends item.bio)) (new_fair item.bio)
+  -- takes, misses, punts, pops, pushes, completions, drops, gives, ends of writes, resizes and rounds: no mark changes
   fair_after (moves.TakesFirst place writer todo later move) c = h.fair
   fair_after (moves.TakesVector place writer todo later item move) c = h.fair
   fair_after (moves.TakesSub place x doing lists dev waits move) c = h.fair

@@ -55,21 +55,26 @@ module _ (scene : Scene) (ends : Fragment → Status) (s : State) (mark : ℕ �
   After m = AreOfBios setup ends (marks_by setup ends mark m) (bios_after setup (s.task (place_of m)) (touch_by m) bios)
 
   pub stays_of_bios : (m : Move) → Can scene s m → After m
+  -- links of writes: the top node is opened for all of the write
   stays_of_bios (moves.Begins place writer todo later item vector key) c =
       let at : opened_for setup (s.task place) key ≡ first_bio writer todo key = ap (λ x. opened_for setup x key) c.1 in
       with_one writer key (new_mark false (todo_may setup ends todo)) (opened_for setup (s.task place) key) (first_may writer todo key ∙ sym (ap (bio_may setup ends) at))
+  -- links of pieces: the new node is opened for the first piece of the bio
   stays_of_bios (moves.Chained place x bio lists hand number kind sizes members key node) c =
       let child : Bio = (piece bio hand (first_length kind sizes bio.bio.range) key kind sizes members).bio in
       let at : opened_for setup (s.task place) key ≡ child =
       ap (λ x. opened_for setup x key) c.1 ∙ opens_submission setup x (Drives bio (ToCut (Links hand))) lists key c.2 tt ∙ ap (first_piece bio hand key) c.3 in
       with_one bio.bio.writer key (new_mark false (bio_may setup ends child)) (opened_for setup (s.task place) key) (sym (ap (bio_may setup ends) at))
+  -- links of masters: the master is opened for the bio that is copied
   stays_of_bios (moves.Mastered place x bio lists slip key node) c =
       let at : opened_for setup (s.task place) key ≡ bio.bio = ap (λ x. opened_for setup x key) c.1 ∙ opens_submission setup x (Drives bio (ToMaster slip)) lists key c.2 tt in
       with_one bio.bio.writer key (new_mark true (bio_may setup ends bio.bio)) (opened_for setup (s.task place) key) (sym (ap (bio_may setup ends) at))
+  -- links of legs: the new node is opened for the bio of the leg
   stays_of_bios (moves.Legged place x bio lists master leg hand key node) c =
       let item : Bio = (leg_at bio hand leg key (tree_at setup bio.dev)).bio in
       let at : opened_for setup (s.task place) key ≡ item = ap (λ x. opened_for setup x key) c.1 ∙ opens_submission setup x (Copies bio master leg (Links hand)) lists key c.2 tt in
       with_one bio.writer key (new_mark false (bio_may setup ends item)) (opened_for setup (s.task place) key) (sym (ap (bio_may setup ends) at))
+  -- all others: no node is opened
   stays_of_bios (moves.TakesFirst place writer todo later move) c = tied
   stays_of_bios (moves.TakesVector place writer todo later item move) c = tied
   stays_of_bios (moves.TakesSub place x doing lists dev waits move) c = tied

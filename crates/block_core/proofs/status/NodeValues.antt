@@ -80,6 +80,7 @@ well_is mark fair NoSpace may = let h = fair.alone NoSpace (λ q. cc) in omega (
 -- a node is decided by what it kept before, and by what it is told
 pub told_decides : (r : Role) (master : Bool) (old new : Status) → mismatch r master ≡ 0
     → (decides master (is Ok old) ≤ decides master (is Ok (kept_with r old new))) × (decides master (is Ok new) ≤ decides master (is Ok (kept_with r old new)))
+-- tops, nodes of pieces and legs keep the first end that failed
 told_decides role.Top false Ok new same = (omega arith, omega arith)
 told_decides role.Top false Io new same = (omega arith, omega arith)
 told_decides role.Top false Medium new same = (omega arith, omega arith)
@@ -95,6 +96,7 @@ told_decides (role.Leg parent) false Io new same = (omega arith, omega arith)
 told_decides (role.Leg parent) false Medium new same = (omega arith, omega arith)
 told_decides (role.Leg parent) false NoSpace new same = (omega arith, omega arith)
 told_decides (role.Leg parent) true old new same = absurd (omega (arith, same))
+-- masters keep an end that was well
 told_decides (role.Master parent) false old new same = absurd (omega (arith, same))
 told_decides (role.Master parent) true old Ok same = (omega (arith, few_is Ok old), omega arith)
 told_decides (role.Master parent) true old Io same = (omega arith, omega arith)
@@ -104,6 +106,7 @@ told_decides (role.Master parent) true old NoSpace same = (omega arith, omega ar
 -- what it keeps then is allowed, if both are
 pub told_allowed : (r : Role) (ends : Status → ℕ) (master : Bool) (old new : Status) → 1 ≤ allowed_by master ends old → 1 ≤ allowed_by master ends new
     → 1 ≤ allowed_by master ends (kept_with r old new)
+-- tops, nodes of pieces and legs keep the first end that failed
 told_allowed role.Top ends master Ok new before now = now
 told_allowed role.Top ends master Io new before now = before
 told_allowed role.Top ends master Medium new before now = before
@@ -116,6 +119,7 @@ told_allowed (role.Leg parent) ends master Ok new before now = now
 told_allowed (role.Leg parent) ends master Io new before now = before
 told_allowed (role.Leg parent) ends master Medium new before now = before
 told_allowed (role.Leg parent) ends master NoSpace new before now = before
+-- masters keep an end that was well
 told_allowed (role.Master parent) ends master old Ok before now = now
 told_allowed (role.Master parent) ends master old Io before now = before
 told_allowed (role.Master parent) ends master old Medium before now = before

@@ -81,6 +81,7 @@ module _ (s : Scenario) (ledger : ℕ → LedgerId) (st : State) (own : (number 
   goes place y fits = all-upd (HasEnding (fault_of s.stack)) st.task place y endings fits
 
   endings_stay : (m : Move) → Can (scene s ledger) st m → (p : ℕ) → HasEnding (fault_of s.stack) ((after (scene s ledger) st m).task p)
+  -- takes, misses, punts, pops and pushes: no completer comes to bring a bio
   endings_stay (moves.TakesFirst place writer todo later move) c = goes place _ tt
   endings_stay (moves.TakesVector place writer todo later item move) c = goes place _ tt
   endings_stay (moves.TakesSub place x doing lists dev waits move) c = goes place _ (submission_ending s x doing lists _ c.2)
@@ -90,19 +91,23 @@ module _ (s : Scenario) (ledger : ℕ → LedgerId) (st : State) (own : (number 
   endings_stay (moves.Punts place x doing lists dev) c = goes place _ (submission_ending s x doing lists _ c.2)
   endings_stay (moves.Pops place dev bio bios) c = goes place _ tt
   endings_stay (moves.Pushes place x bio lists) c = goes place _ (submission_ending s x _ lists _ c.2)
+  -- completions: the bio is of the disk of its completer, and ends as its fragment ends
   endings_stay (moves.Completed place disk index bio ending new) c =
       goes place (Completer disk (Brings bio ending)) (
         (completed_waits s disk.0 (st.objects.disk disk.0) index bio ending new (own disk.0) c.3).1,
         completed_ends s disk.0 (st.objects.disk disk.0) index bio ending new (own disk.0) c.3,
       )
+  -- links: no completer comes to bring a bio
   endings_stay (moves.Begins place writer todo later item vector key) c = goes place _ tt
   endings_stay (moves.Chained place x bio lists hand number kind sizes members key node) c = goes place _ (submission_ending s x _ lists _ c.2)
   endings_stay (moves.Mastered place x bio lists slip key node) c = goes place _ (submission_ending s x _ lists _ c.2)
   endings_stay (moves.Legged place x bio lists master leg hand key node) c = goes place _ (submission_ending s x _ lists _ c.2)
+  -- drops, gives and ends of writes: the completer brings no bio then
   endings_stay (moves.Told place disk carried writer key ending part node) c = goes place (Completer disk Empty) tt
   endings_stay (moves.Closes place disk carried writer key ending part node) c = goes place (Completer disk (Carries writer _)) tt
   endings_stay (moves.Gives place disk writer number closed held) c = goes place (Completer disk (Carries writer _)) tt
   endings_stay (moves.Ends place disk writer closed) c = goes place (Completer disk Empty) tt
+  -- resizes and rounds: by the keeper, which brings no bio
   endings_stay (moves.Resized place pool min later duties) c = goes place _ tt
   endings_stay (moves.Started place round later duties) c = goes place _ tt
 
@@ -170,7 +175,9 @@ module _ (s : Scenario) (ledger : ℕ → LedgerId) (f : Fair (scene s ledger)) 
     ]
 
     tallied_after : (m : Move) → Can sc st m → (number : ℕ) → number < length s.writes → Tallied m number
+    -- ends of writes: the write has a status that it may have, and the others what they had
     tallied_after (moves.Ends place disk writer closed) c number lt = ends_tallied place disk writer closed c number lt
+    -- takes, misses, punts, pops, pushes, completions, links, drops, gives, resizes and rounds: no write is done
     tallied_after (moves.TakesFirst place writer todo later move) c number lt = same_tallied (moves.TakesFirst place writer todo later move) c number lt refl refl
     tallied_after (moves.TakesVector place writer todo later item move) c number lt = same_tallied (moves.TakesVector place writer todo later item move) c number lt refl refl
     tallied_after (moves.TakesSub place x doing lists dev waits move) c number lt = same_tallied (moves.TakesSub place x doing lists dev waits move) c number lt refl refl

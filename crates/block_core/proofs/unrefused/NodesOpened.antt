@@ -162,15 +162,19 @@ module _ (scene : Scene) (s : State) (g : Ground scene.setup) (n : Needs scene.s
   spends w worth (moves.Started place round later duties) c = omega arith
 
   places : (m : Move) → Can scene s m → ((w : ℕ) → length (s.objects.book w).nodes ≡ scene.setup.places w) → (w : ℕ) → length ((after scene s m).objects.book w).nodes ≡ scene.setup.places w
+  -- links of writes: one place of the book changes
   places (moves.Begins place writer todo later item vector key) c all = kept_places s.objects.book scene.setup.places writer _ all (length-set (s.objects.book writer).nodes key _)
+  -- links of pieces and of masters: two places of the book change
   places (moves.Chained place x bio lists hand number kind sizes members key node) c all =
       kept_places s.objects.book scene.setup.places bio.bio.writer _ all (two_places (s.objects.book bio.bio.writer) key bio.bio.node _ _)
   places (moves.Mastered place x bio lists slip key node) c all =
       kept_places s.objects.book scene.setup.places bio.bio.writer _ all (two_places (s.objects.book bio.bio.writer) key bio.bio.node _ _)
+  -- links of legs, and drops: one place of the book changes
   places (moves.Legged place x bio lists master leg hand key node) c all =
       kept_places s.objects.book scene.setup.places bio.writer _ all (length-set (s.objects.book bio.writer).nodes key _)
   places (moves.Told place disk carried writer key status part node) c all = kept_places s.objects.book scene.setup.places writer _ all (length-set (s.objects.book writer).nodes key _)
   places (moves.Closes place disk carried writer key status part node) c all = kept_places s.objects.book scene.setup.places writer _ all (length-set (s.objects.book writer).nodes key _)
+  -- takes, misses, punts, pops, pushes, completions, gives, ends of writes, resizes and rounds: no book changes
   places (moves.TakesFirst place writer todo later move) c all = all
   places (moves.TakesVector place writer todo later item move) c all = all
   places (moves.TakesSub place x doing lists dev waits move) c all = all
