@@ -20,7 +20,7 @@ abbrev pub IsCompletionRead : DevId → What → Option (ℕ × Status) → Type
 IsCompletionRead disk what read =
     MatchOption read ((index : ℕ) (status : Status) → what ≡ told.Complete disk index status → ⊥) (λ done. what ≡ told.Complete disk done.0 done.1)
 
--- a pool has neither a spare to give nor room for one more to be out
+-- a pool has no spare to give, or no room for one more to be out
 abbrev pub IsShort : PoolState → Type 0
 IsShort pool = (pool.facts.spares ≡ 0) ⊎ (pool.facts.out ≡ 2 ^ 64 - 1)
 
