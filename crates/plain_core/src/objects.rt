@@ -73,7 +73,7 @@ impl Model for Objects {
 }
 
 impl Objects {
-    /// The objects of the stack of these routes, which have a place for all that it has.
+    /// Objects of these parts, which must have a place for all that the routes' stack has.
     pub fn new(
         routes: &Routes,
         pools: Vec<Pool>,

@@ -102,7 +102,7 @@ impl Objects {
         Ok(())
     }
 
-    /// The first bio that waits for a rescuer (`bio_alloc_rescue`, `block/bio.c`).
+    /// Takes the first bio that waits for the rescuer of this device's set, where the event tells that (`bio_alloc_rescue`, `block/bio.c`).
     pub fn pop(&mut self, dev: DevId, what: &What) -> Result<Part, CoreFault>
         ensures { Pops self.old dev what.now result self.new }
     {

@@ -139,7 +139,7 @@ pub fn dropped_of(what: &What, writer: u32, place: u32, ending: Status) -> Optio
     }
 }
 
-/// Whether this write is done.
+/// Whether the event tells that this write is done with this status.
 pub fn is_done(what: &What, number: u32, ending: Status) -> bool
     ensures { IsDecisionOf result (what.now ≡ told.Done number ending) }
 {
