@@ -1,4 +1,9 @@
 //! What events make of the books: nodes are opened, and told of ends.
+//!
+//! # Errors
+//! Each call answers `NotEnabled` where the event tells something else or the book cannot do it. `open_chain`, `open_master` and `open_leg`
+//! alone take memory, for room in the lists: they answer `Memory` where only that lacks. The objects, and the bios in a task's lists, are as
+//! they were in both cases. The vector that `open_write` was handed and the part that `tell` was handed do not come back.
 ghost use Rattle.std.specs.Prelude.{◌≡◌, OnOk};
 ghost use Rattle.run_machine.specs.Requests.{Write, Chain, Leg};
 ghost use Rattle.plain_core.specs.objects.Lists.{lists_of, ListsHaveCapacity};

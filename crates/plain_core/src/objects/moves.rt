@@ -1,4 +1,9 @@
 //! What events make of the objects: each call is handed the event, and refuses it where it is none that the object can do.
+//!
+//! # Errors
+//! Each call answers `NotEnabled` where the event tells something else or the object cannot do it. `punt` and `push` alone take memory: they
+//! answer `Memory` where the event tells of them and there is none. The objects, and the bios in a task's lists, are as they were in both
+//! cases.
 ghost use Rattle.std.specs.Prelude.{◌≡◌, ℕ, ◌+◌, ◌-◌, ◌<◌, ◌≤◌, ◌==◌, true, length, Option, None, Some, IsSomeAnd, OnOk, OnErr};
 ghost use Rattle.stack_base.specs.PoolId.{pool_number};
 ghost use Rattle.stack_base.specs.Tree.{tree};

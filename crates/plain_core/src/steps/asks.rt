@@ -1,5 +1,9 @@
-//! Requests of tasks to objects, a call each. The object does what the event tells, and the call answers with what came of it. Where the
-//! object can't do so, or the event is none of this request, the answer is `NotEnabled`, and nothing is changed. No call here takes memory.
+//! Requests of tasks to objects, a call each. The object does what the event tells, and the call answers with what came of it.
+//!
+//! # Errors
+//! Each call answers `NotEnabled` where the event is none of this request or the object can't do so. The objects are as they were then. The
+//! part that `tell` was handed and the vector that `open_write` was handed do not come back. No call here takes memory, so none answers
+//! `Memory`.
 ghost use Rattle.std.specs.Prelude.{◌<◌};
 ghost use Rattle.run_machine.specs.Requests.{GiveBio, GiveVec, GiveSlip, Pop, Done, Resize, NextRound, Did, Popped, OutIs};
 ghost use Rattle.stack_base.specs.PoolId.{pool_number};
