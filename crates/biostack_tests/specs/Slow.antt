@@ -1,9 +1,15 @@
--- A step of a sector's way from a device that cuts runs.
+-- When choices are a sector's way down to a disk, and a step of the way from a device that cuts runs.
 use Rattle.std.specs.Prelude.{◌≡◌, ◌↔◌, ◌<◌, ◌≤◌, ℕ, List, ◌∷◌, length}
 use Rattle.stack_base.specs.declared.stack.Stack.{Stack}
 use Rattle.stack_base.specs.Tree.{tree, size}
 use Rattle.layout_model.specs.Way.{FitsWay, place, heads}
 use Rattle.biostack_tests.specs.declared.slow.Step.{Step}
+
+-- the device is one of the stack and has such a sector, and the choices lead it down to a disk
+pub record IsWay (stack : Stack) (dev sector : ℕ) (choices : List ℕ) : Type 0 where
+  pub known : dev < length stack.devices.items
+  pub within : sector < size (tree stack dev)
+  pub fits : FitsWay (tree stack dev) sector choices
 
 -- `to` is the step of sector `sector` from device `dev`, in a run from `start` on
 pub record IsStep (stack : Stack) (dev start sector : ℕ) (to : Step) : Type 0 where

@@ -5,7 +5,7 @@ ghost use Rattle.stack_base.specs.Mapping.{among, head, size_of, slot};
 ghost use Rattle.stack_base.specs.Stack.{HasShape, IsStack};
 ghost use Rattle.stack_base.specs.Tree.{Cuts, shape_of, size, tree};
 ghost use Rattle.layout_model.specs.Way.{FitsWay, heads, place};
-ghost use Rattle.biostack_tests.specs.Slow.{IsStep};
+ghost use Rattle.biostack_tests.specs.Slow.{IsStep, IsWay};
 
 use arrayvec::ArrayVec;
 use stack_base::{DevId, Device, Kind, MapLaw, Stack};
@@ -176,7 +176,7 @@ pub fn is_way(stack: &Stack, dev: DevId, sector: u64, choices: &[u32]) -> bool
     ensures known { IsTrue result → dev.0 < length stack.now.devices.items }
     ensures within { IsTrue result → sector < size (tree stack.now dev.0) }
     ensures fits { IsTrue result → FitsWay (tree stack.now dev.0) sector choices.now }
-    ensures all { dev.0 < length stack.now.devices.items → sector < size (tree stack.now dev.0) → FitsWay (tree stack.now dev.0) sector choices.now → IsTrue result }
+    ensures all { IsWay stack.now dev.0 sector choices.now → IsTrue result }
 {
     (dev.0 as usize) < stack.devices.len()
         && sector < stack.size(dev)
