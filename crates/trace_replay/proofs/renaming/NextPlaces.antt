@@ -74,14 +74,19 @@ module _ (scene : Scene) (s : State) (w place : ℕ) (none : node_at (s.objects.
   unless writer key other e same = other (λ k. Opens (e k) (same k))
 
   stays_none : (m : Move) → Can scene s m → Others (touch_by m) → node_at ((after scene s m).objects.book w) place ≡ None
+  -- links of writes: the new node is at the place that is told, which is another
   stays_none (moves.Begins at writer todo later item vector key) c other = made s.objects.book w place none writer key _ (unless writer key other)
+  -- links of pieces and masters: so is the new node, and the parent, which changes, was open, so it is at another place too
   stays_none (moves.Chained at x bio lists hand number kind sizes members key node) c other =
       made_under s.objects.book w place none bio.bio.writer key bio.bio.node node _ _ c.5 (unless bio.bio.writer key other)
   stays_none (moves.Mastered at x bio lists slip key node) c other =
       made_under s.objects.book w place none bio.bio.writer key bio.bio.node node _ _ c.4 (unless bio.bio.writer key other)
+  -- links of legs: the new node is at the place that is told, which is another, and the master's node stays
   stays_none (moves.Legged at x bio lists master leg hand key node) c other = made s.objects.book w place none bio.writer key _ (unless bio.writer key other)
+  -- drops: the node that changes or closes was open, so it is at another place
   stays_none (moves.Told at disk carried writer key status part node) c other = changed s.objects.book w place none writer key node _ c.4
   stays_none (moves.Closes at disk carried writer key status part node) c other = changed s.objects.book w place none writer key node _ c.4
+  -- takes, misses, punts, pops, pushes, completions, gives, ends of writes, resizes and rounds: no book changes
   stays_none (moves.TakesFirst at writer todo later move) c other = none
   stays_none (moves.TakesVector at writer todo later item move) c other = none
   stays_none (moves.TakesSub at x doing lists dev waits move) c other = none
