@@ -11,8 +11,8 @@ pub record MirrorState : Type 0 where
   pub members : List DevId
   pub size : ℕ
 
--- it has from 1 to 8 members
-pub record IsMirror (members : List DevId) : Type 0 where
+-- the members of a mirror: from 1 to 8 devices
+pub record AreMirrored (members : List DevId) : Type 0 where
   pub some : 1 ≤ length members
   pub few : length members ≤ 8
 

@@ -20,13 +20,13 @@ pub struct Mirror {
 }
 
 impl Model for Mirror {
-    ghost use Rattle.mirror_map.specs.Legs.{MirrorState, IsMirror};
+    ghost use Rattle.mirror_map.specs.Legs.{MirrorState, AreMirrored};
 
     ghost Value = { MirrorState };
 
     ghost view = { λ m. record { members = m.members.items; size = m.size } };
 
-    ghost invariant = { λ m. IsMirror m.members.items };
+    ghost invariant = { λ m. AreMirrored m.members.items };
 }
 
 impl Mirror {
