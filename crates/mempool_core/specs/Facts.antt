@@ -8,5 +8,5 @@ pub record AddsUp (facts : Facts) : Type 0 where
   pub spares : facts.spares ≤ facts.min
 
 -- a count and one more, which stays at the largest number of 64 bits
-abbrev pub counted : ℕ → ℕ
-counted count = min (count + 1) (2 ^ 64 - 1)
+abbrev pub saturating_next : ℕ → ℕ
+saturating_next count = min (count + 1) (2 ^ 64 - 1)

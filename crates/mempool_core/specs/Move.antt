@@ -4,7 +4,7 @@ use Rattle.fail_script.specs.Script.{Answers}
 use Rattle.mempool_core.specs.declared.Facts.{Facts}
 use Rattle.fail_script.specs.Script.{allows_at}
 use Rattle.mempool_core.specs.Position.{uses_entry, next_pos}
-use Rattle.mempool_core.specs.Facts.{counted}
+use Rattle.mempool_core.specs.Facts.{saturating_next}
 
 -- a pool as plain data: its script and its numbers
 pub record PoolState : Type 0 where
@@ -37,7 +37,7 @@ took_ordinary pool = record pool {
     out = pool.facts.out + 1;
     live = pool.facts.live + 1;
     pos = next_pos pool.script pool.facts.pos;
-    ordinary = counted pool.facts.ordinary;
+    ordinary = saturating_next pool.facts.ordinary;
   };
 }
 
@@ -48,7 +48,7 @@ took_spare pool = record pool {
     spares = pool.facts.spares - 1;
     out = pool.facts.out + 1;
     pos = next_pos pool.script pool.facts.pos;
-    spare = counted pool.facts.spare;
+    spare = saturating_next pool.facts.spare;
   };
 }
 
