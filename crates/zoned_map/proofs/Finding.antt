@@ -15,20 +15,20 @@ use Rattle.zoned_map.proofs.Places.{zones_whole}
 abbrev chunks_of : List Zone → ℕ
 chunks_of = sum_by (λ (zone : Zone). zone.chunks)
 
--- the chunk is looked for in the zones from one on, under what is left of its number
-pub record IsLeft (zones : List Zone) (e place left : ℕ) : Type 0 where
+-- chunk `e` of all zones is chunk `left` of those from a place on
+pub record IsChunkFrom (zones : List Zone) (e place left : ℕ) : Type 0 where
   pub same : in_zones (drop place zones) left ≡ in_zones zones e
   pub low : left < chunks_of (drop place zones)
 
 pub left_first :
-    (chunk : ℕ) (sizes : List ℕ) (s : ℕ) → 1 ≤ chunk → s < size_of (Zoned chunk) sizes → IsLeft (zones (whole_chunks chunk sizes)) (s / chunk) 0 (s / chunk)
+    (chunk : ℕ) (sizes : List ℕ) (s : ℕ) → 1 ≤ chunk → s < size_of (Zoned chunk) sizes → IsChunkFrom (zones (whole_chunks chunk sizes)) (s / chunk) 0 (s / chunk)
 unfolding size_of
 left_first chunk sizes s pos lt = record {
   same = refl;
   low = omega (arith, zones_whole (whole_chunks chunk sizes), div_below s chunk (sum (whole_chunks chunk sizes)) pos (omega (arith, mul_comm chunk (sum (whole_chunks chunk sizes)))));
 }
 
-module _ (zones : List Zone) (e place left : ℕ) (d : Zone) (is : IsLeft zones e place left) (within : place < length zones) where
+module _ (zones : List Zone) (e place left : ℕ) (d : Zone) (is : IsChunkFrom zones e place left) (within : place < length zones) where
   abbrev this : Zone
   this = get_or zones place d
 
@@ -38,7 +38,7 @@ module _ (zones : List Zone) (e place left : ℕ) (d : Zone) (is : IsLeft zones 
       sym (in_zones-in this (drop (place + 1) zones) left lt) ∙ ap (λ zs. in_zones zs left) (sym (drop_more zones place d within)) ∙ is.same
 
   -- or behind it
-  pub left_behind : this.chunks ≤ left → IsLeft zones e (place + 1) (left - this.chunks)
+  pub left_behind : this.chunks ≤ left → IsChunkFrom zones e (place + 1) (left - this.chunks)
   left_behind ge = record {
     same =
         sym (in_zones-behind this (drop (place + 1) zones) left ge) ∙ ap (λ zs. in_zones zs left) (sym (drop_more zones place d within)) ∙ is.same;
@@ -77,14 +77,14 @@ pub record IsFound (chunk : ℕ) (sizes : List ℕ) (start left : ℕ) (zone : Z
 
 pub is_found :
     (chunk : ℕ) (sizes : List ℕ) (start left place : ℕ) (zs : List Zone) (zone : Zone) → 1 ≤ chunk → start < size_of (Zoned chunk) sizes → sum sizes < 2 ^ 32
-    → zs ≡ zones (whole_chunks chunk sizes) → IsLeft zs (start / chunk) place left → place < length zs → zone ≡ get_or zs place zone → left < zone.chunks
+    → zs ≡ zones (whole_chunks chunk sizes) → IsChunkFrom zs (start / chunk) place left → place < length zs → zone ≡ get_or zs place zone → left < zone.chunks
     → IsFound chunk sizes start left zone
 is_found chunk sizes start left place zs zone pos lt fits are is within this here =
     let all = zones (whole_chunks chunk sizes) in
     let there : place < length all = subst (λ (xs : List Zone). place < length xs) are within in
     let same : get_or all place zone ≡ zone = ap (λ (xs : List Zone). get_or xs place zone) (sym are) ∙ sym this in
     let chunk_is : in_zones all (start / chunk) ≡ in_zone zone left =
-    sym (left_here all (start / chunk) place left zone (subst (λ (xs : List Zone). IsLeft xs (start / chunk) place left) are is) there (subst (λ (z : Zone). left < z.chunks) (sym same) here))
+    sym (left_here all (start / chunk) place left zone (subst (λ (xs : List Zone). IsChunkFrom xs (start / chunk) place left) are is) there (subst (λ (z : Zone). left < z.chunks) (sym same) here))
     ∙ ap (λ (z : Zone). in_zone z left) same in
     record {
       some =

@@ -8,7 +8,7 @@ use Rattle.stack_base.specs.declared.mapping.Piece.{Piece}
 use Rattle.stack_base.specs.Piece.{IsPiece}
 use Rattle.stack_base.proofs.KindPieces.{zoned_piece_is}
 use Rattle.zoned_map.specs.Members.{Members}
-use Rattle.zoned_map.proofs.Finding.{IsLeft, left_first, left_behind, is_found}
+use Rattle.zoned_map.proofs.Finding.{IsChunkFrom, left_first, left_behind, is_found}
 use Rattle.zoned_map.proofs.ZonedMapLaw.piece.Goals as goal
 
 -- the chunk is looked for from the first zone on
@@ -18,7 +18,7 @@ loop-zone-init c =
     let zones = c.deref-zone-items.ensures.0 ∙ c.self.invariant.zones in
     let begins : c.args.start < size_of (Zoned kept.chunk) kept.sizes.items =
     omega (arith, c.requires.some, c.requires.within, ap (λ (v : Members). size_of (Zoned v.chunk) v.sizes) c.self.view_is) in
-    subst (λ (zs : List Zone). IsLeft zs (c.args.start / kept.chunk) 0 (c.args.start / kept.chunk)) (sym zones)
+    subst (λ (zs : List Zone). IsChunkFrom zs (c.args.start / kept.chunk) 0 (c.args.start / kept.chunk)) (sym zones)
     (left_first kept.chunk kept.sizes.items c.args.start c.self.invariant.shape.0 begins)
 
 pub loop-zone-preserved : goal.loop-zone-preserved
@@ -28,7 +28,7 @@ loop-zone-preserved c =
     let e = c.args.start / c.self.inside.chunk in
     let place = c.loop-zone.zone-index in
     let chunks = ap (λ (z : Zone). z.chunks) (c.zone.view_is ∙ c.zone-item.is) in
-    subst (λ n. IsLeft zs e (place + 1) (c.loop-zone.number - n)) (sym chunks)
+    subst (λ n. IsChunkFrom zs e (place + 1) (c.loop-zone.number - n)) (sym chunks)
     (left_behind zs e place c.loop-zone.number zone c.loop-zone.invariant c.loop-zone-test.true (omega (arith, chunks, c.if-number-zone.false)))
 
 -- the zone has members
