@@ -16,7 +16,7 @@ use Rattle.seat_lock.specs.declared.view.Rank.TheVariants.{First}
 use Rattle.seat_lock.specs.declared.view.Phase.TheVariants.{Idle, Serving}
 use Rattle.seat_lock.specs.History.{indicator, count, calls_by, IsLeft}
 use Rattle.seat_lock.specs.Seats.{is_first, split_of, own}
-use Rattle.seat_lock.specs.Turning.{around, is_live, firsts_of, others_of, out_of, firsts, others, split_by, joined_by, out, number_count, HasTurn, Stands, Knows, IsServed, IsTurning, first_after_split, new_view, joined_view, spent_view, Learnt}
+use Rattle.seat_lock.specs.Turning.{around, is_live, firsts_of, others_of, out_of, firsts, others, split_by, joined_by, out, number_count, HasTurn, Stands, Knows, IsServing, IsTurning, first_after_split, new_view, joined_view, spent_view, Learnt}
 use Rattle.seat_lock.proofs.Sums.{sum_by-put, sum_by-at, sum_by-two, sum_none, put_all, tail_all}
 use Rattle.seat_lock.proofs.Histories.{count_one, count_append, calls_by-append, none_of, nil_left, longer_is, squeeze, nothing, all_calls, all_none, all_prefix}
 use Rattle.seat_lock.proofs.Turns.{idle_not, no_split, not_live, first_more, first_live, plain_other, one_most, number_step}
@@ -71,7 +71,7 @@ module _ {T D A R M : Type 0} (plain : T → D) (mark : T → M) (answers : D �
         drawn = t.drawn;
         given = t.given + 1;
         words = t.words;
-        place = ⊎_elim (λ p. inl (p.0, p.1, p.2, tail_all (λ x. IsServed t.served x → ⊥) (slice_set s.views id u) w (λ h. idle_not t.served h) p.3)) (λ p. inr (p.0, (p.1.0, p.1.1, at_longer (slice_set s.views id u) (w ∷ []) p.1.0 p.1.1 p.1.2, p.1.3))) place;
+        place = ⊎_elim (λ p. inl (p.0, p.1, p.2, tail_all (λ x. IsServing t.served x → ⊥) (slice_set s.views id u) w (λ h. idle_not t.served h) p.3)) (λ p. inr (p.0, (p.1.0, p.1.1, at_longer (slice_set s.views id u) (w ∷ []) p.1.0 p.1.1 p.1.2, p.1.3))) place;
         each = tail_all (λ x. Knows t.served t.drawn t.log key x) (slice_set s.views id u) w knows_w (put_all (λ x. Knows t.served t.drawn t.log key x) s.views id u knows_u (λ j x ne a. t.each j x a));
         apart = λ i j x y n ne a b h l.
             ⊎_elim

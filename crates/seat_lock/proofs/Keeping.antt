@@ -18,7 +18,7 @@ use Rattle.seat_lock.specs.declared.view.Entry.{Entry}
 use Rattle.seat_lock.specs.declared.view.Phase.TheVariants.{Idle, Waiting, Serving}
 use Rattle.seat_lock.specs.History.{count, calls_by, Leads, IsLeft}
 use Rattle.seat_lock.specs.Seats.{split_of, own, call_of, Calls}
-use Rattle.seat_lock.specs.Turning.{around, FoundTurn, WaitsFor, is_live, firsts_of, others_of, out_of, firsts, others, split_by, joined_by, out, number_count, HasTurn, Stands, Knows, IsServed, ThingPlace, IsTurning, first_view, Drew, HasLooked, IsLeftBy, served_view, seat_entries, passed_on, Passed, after_call, HasThing}
+use Rattle.seat_lock.specs.Turning.{around, FoundTurn, WaitsFor, is_live, firsts_of, others_of, out_of, firsts, others, split_by, joined_by, out, number_count, HasTurn, Stands, Knows, IsServing, ThingPlace, IsTurning, first_view, Drew, HasLooked, IsLeftBy, served_view, seat_entries, passed_on, Passed, after_call, HasThing}
 use Rattle.seat_lock.proofs.Sums.{sum_by-put, sum_by-at, sum_by-two, sum_by-most, sum_of, set_at, put_all}
 use Rattle.seat_lock.proofs.Histories.{all_one, calls_by-append, call_is_own, call_is_other, prefix_snoc, prefix_same, leads_snoc}
 use Rattle.seat_lock.proofs.Turns.{live_out, turn_in, idle_not, waiting_not, later_stands, steps_on, waiting_is, not_next, one_most, below, number_one}
@@ -91,9 +91,9 @@ module _ {T D A R M : Type 0} (plain : T → D) (mark : T → M) (answers : D �
 
   -- where a seat changes that is not served, the place stays
   pub same_place : (log : List (Entry A R)) (served : ℕ) (homes : List (option.Option T)) (views : List (View T A R)) (id : ℕ) (v w : View T A R) → get_elem? views id ≡ some v
-      → (IsServed served v → ⊥) → (IsServed served w → ⊥) → ThingPlace plain mark answers key log served homes views → ThingPlace plain mark answers key log served homes (slice_set views id w)
+      → (IsServing served v → ⊥) → (IsServing served w → ⊥) → ThingPlace plain mark answers key log served homes views → ThingPlace plain mark answers key log served homes (slice_set views id w)
   same_place log served homes views id v w e not not' p = ⊎_elim
-      (λ t. inl (t.0, t.1, t.2, put_all (λ u. IsServed served u → ⊥) views id w not' (λ j u ne a. t.3 j u a)))
+      (λ t. inl (t.0, t.1, t.2, put_all (λ u. IsServing served u → ⊥) views id w not' (λ j u ne a. t.3 j u a)))
       (λ t. inr (t.0, (t.1.0, t.1.1, set_else views id t.1.0 w (λ same. not (ap (λ (u : View T A R). u.phase) (some-injective v t.1.1 (sym e ∙ subst (λ j. get_elem? views j ≡ some t.1.1) same t.1.2)) ∙ t.1.3)) ∙ t.1.2, t.1.3))) p
 
   -- the last turn that is out is not far from the first
@@ -234,7 +234,7 @@ module _ {T D A R M : Type 0} (plain : T → D) (mark : T → M) (answers : D �
       below m.0.known.number t.given (omega (arith, sum_by-at (number_count m.0.known.number) s.views id m.0 e, t.numbers m.0.known.number, own1)) in
       let t' = moved plain mark answers key s t id m.0 w e (slice_set s.words 1 ((slice_index s.words 1 + 1) % around)) (homes_after s.homes m.1 gives) log' (t.served + 1) t.drawn
       (second_word s.words t.drawn t.served t.words)
-      (inl (kept, back, subst (λ l. IsLeft plain mark answers key.value (l ++ en ∷ []) kept) st.2 left, put_all (λ u. IsServed (t.served + 1) u → ⊥) s.views id w (λ h. idle_not (t.served + 1) h) (λ j u ne a. not_next t.served t.drawn t.log u.known.seen u.phase (t.each j u a).stands)))
+      (inl (kept, back, subst (λ l. IsLeft plain mark answers key.value (l ++ en ∷ []) kept) st.2 left, put_all (λ u. IsServing (t.served + 1) u → ⊥) s.views id w (λ h. idle_not (t.served + 1) h) (λ j u ne a. not_next t.served t.drawn t.log u.known.seen u.phase (t.each j u a).stands)))
       (λ j u ne a. let ku = t.each j u a in
       let two = sum_by-two (number_count m.0.known.number) s.views id j m.0 u (λ h. ne (sym h)) e a in
       let zero_there : count m.0.known.number u.known.numbers ≡ 0 = omega (arith, two, own1, t.numbers m.0.known.number, one_most (nat_lt m.0.known.number t.given)) in

@@ -112,15 +112,15 @@ module _ {T A R : Type 0} (served drawn : ℕ) (log : List (Entry A R)) where
     pub stands : Stands served drawn log v.known.seen v.phase
 
 module _ {T A R : Type 0} where
-  abbrev pub IsServed : ℕ → View T A R → Type 0
-  IsServed turn v = v.phase ≡ Serving turn
+  abbrev pub IsServing : ℕ → View T A R → Type 0
+  IsServing turn v = v.phase ≡ Serving turn
 
 module _ {T D A R M : Type 0} (plain : T → D) (mark : T → M) (answers : D → A → R → D → Type 0) where
   -- the thing is at home as the history leaves it, and no seat is served; or it is out with the seat that is
   abbrev pub ThingPlace : Snapshot T → List (Entry A R) → ℕ → List (option.Option T) → List (View T A R) → Type 0
   ThingPlace key log served homes views =
-      ((kept : T) × (homes ≡ some kept ∷ []) × IsLeft plain mark answers key.value log kept × ((i : ℕ) (v : View T A R) → get_elem? views i ≡ some v → IsServed served v → ⊥))
-      ⊎ ((homes ≡ none ∷ []) × ((i : ℕ) × (v : View T A R) × (get_elem? views i ≡ some v) × IsServed served v))
+      ((kept : T) × (homes ≡ some kept ∷ []) × IsLeft plain mark answers key.value log kept × ((i : ℕ) (v : View T A R) → get_elem? views i ≡ some v → IsServing served v → ⊥))
+      ⊎ ((homes ≡ none ∷ []) × ((i : ℕ) × (v : View T A R) × (get_elem? views i ≡ some v) × IsServing served v))
 
   -- The words are the next turn to draw and the turn that is served, and the slot has the thing. `log` is the history, `drawn` and `served` count
   -- turns without end, and `given` counts the seats that were ever there.
