@@ -5,15 +5,15 @@ use Rattle.shared_objects.specs.Rows.{Abreast, AreAdded}
 use Rattle.shared_objects.proofs.row_lemmas.GrowingRows.{Part, part_all, next_is, next_so, in_list, three_more}
 
 module _ {X Y Z : Type 0} (P : X → Y → Z → Type 0) (xs : List X) (ys : List Y) (olds : List Z) where
-  -- what is made of the parts of both rows that were taken
-  abbrev pub Taken : List X → List Y → List Z → Type 0
-  Taken left other_left news = Part xs left (λ taken. Part ys other_left (λ others. AreAdded P taken others olds news))
+  -- pairs were taken of both rows up to what is left, and what is made of them was added
+  abbrev pub PairsAreAdded : List X → List Y → List Z → Type 0
+  PairsAreAdded left other_left news = Part xs left (λ taken. Part ys other_left (λ others. AreAdded P taken others olds news))
 
-  pub none_taken : (left : List X) (other_left : List Y) → xs ≡ left → ys ≡ other_left → Taken left other_left olds
+  pub none_taken : (left : List X) (other_left : List Y) → xs ≡ left → ys ≡ other_left → PairsAreAdded left other_left olds
   none_taken left other_left e f =
       ([], e, ([], f, record { made = []; added = sym (append-nil olds); are = record { lens = (refl, refl); each = λ place x y z lt. absurd (omega (arith, lt)) } }))
 
-  module _ (left : List X) (other_left : List Y) (news : List Z) (are : Taken left other_left news) where
+  module _ (left : List X) (other_left : List Y) (news : List Z) (are : PairsAreAdded left other_left news) where
     same_long : length are.2.0 ≡ length are.0
     same_long = are.2.2.are.lens.0
 
@@ -38,7 +38,7 @@ module _ {X Y Z : Type 0} (P : X → Y → Z → Type 0) (xs : List X) (ys : Lis
           let n = ap length are.2.2.added in let l = length-append olds are.2.2.made in let m = are.2.2.are.lens.1 in let lt = in_list xs are.0 more x whole in
           omega (arith, n, l, m, lt, fits)
 
-      pub one_taken : (z : Z) (now : List Z) → now ≡ news ++ z ∷ [] → P x y z → Taken more other_more now
+      pub one_taken : (z : Z) (now : List Z) → now ≡ news ++ z ∷ [] → P x y z → PairsAreAdded more other_more now
       one_taken z now added is = (
         are.0 ++ x ∷ [],
         whole ∙ sym (append_assoc are.0 (x ∷ []) more),
