@@ -33,7 +33,7 @@ use Rattle.task_steps.specs.Routed.{routing_setup}
 use Rattle.run_machine.specs.Requests.{Request, Reply, TakeBio, TakeVec, TakeSlip, GiveBio, GiveVec, GiveSlip, Punt, Pop, Push, Complete, Link, Drop, Done, Resize, NextRound, LookRound, LookLeft, HadBio, HadVec, HadSlip, Missed, Did, Popped, Completed, LinkedTo, DroppedTo, OutIs, Present, LeftOver, Nothing}
 use Rattle.run_machine.specs.Objects.{TallyState, Objects, TakesElement, Serves, done_one}
 use Rattle.run_machine.specs.Opened.{at}
-use Rattle.task_steps.specs.Stage.{Stage, has_mirror, is_set, is_bios, is_vecs, is_slips, IsTaken, IsServed, AreServed, RequestFits, Owes}
+use Rattle.task_steps.specs.Stage.{Stage, has_mirror, is_set, is_bios, is_vecs, is_slips, IsHomeInPool, IsServed, AreServed, RequestFits, Owes}
 use Rattle.task_core.specs.ObjectsOf.{IsDiskOf, IsBookOf, IsTallyOf, AreObjectsOf, AreNumbered}
 use Rattle.run_machine.proofs.Frames.{upd_keeps}
 pub use Rattle.task_core.proofs.NumberTests.{apart_by}
@@ -62,9 +62,9 @@ mirror_is_slips stage dev is = let odd = odd_of dev.0 in rw (odd.0, odd.1) is
 
 module _ (stage : Stage) where
   -- an element that is taken is of the ledger of its pool
-  pub is_taken : (is_kind : Stage → ℕ → Bool) (number : ℕ) (share : LedgerId) → AreNumbered stage → IsTrue (is_kind stage number)
-      → share ≡ stage.ledger number → IsTaken stage is_kind number share
-  is_taken is_kind number share numbered kind is =
+  pub home_in_pool : (is_kind : Stage → ℕ → Bool) (number : ℕ) (share : LedgerId) → AreNumbered stage → IsTrue (is_kind stage number)
+      → share ≡ stage.ledger number → IsHomeInPool stage is_kind number share
+  home_in_pool is_kind number share numbered kind is =
       let same : share.no ≡ number = ap (λ (l : LedgerId). l.no) is ∙ numbered number in
       record {
         numbered = same;
@@ -227,11 +227,11 @@ module _ (stage : Stage) where
       → Serves stage.ledger old request reply new → Owes stage request reply
   -- takes: the element is of the pool that was asked
   objects_owe old new (TakeBio set waits) (HadBio from bio) numbered fits all serves =
-      is_taken is_bios _ bio.share numbered (set_is_bios stage set fits) (ap (λ (b : Item Pad). b.share) serves.1)
+      home_in_pool is_bios _ bio.share numbered (set_is_bios stage set fits) (ap (λ (b : Item Pad). b.share) serves.1)
   objects_owe old new TakeVec (HadVec from vector) numbered fits all serves =
-      is_taken is_vecs 64 vector.share numbered refl (ap (λ (v : VectorItem). v.share) serves.1)
+      home_in_pool is_vecs 64 vector.share numbered refl (ap (λ (v : VectorItem). v.share) serves.1)
   objects_owe old new (TakeSlip dev) (HadSlip from slip) numbered fits all serves =
-      is_taken is_slips _ slip.share numbered (mirror_is_slips stage dev fits) (ap (λ (s : SlipItem). s.share) serves.1)
+      home_in_pool is_slips _ slip.share numbered (mirror_is_slips stage dev fits) (ap (λ (s : SlipItem). s.share) serves.1)
   -- a bio that is popped or completed waited there
   objects_owe old new (Pop dev) (Popped bio) numbered fits all serves =
       All-head (IsServed stage) bio (new.rescue dev.0) (subst (AreServed stage) serves.0 (all.rescue dev.0))

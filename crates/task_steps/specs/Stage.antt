@@ -80,8 +80,8 @@ pub record IsHome (stage : Stage) (is_kind : Stage → ℕ → Bool) (share : Le
   pub ledger : share ≡ stage.ledger share.no
   pub kind : IsTrue (is_kind stage share.no)
 
--- and it is of the pool of this number
-pub record IsTaken (stage : Stage) (is_kind : Stage → ℕ → Bool) (number : ℕ) (share : LedgerId) : Type 0 where
+-- and it is of the pool of this number, as one that was taken there
+pub record IsHomeInPool (stage : Stage) (is_kind : Stage → ℕ → Bool) (number : ℕ) (share : LedgerId) : Type 0 where
   pub numbered : share.no ≡ number
   pub home : IsHome stage is_kind share
 
@@ -160,11 +160,11 @@ DropFits stage (end.Stray part) = IsBioHome stage part
 -- them too, and what was taken is of the pool that was named.
 abbrev pub Owes : Stage → Request → Reply → Type 0
 Owes stage request Spent = Unit {0}
-Owes stage (TakeBio set waits) (HadBio got bio) = IsTaken stage is_bios (pool_number (bios_of set)) bio.share
+Owes stage (TakeBio set waits) (HadBio got bio) = IsHomeInPool stage is_bios (pool_number (bios_of set)) bio.share
 Owes stage (TakeBio set waits) (Missed used) = Unit {0}
-Owes stage TakeVec (HadVec got vector) = IsTaken stage is_vecs (pool_number FsVecs) vector.share
+Owes stage TakeVec (HadVec got vector) = IsHomeInPool stage is_vecs (pool_number FsVecs) vector.share
 Owes stage TakeVec (Missed used) = Unit {0}
-Owes stage (TakeSlip dev) (HadSlip got slip) = IsTaken stage is_slips (pool_number (Records dev)) slip.share
+Owes stage (TakeSlip dev) (HadSlip got slip) = IsHomeInPool stage is_slips (pool_number (Records dev)) slip.share
 Owes stage (TakeSlip dev) (Missed used) = Unit {0}
 Owes stage (GiveBio bio) Did = Unit {0}
 Owes stage (GiveVec vector) Did = Unit {0}

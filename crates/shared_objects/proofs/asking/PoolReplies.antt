@@ -30,7 +30,7 @@ use Rattle.task_steps.specs.declared.objects.Unmade.TheVariants as unmade
 use Rattle.task_steps.specs.Stage.{Stage, Owes, is_bios, is_set, is_pool, is_slips, is_vecs, has_mirror}
 use Rattle.task_steps.specs.Views.{TookClear, took_bio, took_vec, took_slip, vec_item}
 use Rattle.task_core.specs.ObjectsOf.{AreNumbered}
-use Rattle.task_core.proofs.Keeping.{is_taken, mirror_is_slips, set_is_bios}
+use Rattle.task_core.proofs.Keeping.{home_in_pool, mirror_is_slips, set_is_bios}
 use Rattle.task_core.proofs.own.PlainTakes.{clear_bio_is, clear_vector_is, clear_slip_is}
 use Rattle.object_things.specs.Pools.{TookFrom, WaitsAt, had_of, take_request, took}
 use Rattle.shared_objects.specs.Desks.{DeskState, HasCalled}
@@ -109,21 +109,21 @@ module _ (old new : DeskState) (pool from : PoolId) (same : from ≡ pool) where
 module _ (stage : Stage) (numbered : AreNumbered stage) where
   pub bio_owed : (set : SetId) (waits : Bool) (result : Result (Taken (BioBody Pad)) Unmade) → IsTrue (is_set stage set)
       → TookFrom IsClearBody (stage.ledger (pool_number (bios_of set))) result → Owes stage (TakeBio set waits) (took_bio result)
-  bio_owed set waits (Ok (taken.Ordinary el)) is out = is_taken stage is_bios (pool_number (bios_of set)) el.share numbered (set_is_bios stage set is) out.share
-  bio_owed set waits (Ok (taken.Spare el)) is out = is_taken stage is_bios (pool_number (bios_of set)) el.share numbered (set_is_bios stage set is) out.share
+  bio_owed set waits (Ok (taken.Ordinary el)) is out = home_in_pool stage is_bios (pool_number (bios_of set)) el.share numbered (set_is_bios stage set is) out.share
+  bio_owed set waits (Ok (taken.Spare el)) is out = home_in_pool stage is_bios (pool_number (bios_of set)) el.share numbered (set_is_bios stage set is) out.share
   bio_owed set waits (Ok (taken.Miss used)) is out = tt
   bio_owed set waits (Err back) is out = tt
 
   pub vec_owed : (result : Result (Taken Vector) Unmade) → TookFrom IsClearVector (stage.ledger 64) result → Owes stage TakeVec (took_vec result)
-  vec_owed (Ok (taken.Ordinary el)) out = is_taken stage is_vecs 64 el.share numbered refl out.share
-  vec_owed (Ok (taken.Spare el)) out = is_taken stage is_vecs 64 el.share numbered refl out.share
+  vec_owed (Ok (taken.Ordinary el)) out = home_in_pool stage is_vecs 64 el.share numbered refl out.share
+  vec_owed (Ok (taken.Spare el)) out = home_in_pool stage is_vecs 64 el.share numbered refl out.share
   vec_owed (Ok (taken.Miss used)) out = tt
   vec_owed (Err back) out = tt
 
   pub slip_owed : (dev : DevId) (result : Result (Taken Slip) Unmade) → IsTrue (has_mirror stage dev)
       → TookFrom IsClearSlip (stage.ledger (pool_number (Records dev))) result → Owes stage (TakeSlip dev) (took_slip result)
-  slip_owed dev (Ok (taken.Ordinary el)) is out = is_taken stage is_slips (pool_number (Records dev)) el.share numbered (mirror_is_slips stage dev is) out.share
-  slip_owed dev (Ok (taken.Spare el)) is out = is_taken stage is_slips (pool_number (Records dev)) el.share numbered (mirror_is_slips stage dev is) out.share
+  slip_owed dev (Ok (taken.Ordinary el)) is out = home_in_pool stage is_slips (pool_number (Records dev)) el.share numbered (mirror_is_slips stage dev is) out.share
+  slip_owed dev (Ok (taken.Spare el)) is out = home_in_pool stage is_slips (pool_number (Records dev)) el.share numbered (mirror_is_slips stage dev is) out.share
   slip_owed dev (Ok (taken.Miss used)) is out = tt
   slip_owed dev (Err back) is out = tt
 
