@@ -14,7 +14,7 @@ use Rattle.atomic_table.proofs.Lists.{at_set, set_else, at_longer, at_snoc}
 use Rattle.seat_lock.specs.declared.view.View.{View}
 use Rattle.seat_lock.specs.declared.view.Rank.TheVariants.{First}
 use Rattle.seat_lock.specs.declared.view.Phase.TheVariants.{Idle, Serving}
-use Rattle.seat_lock.specs.History.{indicator, count, calls_by, IsLeft}
+use Rattle.seat_lock.specs.History.{indicator, count, calls_by, HistoryLeaves}
 use Rattle.seat_lock.specs.Seats.{is_first, split_of, own}
 use Rattle.seat_lock.specs.Turning.{around, is_live, firsts_of, others_of, out_of, firsts, others, split_by, joined_by, out, number_count, HasTurn, Stands, Knows, IsServing, IsTurning, first_after_split, new_view, joined_view, spent_view, Learnt}
 use Rattle.seat_lock.proofs.Sums.{sum_by-put, sum_by-at, sum_by-two, sum_none, put_all, tail_all}
@@ -153,7 +153,7 @@ module _ {T D A R M : Type 0} (plain : T → D) (mark : T → M) (answers : D �
 
   -- where all others were joined, the first seat has seen the whole history, and the thing is at home
   pub ends : (s : State T (View T A R)) (id : ℕ) (v : View T A R) → v.known.rank ≡ First v.known.joined → v.phase ≡ Idle → Rule s → get_elem? s.views id ≡ some v
-      → (own v.known ≡ v.known.seen) × ((kept : T) × (s.homes ≡ some kept ∷ []) × IsLeft plain mark answers key.value v.known.seen kept)
+      → (own v.known ≡ v.known.seen) × ((kept : T) × (s.homes ≡ some kept ∷ []) × HistoryLeaves plain mark answers key.value v.known.seen kept)
   ends s id v lead idle t e =
       let put = λ (f : View T A R → ℕ). sum_by-put f s.views id v spent_view e in
       let k = t.each id v e in
@@ -176,7 +176,7 @@ module _ {T D A R M : Type 0} (plain : T → D) (mark : T → M) (answers : D �
       let same : t.log ≡ v.known.seen = full ∙ seen in (
         seen,
         ⊎_elim
-            (λ p. (p.0, p.1, subst (λ l. IsLeft plain mark answers key.value l p.0) same p.2))
+            (λ p. (p.0, p.1, subst (λ l. HistoryLeaves plain mark answers key.value l p.0) same p.2))
             (λ p. absurd (dite (ℕ_discrete p.1.0 id)
             (λ h.
             let there : get_elem? s.views p.1.0 ≡ some v = subst (λ j. get_elem? s.views j ≡ some v) (sym h) e in

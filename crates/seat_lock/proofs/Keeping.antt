@@ -16,7 +16,7 @@ use Rattle.seat_lock.specs.declared.view.View.{View}
 use Rattle.seat_lock.specs.declared.view.Known.{Known}
 use Rattle.seat_lock.specs.declared.view.Entry.{Entry}
 use Rattle.seat_lock.specs.declared.view.Phase.TheVariants.{Idle, Waiting, Serving}
-use Rattle.seat_lock.specs.History.{count, calls_by, Leads, IsLeft}
+use Rattle.seat_lock.specs.History.{count, calls_by, Leads, HistoryLeaves}
 use Rattle.seat_lock.specs.Seats.{split_of, own, call_of, Calls}
 use Rattle.seat_lock.specs.Turning.{around, FoundTurn, WaitsFor, is_live, firsts_of, others_of, out_of, firsts, others, split_by, joined_by, out, number_count, HasTurn, Stands, Knows, IsServing, ThingPlace, IsTurning, first_view, Drew, HasLooked, IsLeftBy, served_view, seat_entries, passed_on, Passed, after_call, HasThing}
 use Rattle.seat_lock.proofs.Sums.{sum_by-put, sum_by-at, sum_by-two, sum_by-most, sum_of, set_at, put_all}
@@ -147,7 +147,7 @@ module _ {T D A R M : Type 0} (plain : T → D) (mark : T → M) (answers : D �
         let few = out_few s t in
         sym (one_turn t.served k around stands.0 (omega (arith, stands, t.turns_out, few)) (sym found ∙ h))
 
-    taken : slice_index s.words 1 ≡ k % around → (kept : T) → s.homes ≡ some kept ∷ [] → IsLeft plain mark answers key.value t.log kept → Looks
+    taken : slice_index s.words 1 ≡ k % around → (kept : T) → s.homes ≡ some kept ∷ [] → HistoryLeaves plain mark answers key.value t.log kept → Looks
     taken h kept homes left =
         let kn = t.each id m.0 e in
         let w : View T A R = served_view m.0 k t.log in
@@ -208,7 +208,7 @@ module _ {T D A R M : Type 0} (plain : T → D) (mark : T → M) (answers : D �
 module _ {T D A R M : Type 0} (plain : T → D) (mark : T → M) (answers : D → A → R → D → Type 0) (key : Snapshot T) (a : A) (b : R) (calls : List (A × R)) (picked : calls ≡ (a, b) ∷ []) where
   pub passes : (slots id k : ℕ) (m : Me T (View T A R)) (kept : T)
       → m.0.phase ≡ Serving k → is_live m.0.known.rank ≡ true → m.1 ≡ (0, kept) ∷ []
-      → IsLeft plain mark answers key.value (m.0.known.seen ++ call_of m.0.known a b ∷ []) kept
+      → HistoryLeaves plain mark answers key.value (m.0.known.seen ++ call_of m.0.known a b ∷ []) kept
       → Allows (Rule plain mark answers key) slots id m 1 (λ n. (n + 1) % around) (Passed calls (step slots 1 1 0 none) m)
   passes slots id k m kept serving live held left s t _ e _ =
       let kn = t.each id m.0 e in
@@ -234,7 +234,7 @@ module _ {T D A R M : Type 0} (plain : T → D) (mark : T → M) (answers : D �
       below m.0.known.number t.given (omega (arith, sum_by-at (number_count m.0.known.number) s.views id m.0 e, t.numbers m.0.known.number, own1)) in
       let t' = moved plain mark answers key s t id m.0 w e (slice_set s.words 1 ((slice_index s.words 1 + 1) % around)) (homes_after s.homes m.1 gives) log' (t.served + 1) t.drawn
       (second_word s.words t.drawn t.served t.words)
-      (inl (kept, back, subst (λ l. IsLeft plain mark answers key.value (l ++ en ∷ []) kept) st.2 left, put_all (λ u. IsServing (t.served + 1) u → ⊥) s.views id w (λ h. idle_not (t.served + 1) h) (λ j u ne a. not_next t.served t.drawn t.log u.known.seen u.phase (t.each j u a).stands)))
+      (inl (kept, back, subst (λ l. HistoryLeaves plain mark answers key.value (l ++ en ∷ []) kept) st.2 left, put_all (λ u. IsServing (t.served + 1) u → ⊥) s.views id w (λ h. idle_not (t.served + 1) h) (λ j u ne a. not_next t.served t.drawn t.log u.known.seen u.phase (t.each j u a).stands)))
       (λ j u ne a. let ku = t.each j u a in
       let two = sum_by-two (number_count m.0.known.number) s.views id j m.0 u (λ h. ne (sym h)) e a in
       let zero_there : count m.0.known.number u.known.numbers ≡ 0 = omega (arith, two, own1, t.numbers m.0.known.number, one_most (nat_lt m.0.known.number t.given)) in
@@ -271,8 +271,8 @@ module _ {T : Type 0} where
 module _ {T D A R M : Type 0} (plain : T → D) (mark : T → M) (answers : D → A → R → D → Type 0) where
   -- the thing after it served is what the longer history leaves
   pub served : (start : T) (seen : List (Entry A R)) (by : ℕ) (kept now x : T) (a : A) (b : R) → now ≡ kept
-      → IsLeft plain mark answers start seen kept → answers (plain now) a b (plain x) → mark x ≡ mark now
-      → IsLeft plain mark answers start (seen ++ record { by = by; asked = a; told = b } ∷ []) x
+      → HistoryLeaves plain mark answers start seen kept → answers (plain now) a b (plain x) → mark x ≡ mark now
+      → HistoryLeaves plain mark answers start (seen ++ record { by = by; asked = a; told = b } ∷ []) x
   served start seen by kept now x a b same left did marked = (
     leads_snoc answers (plain start) (plain kept) (plain x) seen (record { by = by; asked = a; told = b }) left.0 (subst (λ n. answers (plain n) a b (plain x)) same did),
     marked ∙ ap mark same ∙ left.1,
@@ -285,13 +285,13 @@ module _ {T D A R M : Type 0} (plain : T → D) (mark : T → M) (answers : D �
   pub has_thing : HasThing plain mark answers key m
   has_thing =
       let f = (l k refl).1 turn in
-      let left : IsLeft plain mark answers key.value f.0 f.1 = subst (λ o. IsLeftBy plain mark answers o f.0 f.1) start f.4 in (
+      let left : HistoryLeaves plain mark answers key.value f.0 f.1 = subst (λ o. IsLeftBy plain mark answers o f.0 f.1) start f.4 in (
         k,
         f.1,
         ap (λ x. x.0.phase) f.2,
         ap (λ x. x.1) f.2,
         ap (λ x. x.0.known.start) f.2 ∙ start,
-        subst (λ s. IsLeft plain mark answers key.value s f.1) (sym (ap (λ x. x.0.known.seen) f.2)) left,
+        subst (λ s. HistoryLeaves plain mark answers key.value s f.1) (sym (ap (λ x. x.0.known.seen) f.2)) left,
         ap (λ x. is_live x.0.known.rank) f.2 ∙ live,
         ap (λ x. count x.0.known.number x.0.known.numbers) f.2 ∙ f.6,
       )

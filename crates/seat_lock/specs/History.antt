@@ -46,8 +46,8 @@ module _ {D A R : Type 0} (answers : D → A → R → D → Type 0) where
 
 module _ {T D A R M : Type 0} (plain : T → D) (mark : T → M) (answers : D → A → R → D → Type 0) where
   -- the thing is what the history leaves of the thing at the start
-  abbrev pub IsLeft : T → List (Entry A R) → T → Type 0
-  IsLeft start history thing = Leads answers (plain start) history (plain thing) × (mark thing ≡ mark start)
+  abbrev pub HistoryLeaves : T → List (Entry A R) → T → Type 0
+  HistoryLeaves start history thing = Leads answers (plain start) history (plain thing) × (mark thing ≡ mark start)
 
 module _ {D A R : Type 0} (answers : D → A → R → D → Type 0) where
   -- each call of a run is answered by the thing as the calls before it have left it

@@ -12,7 +12,7 @@ use Rattle.seat_lock.specs.declared.view.Rank.{Rank}
 use Rattle.seat_lock.specs.declared.view.Rank.TheVariants.{First, Other, Spent}
 use Rattle.seat_lock.specs.declared.view.Phase.{Phase}
 use Rattle.seat_lock.specs.declared.view.Phase.TheVariants.{Idle, Waiting, Serving}
-use Rattle.seat_lock.specs.History.{indicator, count, IsPrefix, calls_by, Continues, Leads, IsLeft}
+use Rattle.seat_lock.specs.History.{indicator, count, IsPrefix, calls_by, Continues, Leads, HistoryLeaves}
 use Rattle.seat_lock.specs.Seats.{split_of, first_seat, split_more, new_seat, joined_with, call_of, IsWhole}
 
 -- as many turns as a word counts until it goes round
@@ -119,7 +119,7 @@ module _ {T D A R M : Type 0} (plain : T → D) (mark : T → M) (answers : D �
   -- the thing is at home as the history leaves it, and no seat is served; or it is out with the seat that is
   abbrev pub ThingPlace : Snapshot T → List (Entry A R) → ℕ → List (option.Option T) → List (View T A R) → Type 0
   ThingPlace key log served homes views =
-      ((kept : T) × (homes ≡ some kept ∷ []) × IsLeft plain mark answers key.value log kept × ((i : ℕ) (v : View T A R) → get_elem? views i ≡ some v → IsServing served v → ⊥))
+      ((kept : T) × (homes ≡ some kept ∷ []) × HistoryLeaves plain mark answers key.value log kept × ((i : ℕ) (v : View T A R) → get_elem? views i ≡ some v → IsServing served v → ⊥))
       ⊎ ((homes ≡ none ∷ []) × ((i : ℕ) × (v : View T A R) × (get_elem? views i ≡ some v) × IsServing served v))
 
   -- The words are the next turn to draw and the turn that is served, and the slot has the thing. `log` is the history, `drawn` and `served` count
@@ -169,7 +169,7 @@ module _ {T D A R : Type 0} (plain : T → D) (answers : D → A → R → D →
 module _ {T D A R M : Type 0} (plain : T → D) (mark : T → M) (answers : D → A → R → D → Type 0) where
   abbrev pub IsLeftBy : Option (Snapshot T) → List (Entry A R) → T → Type 0
   IsLeftBy None log thing = ⊥
-  IsLeftBy (Some start) log thing = IsLeft plain mark answers start.value log thing
+  IsLeftBy (Some start) log thing = HistoryLeaves plain mark answers start.value log thing
 
   -- a seat that waits has looked: where the turn is its own, it has the thing as the history leaves it
   abbrev pub HasLooked : Step T → Me T (View T A R) → ℕ → Me T (View T A R) → Type 0
@@ -212,9 +212,9 @@ module _ {T D A R M : Type 0} (plain : T → D) (mark : T → M) (answers : D �
   -- the seat is served, and has the thing as the history leaves it
   abbrev pub HasThing : Snapshot T → Me T (View T A R) → Type 0
   HasThing key me = (turn : ℕ) × (kept : T) × (me.0.phase ≡ Serving turn) × (me.1 ≡ (0, kept) ∷ []) × (me.0.known.start ≡ Some key)
-      × IsLeft plain mark answers key.value me.0.known.seen kept × (is_live me.0.known.rank ≡ true) × (count me.0.known.number me.0.known.numbers ≡ 1)
+      × HistoryLeaves plain mark answers key.value me.0.known.seen kept × (is_live me.0.known.rank ≡ true) × (count me.0.known.number me.0.known.numbers ≡ 1)
 
   -- the seat is served, and the thing that it has has answered the seat's call
   abbrev pub HasServed : Snapshot T → A → R → Me T (View T A R) → Type 0
   HasServed key asked told me = (turn : ℕ) × (kept : T) × (me.0.phase ≡ Serving turn) × (me.1 ≡ (0, kept) ∷ []) × (is_live me.0.known.rank ≡ true)
-      × IsLeft plain mark answers key.value (me.0.known.seen ++ call_of me.0.known asked told ∷ []) kept
+      × HistoryLeaves plain mark answers key.value (me.0.known.seen ++ call_of me.0.known asked told ∷ []) kept

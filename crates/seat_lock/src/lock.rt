@@ -1,6 +1,6 @@
 //! Locks and their seats.
 ghost use Rattle.std.specs.Prelude.{◌≡◌, ◌<◌, true, false, [], ◌∷◌, IfOk, IfErr};
-ghost use Rattle.seat_lock.specs.History.{IsLeft};
+ghost use Rattle.seat_lock.specs.History.{HistoryLeaves};
 ghost use Rattle.seat_lock.specs.Seats.{AreOf, Calls, HasJoined, IsOf, IsWhole, first_seat, is_first, new_seat, own, split_more, split_of};
 ghost use Rattle.seat_lock.specs.Turning.{EndsRun, FoundTurn, HasServed, HasThing, IsIdle, WaitsFor, after_call};
 ghost use Rattle.seat_lock.specs.declared.view.Rank.TheVariants.{First};
@@ -273,7 +273,7 @@ impl<T: Thing> SeatLock<T> {
         requires of { IsOf self seat }
         requires whole { seat.known.rank ≡ First seat.known.joined }
         ensures told { result.told.value ≡ seat }
-        ensures thing { IsLeft T.plain T.mark T.answers self.key.value seat.known.seen result.thing }
+        ensures thing { HistoryLeaves T.plain T.mark T.answers self.key.value seat.known.seen result.thing }
         ensures all { own seat.known ≡ seat.known.seen }
     {
         let told = Snapshot::of(&seat);

@@ -2,7 +2,7 @@
 use Rattle.std.specs.Prelude.{◌≡◌, ◌<◌, ◌≤◌, ℕ, true, false, List, [], ◌++◌, slice_index_or, length}
 use Rattle.seat_lock.specs.declared.lock.Shut.{Shut}
 use Rattle.seat_lock.specs.declared.view.Rank.TheVariants.{First}
-use Rattle.seat_lock.specs.History.{IsLeft}
+use Rattle.seat_lock.specs.History.{HistoryLeaves}
 use Rattle.seat_lock.specs.Seats.{LockId, SeatState, IsOf, HasJoined, IsWhole, is_first, new_seat, own, split_more, split_of}
 use Rattle.shared_objects.specs.Joins.{HasTaken}
 
@@ -78,7 +78,7 @@ module _ {K T A R : Type 0} where
 module _ {T D A R M : Type 0} (plain : T → D) (mark : T → M) (answers : D → A → R → D → Type 0) where
   -- What is left of a lock: the thing as the history leaves it, which is all that the first seat has seen and all of its own calls, and that seat.
   pub record IsShut (lock : LockId T) (first : SeatState T A R) (thing : T) (told : SeatState T A R) : Type 0 where
-    pub left : IsLeft plain mark answers lock.key.value first.known.seen thing
+    pub left : HistoryLeaves plain mark answers lock.key.value first.known.seen thing
     pub told_is : told ≡ first
     pub all : own first.known ≡ first.known.seen
 

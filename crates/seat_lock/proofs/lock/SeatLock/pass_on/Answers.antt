@@ -1,5 +1,5 @@
 use Rattle.std.proofs.Common.{[], ◌∷◌, ◌++◌, arith, sym, ◌∙◌, ap, subst}
-use Rattle.seat_lock.specs.History.{IsLeft}
+use Rattle.seat_lock.specs.History.{HistoryLeaves}
 use Rattle.seat_lock.specs.Seats.{call_of}
 use Rattle.seat_lock.proofs.Keeping.{passes, after_it}
 use Rattle.seat_lock.proofs.lock.SeatLock.pass_on.Goals as goal
@@ -11,7 +11,7 @@ fetch_add-served-requires g c =
       c.requires.of ∙ sym (ap (λ x. x.table) c.self.view_is),
       omega (arith, c.self.invariant),
       passes t.plain t.mark t.answers c.self.inside.table.shared.key _ _ _ c.requires.pick _ _ h.0 _ h.1 h.2 h.4 h.3
-          (subst (λ x. IsLeft t.plain t.mark t.answers x.key.value (c.args.inner.now.me.0.known.seen ++ call_of c.args.inner.now.me.0.known (t.asked c.args.asked.value) (t.told c.args.told.value) ∷ []) h.1) (sym c.self.view_is) h.5),
+          (subst (λ x. HistoryLeaves t.plain t.mark t.answers x.key.value (c.args.inner.now.me.0.known.seen ++ call_of c.args.inner.now.me.0.known (t.asked c.args.asked.value) (t.told c.args.told.value) ∷ []) h.1) (sym c.self.view_is) h.5),
     )
 
 pub returns-clause-view : goal.returns-clause-view
