@@ -11,7 +11,7 @@ use Rattle.stack_base.specs.declared.stack.Kind.{Kind}
 use Rattle.stack_base.specs.declared.stack.Kind.TheVariants.{Disk, Linear, Stripe, Zoned, Limit, Mirror}
 use Rattle.stack_base.specs.declared.stack.Device.{Device}
 use Rattle.stack_base.specs.declared.stack.Stack.{Stack}
-use Rattle.stack_base.specs.Names.{name_of_device}
+use Rattle.stack_base.specs.Names.{name_of_device, pool_name}
 use Rattle.decl_text.specs.Accepting.{Means, what_of_kind}
 use Rattle.decl_text.specs.Known as declared
 use Rattle.decl_text.specs.Known.{Declared, Known}
@@ -23,7 +23,7 @@ use Rattle.run_machine.specs.declared.event.What.{What}
 use Rattle.run_machine.specs.declared.event.What.TheVariants as what
 use Rattle.run_machine.specs.Named.{HasDevice, HasPool, HasTask, HasWhat, IsEventOf, is_stacked_kind, is_any, is_disk_kind, is_mirror_kind}
 use Rattle.run_machine.specs.StatusWords.{status_word}
-use Rattle.trace_text.specs.Lines.{got_word, line_of_event, pool_word, task_word, what_words}
+use Rattle.trace_text.specs.Lines.{got_word, line_of_event, task_word, what_words}
 use Rattle.biostack_top.proofs.SameStacks.{same_of}
 
 disk_told : (kind : Kind) → is_disk_kind kind ≡ declared.declares_disk (what_of_kind kind)
@@ -46,7 +46,7 @@ module _ (known : Known) (one other : Stack) (one_scripts other_scripts : List (
   same_name : (dev : DevId) → name_of_device one dev.0 ≡ name_of_device other dev.0
   same_name dev = same_of known one other one_scripts other_scripts a b (λ (d : Device). d.name.bytes) (λ (d : Declared). d.name) [] (λ d. refl) dev.0
 
-  same_pool_word : (pool : PoolId) → pool_word one pool ≡ pool_word other pool
+  same_pool_word : (pool : PoolId) → pool_name one pool ≡ pool_name other pool
   same_pool_word FsBios = refl
   same_pool_word FsVecs = refl
   same_pool_word (Bios dev) = ap (λ name. name ++ codes ".bios") (same_name dev)

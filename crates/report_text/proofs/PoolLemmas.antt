@@ -15,11 +15,12 @@ use Rattle.stack_base.specs.declared.stack.Kind.{Kind}
 use Rattle.stack_base.specs.declared.stack.Kind.TheVariants.{Disk, Linear, Stripe, Zoned, Limit, Mirror}
 use Rattle.stack_base.specs.declared.stack.Device.{Device}
 use Rattle.stack_base.specs.declared.stack.Stack.{Stack}
+use Rattle.stack_base.specs.Names.{pool_name}
 use Rattle.outside_io.specs.declared.sink.Sink.{Ghosts as SinkGhosts}
 use Rattle.outside_io.specs.Saying.{PenState, Says, joined_text}
 use Rattle.outside_io.proofs.SaysLemmas.{says_then, says_silence}
 use Rattle.mempool_core.specs.declared.Facts.{Facts}
-use Rattle.report_text.specs.Pools.{HasDeviceOfPool, at, disk_at, pools_at, disks_from, rising_from, falling_from, falling_pools, same_pool, pool_name}
+use Rattle.report_text.specs.Pools.{HasDeviceOfPool, at, disk_at, pools_at, disks_from, rising_from, falling_from, falling_pools, same_pool}
 use Rattle.report_text.specs.Report.{facts_of, pool_line, pool_lines}
 use Rattle.report_text.specs.Views.{facts_line, own_of_each}
 

@@ -1,10 +1,9 @@
--- The disks and the pools of a stack, and their names.
-use Rattle.std.specs.Prelude.{◌+◌, ◌<◌, ◌==◌, ◌++◌, Bool, true, false, List, [], ◌∷◌, ℕ, length, codes}
+-- The disks and the pools of a stack.
+use Rattle.std.specs.Prelude.{◌+◌, ◌<◌, ◌==◌, ◌++◌, Bool, true, false, List, [], ◌∷◌, ℕ, length}
 use Rattle.stack_base.specs.declared.ids.PoolId.{PoolId}
 use Rattle.stack_base.specs.declared.ids.PoolId.TheVariants.{FsBios, FsVecs, Bios, Records}
 use Rattle.stack_base.specs.declared.stack.Device.{Device}
 use Rattle.stack_base.specs.declared.stack.Stack.{Stack}
-use Rattle.stack_base.specs.Names.{name_of_device}
 pub use Rattle.run_machine.specs.Opened.{at}
 pub use Rattle.task_core.specs.Leaving.{disk_at, pools_at, disks_of, falling_pools}
 unfoldable pub use Rattle.task_core.specs.Leaving.{disks_from, falling_from}
@@ -24,13 +23,6 @@ same_pool FsVecs FsVecs = true
 same_pool (Bios one) (Bios other) = one.0 == other.0
 same_pool (Records one) (Records other) = one.0 == other.0
 same_pool one other = false
-
--- `fs.bios`, `fs.vecs`, `NAME.bios`, `NAME.records`
-abbrev pub pool_name : Stack → PoolId → List ℕ
-pool_name stack FsBios = codes "fs.bios"
-pool_name stack FsVecs = codes "fs.vecs"
-pool_name stack (Bios dev) = name_of_device stack dev.0 ++ codes ".bios"
-pool_name stack (Records dev) = name_of_device stack dev.0 ++ codes ".records"
 
 -- a pool of the writers, or of a device of the stack
 abbrev pub HasDeviceOfPool : Stack → PoolId → Type 0

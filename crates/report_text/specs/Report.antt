@@ -8,13 +8,13 @@ use Rattle.stack_base.specs.declared.ids.PoolId.{PoolId}
 use Rattle.stack_base.specs.declared.ids.Status.{Status}
 use Rattle.stack_base.specs.declared.ids.Range.{Range}
 use Rattle.stack_base.specs.declared.stack.Stack.{Stack}
-use Rattle.stack_base.specs.Names.{name_of_device}
+use Rattle.stack_base.specs.Names.{name_of_device, pool_name}
 use Rattle.outside_io.specs.Saying.{joined_text}
 use Rattle.mempool_core.specs.declared.Facts.{Facts}
 use Rattle.model_disks.specs.Disks.{sum_of_words}
 use Rattle.model_disks.specs.Runs.{written_runs}
 use Rattle.run_machine.specs.StatusWords.{status_word}
-use Rattle.report_text.specs.Pools.{told_pools, same_pool, pool_name}
+use Rattle.report_text.specs.Pools.{told_pools, same_pool}
 
 -- what a report tells of: the status of each write in the order of the text, each disk with its image in the order of the devices, the facts
 -- of each pool, how many events there were, and the bound on them

@@ -6,13 +6,14 @@ use Rattle.stack_base.specs.declared.ids.PoolId.{PoolId}
 use Rattle.stack_base.specs.declared.stack.Device.{Device}
 use Rattle.stack_base.specs.declared.stack.Stack.{Stack}
 use Rattle.stack_base.specs.PoolId.{pool_number}
+use Rattle.stack_base.specs.Names.{pool_name}
 use Rattle.mempool_core.specs.declared.Facts.{Facts}
 use Rattle.model_disks.specs.Disks.{DiskState}
 use Rattle.task_core.specs.declared.ended.Ended.{Ended}
 use Rattle.run_machine.specs.Objects.{Objects}
 use Rattle.layout_model.specs.declared.totals.Bounds.{Bounds}
 use Rattle.report_text.specs.CheckText.{steps_bound}
-use Rattle.report_text.specs.Pools.{HasDeviceOfPool, disks_of, falling_pools, pool_name, pools_at}
+use Rattle.report_text.specs.Pools.{HasDeviceOfPool, disks_of, falling_pools, pools_at}
 use Rattle.report_text.specs.Report.{Reported, image_lines, pool_line, sum_line}
 
 -- a disk with what it holds

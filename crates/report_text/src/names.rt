@@ -1,7 +1,7 @@
 //! The names of devices and of pools.
 ghost use Rattle.std.specs.Prelude.{◌≡◌, ◌++◌, ◌<◌, length};
-ghost use Rattle.report_text.specs.Pools.{HasDeviceOfPool, pool_name};
-ghost use Rattle.stack_base.specs.Names.{name_of_device};
+ghost use Rattle.report_text.specs.Pools.{HasDeviceOfPool};
+ghost use Rattle.stack_base.specs.Names.{name_of_device, pool_name};
 
 use stack_base::{DevId, PoolId, Stack};
 

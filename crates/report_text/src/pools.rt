@@ -2,7 +2,8 @@
 ghost use Rattle.std.specs.Prelude.{◌≡◌, ◌++◌, length, map};
 ghost use Rattle.std.specs.List.{flat_map};
 ghost use Rattle.outside_io.specs.Saying.{Says};
-ghost use Rattle.report_text.specs.Pools.{HasDeviceOfPool, falling_from, falling_pools, pool_name, pools_at};
+ghost use Rattle.stack_base.specs.Names.{pool_name};
+ghost use Rattle.report_text.specs.Pools.{HasDeviceOfPool, falling_from, falling_pools, pools_at};
 ghost use Rattle.report_text.specs.Report.{pool_line, pool_lines};
 ghost use Rattle.report_text.specs.Views.{AreOfStack, facts_line, lines_of_devices};
 

@@ -18,7 +18,7 @@ use Rattle.stack_base.specs.declared.ids.Status.{Status}
 use Rattle.stack_base.specs.declared.ids.Status.TheVariants as status
 use Rattle.stack_base.specs.declared.stack.Device.{Device}
 use Rattle.stack_base.specs.declared.stack.Stack.{Stack}
-use Rattle.stack_base.specs.Names.{name_of_device}
+use Rattle.stack_base.specs.Names.{name_of_device, pool_name}
 use Rattle.run_machine.specs.StatusWords.{status_word}
 use Rattle.outside_io.specs.Saying.{joined_text}
 use Rattle.mempool_core.specs.declared.Facts.{Facts}
@@ -29,7 +29,7 @@ use Rattle.decl_text.specs.Text.{lines}
 use Rattle.decl_text.proofs.SplitLemmas.{no_lines}
 use Rattle.trace_text.specs.Names.{DevicesAreNamed, is_any}
 use Rattle.trace_text.proofs.NameWords.{is_visible, list_all_follows, name_is_word}
-use Rattle.report_text.specs.Pools.{told_pools, pool_name}
+use Rattle.report_text.specs.Pools.{told_pools}
 use Rattle.report_text.specs.Report as said
 use Rattle.report_text.specs.Report.{Reported, report, run_lines}
 use Rattle.trace_replay.specs.Lines.{is_told}

@@ -2,8 +2,8 @@
 use Rattle.std.specs.Prelude.{List, [], ◌∷◌, ◌++◌, ℕ, codes, decimal, Option, None, Some}
 use Rattle.std.specs.List.{flat_map}
 use Rattle.stack_base.specs.declared.stack.Stack.{Stack}
+use Rattle.stack_base.specs.Names.{pool_name}
 use Rattle.outside_io.specs.Saying.{joined_text}
-use Rattle.report_text.specs.Pools.{pool_name}
 use Rattle.trace_replay.specs.declared.extents.Extent.{Extent}
 use Rattle.trace_replay.specs.declared.walk.Finish.{Finish}
 use Rattle.trace_replay.specs.declared.walk.Finish.TheVariants.{Ended, Open, Stuck}

@@ -15,7 +15,7 @@ use Rattle.stack_base.specs.declared.ids.PoolId.TheVariants.{FsBios, FsVecs, Bio
 use Rattle.stack_base.specs.declared.ids.Status.{Status}
 use Rattle.stack_base.specs.declared.ids.Status.TheVariants as status
 use Rattle.stack_base.specs.declared.stack.Stack.{Stack}
-use Rattle.stack_base.specs.Names.{name_of_device}
+use Rattle.stack_base.specs.Names.{name_of_device, pool_name}
 use Rattle.run_machine.specs.declared.event.TaskId.{TaskId}
 use Rattle.run_machine.specs.declared.event.TaskId.TheVariants as task
 use Rattle.run_machine.specs.declared.event.Got.{Got}
@@ -29,7 +29,7 @@ use Rattle.run_machine.specs.declared.event.What.TheVariants as what
 use Rattle.run_machine.specs.declared.event.Event.{Event}
 use Rattle.run_machine.specs.StatusWords.{status_word}
 use Rattle.trace_text.specs.Names.{HasDevice, HasPool, DevicesAreNamed, is_stacked_kind, is_any, is_disk_kind, is_mirror_kind}
-use Rattle.trace_text.specs.Lines.{FitsEvent, IsEventOf, end_word, got_word, how_word, line_of_event, pool_word, task_word, what_words, words_of}
+use Rattle.trace_text.specs.Lines.{FitsEvent, IsEventOf, end_word, got_word, how_word, line_of_event, task_word, what_words, words_of}
 use Rattle.trace_text.specs.Reading.{at_end, read_both, event_of, field, made, fixed_word, task_of_word, what_in}
 use Rattle.trace_text.specs.Laws.{IsEventLine, IsEventRead, is_line_byte}
 use Rattle.trace_text.proofs.NameLemmas.{any_of}
@@ -56,7 +56,7 @@ name_unbroken stack dev named has = (name_is_word stack dev named has).visible
 joined_unbroken : (a b : List ℕ) → is_unbroken a ≡ true → is_unbroken b ≡ true → is_unbroken (a ++ b) ≡ true
 joined_unbroken a b first second = rw (list_all-append is_visible a b, first, second) refl
 
-pool_unbroken : (stack : Stack) (pool : PoolId) → DevicesAreNamed stack → HasPool stack pool → is_unbroken (pool_word stack pool) ≡ true
+pool_unbroken : (stack : Stack) (pool : PoolId) → DevicesAreNamed stack → HasPool stack pool → is_unbroken (pool_name stack pool) ≡ true
 pool_unbroken stack FsBios named has = refl
 pool_unbroken stack FsVecs named has = refl
 pool_unbroken stack (Bios dev) named has = joined_unbroken (name_of_device stack dev.0) (codes ".bios") (name_unbroken stack dev named (any_of is_stacked_kind stack dev has)) refl

@@ -14,9 +14,8 @@ use Rattle.stack_base.specs.declared.ids.DevId.{DevId}
 use Rattle.stack_base.specs.declared.ids.PoolId.{PoolId}
 use Rattle.stack_base.specs.declared.ids.PoolId.TheVariants.{FsBios, FsVecs, Bios, Records}
 use Rattle.stack_base.specs.declared.stack.Stack.{Stack}
-use Rattle.stack_base.specs.Names.{name_of_device}
+use Rattle.stack_base.specs.Names.{name_of_device, pool_name}
 use Rattle.trace_text.specs.Names.{DevicesAreNamed, HasDevice, HasPool, is_stacked_kind, is_mirror_kind}
-use Rattle.trace_text.specs.Lines.{pool_word}
 use Rattle.trace_text.specs.Reading.{device_bios, device_of_word, device_pool, fs_pool, if_suits, is_dot, pool_named, pool_of_word, device_records}
 use Rattle.trace_text.proofs.NameLemmas.{any_of, device_takes, mapped_some, suited_again, suits_some}
 use Rattle.trace_text.proofs.NameWords.{IsNameWord, name_is_word}
@@ -54,7 +53,7 @@ records_again : (stack : Stack) (dev : DevId) → DevicesAreNamed stack → HasD
 unfolding device_records
 records_again stack dev named has = ap (option_map Records) (suited_again is_mirror_kind stack dev named has)
 
-pool_again : (stack : Stack) (pool : PoolId) → DevicesAreNamed stack → HasPool stack pool → pool_of_word stack (pool_word stack pool) ≡ Some pool
+pool_again : (stack : Stack) (pool : PoolId) → DevicesAreNamed stack → HasPool stack pool → pool_of_word stack (pool_name stack pool) ≡ Some pool
 unfolding pool_of_word
 pool_again stack FsBios named has = refl
 pool_again stack FsVecs named has = refl
@@ -65,20 +64,20 @@ pool_again stack (Records dev) named has =
     cut_named stack (name_of_device stack dev.0) (codes "records") (name_is_word stack dev named (any_of is_mirror_kind stack dev has))
     ∙ records_again stack dev named has
 
-bios_takes : (stack : Stack) (name : List ℕ) (pool : PoolId) → device_bios stack name ≡ Some pool → HasPool stack pool × (name ++ codes ".bios" ≡ pool_word stack pool)
+bios_takes : (stack : Stack) (name : List ℕ) (pool : PoolId) → device_bios stack name ≡ Some pool → HasPool stack pool × (name ++ codes ".bios" ≡ pool_name stack pool)
 unfolding device_bios
 bios_takes stack name pool e =
     let m = mapped_some Bios (option_and_then (if_suits is_stacked_kind stack) (device_of_word stack name)) pool e in
     let some = suits_some is_stacked_kind stack (device_of_word stack name) m.0 m.1 in
-    subst (λ p. HasPool stack p × (name ++ codes ".bios" ≡ pool_word stack p)) m.2
+    subst (λ p. HasPool stack p × (name ++ codes ".bios" ≡ pool_name stack p)) m.2
     (some.1, ap (λ n. n ++ codes ".bios") (device_takes stack name m.0 some.0).1)
 
-records_takes : (stack : Stack) (name : List ℕ) (pool : PoolId) → device_records stack name ≡ Some pool → HasPool stack pool × (name ++ codes ".records" ≡ pool_word stack pool)
+records_takes : (stack : Stack) (name : List ℕ) (pool : PoolId) → device_records stack name ≡ Some pool → HasPool stack pool × (name ++ codes ".records" ≡ pool_name stack pool)
 unfolding device_records
 records_takes stack name pool e =
     let m = mapped_some Records (option_and_then (if_suits is_mirror_kind stack) (device_of_word stack name)) pool e in
     let some = suits_some is_mirror_kind stack (device_of_word stack name) m.0 m.1 in
-    subst (λ p. HasPool stack p × (name ++ codes ".records" ≡ pool_word stack p)) m.2
+    subst (λ p. HasPool stack p × (name ++ codes ".records" ≡ pool_name stack p)) m.2
     (some.1, ap (λ n. n ++ codes ".records") (device_takes stack name m.0 some.0).1)
 
 -- a choice that answers: which way it went
@@ -89,7 +88,7 @@ chosen false x y a P then_one else_one e = else_one refl e
 
 -- what a name and what it keeps are the pool of
 IsCut : Stack → List ℕ → List ℕ → PoolId → Type 0
-IsCut stack name kept pool = HasPool stack pool × (name ++ (46 ∷ kept) ≡ pool_word stack pool) × (0 < length kept)
+IsCut stack name kept pool = HasPool stack pool × (name ++ (46 ∷ kept) ≡ pool_name stack pool) × (0 < length kept)
 
 kept_is : (kept word : List ℕ) → bytes_eq kept word ≡ true → kept ≡ word
 kept_is kept word is = (bytes_eq-Decides kept word).0 is
@@ -126,7 +125,7 @@ cut_whole word some =
     split_at_first is_dot word 0 within
     ∙ ap (λ byte. before_first is_dot word ++ (byte ∷ after_first is_dot word)) (dot_is _ (passes_at_first is_dot word 0 within))
 
-pool_takes : (stack : Stack) (word : List ℕ) (pool : PoolId) → pool_of_word stack word ≡ Some pool → HasPool stack pool × (word ≡ pool_word stack pool)
+pool_takes : (stack : Stack) (word : List ℕ) (pool : PoolId) → pool_of_word stack word ≡ Some pool → HasPool stack pool × (word ≡ pool_name stack pool)
 unfolding pool_of_word IsCut
 pool_takes stack word pool e =
     let name = before_first is_dot word in
@@ -138,7 +137,7 @@ pool_takes stack word pool e =
     e in
     (cut.0, cut_whole word cut.2 ∙ cut.1)
 
-pub pool_is : (stack : Stack) → DevicesAreNamed stack → IsWord (pool_word stack) (HasPool stack) (pool_of_word stack)
+pub pool_is : (stack : Stack) → DevicesAreNamed stack → IsWord (pool_name stack) (HasPool stack) (pool_of_word stack)
 pool_is stack named = record {
   again = λ pool has. pool_again stack pool named has;
   takes = λ word pool e. pool_takes stack word pool e;

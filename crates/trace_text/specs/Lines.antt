@@ -1,11 +1,9 @@
 -- The line of an event.
 use Rattle.std.specs.Prelude.{◌++◌, ℕ, List, [], ◌∷◌, codes, decimal}
 use Rattle.std.specs.List.{join_with_byte}
-use Rattle.stack_base.specs.declared.ids.PoolId.{PoolId}
 use Rattle.stack_base.specs.declared.ids.Status.{Status}
-use Rattle.stack_base.specs.declared.ids.PoolId.TheVariants.{FsBios, FsVecs, Bios, Records}
 use Rattle.stack_base.specs.declared.stack.Stack.{Stack}
-use Rattle.stack_base.specs.Names.{name_of_device}
+use Rattle.stack_base.specs.Names.{name_of_device, pool_name}
 use Rattle.run_machine.specs.declared.event.TaskId.{TaskId}
 use Rattle.run_machine.specs.declared.event.TaskId.TheVariants as task
 use Rattle.run_machine.specs.declared.event.Got.{Got}
@@ -36,12 +34,6 @@ end_word end.Left = codes "left"
 end_word end.Up = codes "up"
 end_word end.Top = codes "top"
 
-abbrev pub pool_word : Stack → PoolId → List ℕ
-pool_word stack FsBios = codes "fs.bios"
-pool_word stack FsVecs = codes "fs.vecs"
-pool_word stack (Bios dev) = name_of_device stack dev.0 ++ codes ".bios"
-pool_word stack (Records dev) = name_of_device stack dev.0 ++ codes ".records"
-
 abbrev pub task_word : Stack → TaskId → List ℕ
 task_word stack (task.Writer number) = codes "w" ++ decimal number
 task_word stack (task.Rescuer dev) = codes "r:" ++ name_of_device stack dev.0
@@ -63,9 +55,9 @@ round_words round = codes "round" ∷ decimal round ∷ []
 
 -- what a task did, in words
 abbrev pub what_words : Stack → What → List (List ℕ)
-what_words stack (what.Take pool got) = codes "take" ∷ pool_word stack pool ∷ got_word got ∷ []
-what_words stack (what.Try pool got) = codes "try" ∷ pool_word stack pool ∷ got_word got ∷ []
-what_words stack (what.Give pool) = codes "give" ∷ pool_word stack pool ∷ []
+what_words stack (what.Take pool got) = codes "take" ∷ pool_name stack pool ∷ got_word got ∷ []
+what_words stack (what.Try pool got) = codes "try" ∷ pool_name stack pool ∷ got_word got ∷ []
+what_words stack (what.Give pool) = codes "give" ∷ pool_name stack pool ∷ []
 what_words stack (what.Punt dev moved) = codes "punt" ∷ name_of_device stack dev.0 ∷ decimal moved ∷ []
 what_words stack (what.Pop dev) = codes "pop" ∷ name_of_device stack dev.0 ∷ []
 what_words stack (what.Push disk at len leg) =
@@ -74,7 +66,7 @@ what_words stack (what.Complete disk index status) = codes "complete" ∷ name_o
 what_words stack (what.Link writer how node) = link_words writer how node
 what_words stack (what.Drop writer node status end) = drop_words writer node status end
 what_words stack (what.Done write status) = done_words write status
-what_words stack (what.Resize pool min) = codes "resize" ∷ pool_word stack pool ∷ decimal min ∷ []
+what_words stack (what.Resize pool min) = codes "resize" ∷ pool_name stack pool ∷ decimal min ∷ []
 what_words stack (what.Round round) = round_words round
 
 abbrev pub words_of : Stack → Event → List (List ℕ)

@@ -1,7 +1,7 @@
 //! Writes events.
 ghost use Rattle.std.specs.Prelude.{◌≡◌, ◌+◌, ◌≤◌, ◌++◌, ◌∷◌, decimal, length};
-ghost use Rattle.trace_text.specs.Lines.{done_words, drop_words, line_of_event, link_words, pool_word, round_words, task_word, what_words};
-ghost use Rattle.stack_base.specs.Names.{name_of_device};
+ghost use Rattle.trace_text.specs.Lines.{done_words, drop_words, line_of_event, link_words, round_words, task_word, what_words};
+ghost use Rattle.stack_base.specs.Names.{name_of_device, pool_name};
 ghost use Rattle.trace_text.specs.Writing.{spaced};
 ghost use Rattle.run_machine.specs.declared.event.What.TheVariants as what;
 
@@ -67,7 +67,7 @@ fn put_device(into: &mut LineBytes, stack: &Stack, dev: DevId)
 // A blank and the name of a pool.
 fn put_pool(into: &mut LineBytes, stack: &Stack, pool: PoolId)
     requires { length into.old.items ≤ 103 }
-    ensures items { into.new.items ≡ into.old.items ++ 32 ∷ pool_word stack.now pool }
+    ensures items { into.new.items ≡ into.old.items ++ 32 ∷ pool_name stack.now pool }
     ensures len { length into.new.items ≤ length into.old.items + 25 }
 {
     match pool {
