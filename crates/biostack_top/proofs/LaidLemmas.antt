@@ -5,7 +5,7 @@ use Rattle.std.proofs.lemmas.Bool.Decides.{Decides-eqb, Decides-not}
 use Rattle.std.proofs.lemmas.List.FromFn.{get_or-map-range_with_len}
 use Rattle.std.proofs.lemmas.Slice.Eq.{slice_eq-Decides}
 use Rattle.std.specs.Prelude.{false}
-use Rattle.stack_base.specs.Tree.{Tree, size, tree}
+use Rattle.stack_base.specs.Tree.{Tree, size, tree, legs_of}
 use Rattle.image_lanes.specs.Lanes.{equal_words}
 use Rattle.layout_model.proofs.Stacks.{element}
 use Rattle.layout_model.specs.Shown.{shown_sector}
@@ -14,14 +14,14 @@ use Rattle.run_machine.specs.Opened.{Scenario}
 use Rattle.block_core.specs.Scenarios.{IsScenario}
 use Rattle.block_core.proofs.images.LaidOnce.{laid_is_one}
 use Rattle.biostack_top.specs.Scrubbed.{AreLaidImages, IsLaidAt, UnlikeWhereLaidDiffers}
-use Rattle.mirror_scrub.specs.Seen.{Images, differing, differs, mirror_member, legs, seen, unlikes}
+use Rattle.mirror_scrub.specs.Seen.{Images, differing, differs, mirror_member, seen, unlikes}
 use Rattle.mirror_scrub.proofs.DiskLemmas.{shown_on_disk}
 use Rattle.mirror_scrub.proofs.LegLemmas.{leg_is}
 use Rattle.mirror_scrub.proofs.SeenLemmas.{seen_shown}
 
 -- a leg shows what is laid out at its place
 leg_shows : (s : Scenario) (images : Images) → IsScenario s → AreLaidImages s images → (mirror leg x : ℕ) → mirror < length s.stack.devices.items
-    → leg < legs (tree s.stack mirror) → x < size (tree s.stack mirror)
+    → leg < legs_of (tree s.stack mirror) → x < size (tree s.stack mirror)
     → (one : List ℕ) → IsLaidAt s (shown_sector (mirror_member (tree s.stack mirror) leg) x) one → seen images (mirror_member (tree s.stack mirror) leg) x ≡ one
 leg_shows s images good laid mirror leg x known has inside one at_place =
     let t = mirror_member (tree s.stack mirror) leg in

@@ -3,7 +3,7 @@ use Rattle.std.specs.Prelude.{◌≡◌, ◌==◌, ◌+◌, ◌-◌, ◌<◌, no
 use Rattle.std.specs.List.{range_with_len, count_by}
 use Rattle.std.specs.Option.{option_map_or}
 use Rattle.stack_base.specs.Mapping.{slot}
-use Rattle.stack_base.specs.Tree.{Tree, Leaf, Split, Mirrored, size, tree}
+use Rattle.stack_base.specs.Tree.{Tree, Leaf, Split, Mirrored, size, tree, legs_of}
 use Rattle.stack_base.specs.declared.ids.DevId.{DevId}
 use Rattle.stack_base.specs.declared.ids.Range.{Range}
 use Rattle.stack_base.specs.declared.stack.Stack.{Stack}
@@ -40,12 +40,6 @@ differs images one other s = not (equal_words (seen images one s) (seen images o
 unfoldable pub differing : Images → Tree → Tree → ℕ → List Bool
 differing images one other count = map (differs images one other) (range_with_len 0 count)
 
--- how many members a mirror has, and 0 for any other device
-abbrev pub legs : Tree → ℕ
-legs (Leaf number sectors) = 0
-legs (Split number kind sizes members) = 0
-legs (Mirrored number sizes members) = length sizes
-
 -- the member of a mirror at a place
 abbrev pub mirror_member : Tree → ℕ → Tree
 mirror_member (Leaf number sectors) k = Leaf number sectors
@@ -54,7 +48,7 @@ mirror_member (Mirrored number sizes members) k = members k
 
 -- the places of those that are compared with the first
 abbrev pub compared : Tree → List ℕ
-compared t = range_with_len 1 (legs t - 1)
+compared t = range_with_len 1 (legs_of t - 1)
 
 -- whether each sector of a mirror is unlike on leg k: that leg shows other words there than leg 0
 abbrev pub unlikes : Images → Tree → ℕ → List Bool

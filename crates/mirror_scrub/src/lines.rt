@@ -1,10 +1,10 @@
 //! Writes where the members of mirrors differ.
 ghost use Rattle.std.specs.Prelude.{◌≡◌, ◌<◌, length};
 ghost use Rattle.stack_base.specs.Stack.{IsStack};
-ghost use Rattle.stack_base.specs.Tree.{tree};
+ghost use Rattle.stack_base.specs.Tree.{tree, legs_of};
 ghost use Rattle.stack_base.specs.Names.{name_of_device};
 ghost use Rattle.outside_io.specs.Saying.{Says, Writes};
-ghost use Rattle.mirror_scrub.specs.Seen.{AreDisksOf, held, legs};
+ghost use Rattle.mirror_scrub.specs.Seen.{AreDisksOf, held};
 ghost use Rattle.mirror_scrub.specs.Text.{differ_line, leg_line, leg_lines, mirror_lines, scrub_text, stretch_lines};
 
 use crate::mirror::{legs, next_unlike, unlike};
@@ -63,7 +63,7 @@ fn differ_lines<K: Sink>(
     requires stack { IsStack stack.now }
     requires disks { AreDisksOf stack.now disks.now }
     requires mirror { mirror.0 < length stack.now.devices.items }
-    requires leg { leg < legs (tree stack.now mirror.0) }
+    requires leg { leg < legs_of (tree stack.now mirror.0) }
     ensures { Says K.Sink out.old pen.old out.new pen.new (stretch_lines stack.now (held disks.now) mirror.0 leg) }
 {
     let name = name_of(stack, mirror);
@@ -86,7 +86,7 @@ fn leg_lines<K: Sink>(
     requires stack { IsStack stack.now }
     requires disks { AreDisksOf stack.now disks.now }
     requires mirror { mirror.0 < length stack.now.devices.items }
-    requires leg { leg < legs (tree stack.now mirror.0) }
+    requires leg { leg < legs_of (tree stack.now mirror.0) }
     ensures { Says K.Sink out.old pen.old out.new pen.new (leg_lines stack.now (held disks.now) mirror.0 leg) }
 {
     let count = unlike(stack, disks, mirror, leg);

@@ -1,9 +1,9 @@
 //! Where the members of mirrors differ from the first.
 ghost use Rattle.std.specs.Prelude.{◌≡◌, ◌==◌, ◌<◌, ◌≤◌, length, MatchOption};
 ghost use Rattle.stack_base.specs.Stack.{IsStack};
-ghost use Rattle.stack_base.specs.Tree.{size as size_of, tree};
+ghost use Rattle.stack_base.specs.Tree.{size as size_of, tree, legs_of};
 ghost use Rattle.model_disks.specs.Runs.{EndsWithin, IsApart};
-ghost use Rattle.mirror_scrub.specs.Seen.{AreDisksOf, EndsApart, IsNextStretch, held, mirror_member, legs, unlike_count, unlikes};
+ghost use Rattle.mirror_scrub.specs.Seen.{AreDisksOf, EndsApart, IsNextStretch, held, mirror_member, unlike_count, unlikes};
 ghost use Rattle.mirror_scrub.specs.Stretches.{IsPair, flags_in};
 ghost use Rattle.mirror_scrub.specs.Text.{all_alike, mirror_alike};
 
@@ -15,7 +15,7 @@ use stack_base::{DevId, Kind, Range, Stack};
 pub fn legs(stack: &Stack, dev: DevId) -> u32
     requires stack { IsStack stack.now }
     requires device { dev.0 < length stack.now.devices.items }
-    ensures { result ≡ legs (tree stack.now dev.0) }
+    ensures { result ≡ legs_of (tree stack.now dev.0) }
 {
     let device = stack.device(dev);
     match device.kind {
@@ -28,7 +28,7 @@ pub fn legs(stack: &Stack, dev: DevId) -> u32
 fn leg_at(stack: &Stack, mirror: DevId, place: u32) -> DevId
     requires stack { IsStack stack.now }
     requires mirror { mirror.0 < length stack.now.devices.items }
-    requires place { place < legs (tree stack.now mirror.0) }
+    requires place { place < legs_of (tree stack.now mirror.0) }
     ensures known { result.0 < length stack.now.devices.items }
     ensures inside { size_of (tree stack.now mirror.0) ≤ size_of (tree stack.now result.0) }
     ensures leg { mirror_member (tree stack.now mirror.0) place ≡ tree stack.now result.0 }
@@ -41,7 +41,7 @@ fn pair<'d>(stack: &'d Stack, disks: &'d [Disk], mirror: DevId, leg: u32) -> Pai
     requires stack { IsStack stack.now }
     requires disks { AreDisksOf stack.now disks.now }
     requires mirror { mirror.0 < length stack.now.devices.items }
-    requires leg { leg < legs (tree stack.now mirror.0) }
+    requires leg { leg < legs_of (tree stack.now mirror.0) }
     ensures pair { IsPair result }
     ensures flags { flags_in result ≡ unlikes (held disks.now) (tree stack.now mirror.0) leg }
     ensures size { result.size ≡ size_of (tree stack.now mirror.0) }
@@ -60,7 +60,7 @@ pub fn unlike(stack: &Stack, disks: &[Disk], mirror: DevId, leg: u32) -> u64
     requires stack { IsStack stack.now }
     requires disks { AreDisksOf stack.now disks.now }
     requires mirror { mirror.0 < length stack.now.devices.items }
-    requires leg { leg < legs (tree stack.now mirror.0) }
+    requires leg { leg < legs_of (tree stack.now mirror.0) }
     ensures { result ≡ unlike_count (held disks.now) (tree stack.now mirror.0) leg }
 {
     pair(stack, disks, mirror, leg).count()
@@ -79,7 +79,7 @@ pub fn next_unlike(
     requires stack { IsStack stack.now }
     requires disks { AreDisksOf stack.now disks.now }
     requires mirror { mirror.0 < length stack.now.devices.items }
-    requires leg { leg < legs (tree stack.now mirror.0) }
+    requires leg { leg < legs_of (tree stack.now mirror.0) }
     requires apart { IsApart (unlikes (held disks.now) (tree stack.now mirror.0) leg) from }
     ensures stretches { IsNextStretch (held disks.now) (tree stack.now mirror.0) leg from result }
     ensures place { MatchOption result (Unit {0}) (EndsWithin from (size_of (tree stack.now mirror.0))) }
@@ -97,7 +97,7 @@ fn leg_alike(stack: &Stack, disks: &[Disk], mirror: DevId, leg: u32) -> bool
     requires stack { IsStack stack.now }
     requires disks { AreDisksOf stack.now disks.now }
     requires mirror { mirror.0 < length stack.now.devices.items }
-    requires leg { leg < legs (tree stack.now mirror.0) }
+    requires leg { leg < legs_of (tree stack.now mirror.0) }
     ensures { result ≡ (unlike_count (held disks.now) (tree stack.now mirror.0) leg == 0) }
 {
     let pair = pair(stack, disks, mirror, leg);

@@ -1,5 +1,5 @@
 -- A submission: the bio that its driver has and what the driver asks for, and the task's two lists (`submit_bio_noacct`, block/blk-core.c).
-use Rattle.std.specs.Prelude.{◌+◌, ◌-◌, ◌==◌, ◌++◌, if◌then◌else◌, min, ℕ, Bool, true, false, List, [], ◌∷◌, length, map, Option, None, Some, not}
+use Rattle.std.specs.Prelude.{◌+◌, ◌-◌, ◌==◌, ◌++◌, if◌then◌else◌, min, ℕ, Bool, true, false, List, [], ◌∷◌, map, Option, None, Some, not}
 use Rattle.stack_base.specs.declared.ids.DevId.{DevId}
 use Rattle.stack_base.specs.declared.ids.Range.{Range}
 use Rattle.stack_base.specs.declared.ids.SetId.TheVariants.{Of}
@@ -7,6 +7,7 @@ use Rattle.stack_base.specs.declared.stack.Kind.{Kind}
 use Rattle.stack_base.specs.Cutting.{next}
 use Rattle.stack_base.specs.Mapping.{Slot, slot}
 use Rattle.stack_base.specs.Tree.{Tree, Leaf, Split, Mirrored}
+pub use Rattle.stack_base.specs.Tree.{legs_of}
 use Rattle.bio_records.specs.declared.bio.Bio.{Bio}
 use Rattle.bio_records.specs.declared.bio.Pad.{Pad}
 use Rattle.bio_records.specs.declared.tasks.TaskLists.{TaskLists}
@@ -121,11 +122,6 @@ cut_at setup lists item hand node (Split number kind sizes members) =
     goes_on setup item.bio.dev (submitted (split_rest item n) (submitted child lists))
 cut_at setup lists item hand node (Leaf number sectors) = rests
 cut_at setup lists item hand node (Mirrored number sizes members) = rests
-
-abbrev pub legs_of : Tree → ℕ
-legs_of (Mirrored number sizes members) = length sizes
-legs_of (Leaf number sectors) = 0
-legs_of (Split number kind sizes members) = 0
 
 -- a leg of a mirror's bio, in an element of the mirror's set (`bio_alloc_clone`, drivers/md/raid1.c)
 abbrev pub leg_at : Bio → Item Pad → ℕ → ℕ → Tree → Item Pad

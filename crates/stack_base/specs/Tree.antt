@@ -60,6 +60,12 @@ tree_below (suc bound) stack number = built number (slice_get stack.devices.item
 abbrev pub tree : Stack → ℕ → Tree
 tree stack number = tree_below (number + 1) stack number
 
+-- how many legs a bio of a device has: one for each member of a mirror, and none at any other device
+abbrev pub legs_of : Tree → ℕ
+legs_of (Leaf number sectors) = 0
+legs_of (Split number kind sizes members) = 0
+legs_of (Mirrored number sizes members) = length sizes
+
 -- the sizes of the members of a device
 abbrev pub sizes_at : Stack → Device → List ℕ
 sizes_at stack device = map (λ (m : DevId). size (tree stack m.0)) device.members.items
