@@ -3,8 +3,8 @@ use Rattle.std.proofs.Common.{◌≡◌, ℕ, ◌+◌, List, [], ◌∷◌, ◌+
 use Rattle.std.specs.Prelude.{if◌then◌else◌, Result, Ok, IfOk}
 use Rattle.std.proofs.lemmas.List.Sums.{sum_by-append, sum_by-cons}
 use Rattle.tick_clock.specs.declared.ticking.Ticket.{Ticket}
-use Rattle.tick_clock.specs.Tickets.{PassState, hit, ticket_count, AreApart}
-use Rattle.lock_tests.specs.Drawing.{ticket_numbers, PassHasDrawn, times_in, Differ}
+use Rattle.tick_clock.specs.Tickets.{PassState, hit, ticket_count, AreApart, ticket_numbers}
+use Rattle.lock_tests.specs.Drawing.{PassHasDrawn, times_in, Differ}
 
 -- tickets of a number are counted by their numbers
 by_numbers : (x : ℕ) (ts : List Ticket) → ticket_count x ts ≡ times_in x (ticket_numbers ts)

@@ -1,11 +1,6 @@
 -- Tickets that were drawn from a clock.
-use Rattle.std.specs.Prelude.{◌≡◌, ◌≤◌, ℕ, ◌+◌, ◌==◌, if◌then◌else◌, List, ◌++◌, map, sum_by}
-use Rattle.tick_clock.specs.declared.ticking.Ticket.{Ticket}
-use Rattle.tick_clock.specs.Tickets.{PassState}
-
--- the numbers of tickets
-abbrev pub ticket_numbers : List Ticket → List ℕ
-ticket_numbers tickets = map (λ (t : Ticket). t.number) tickets
+use Rattle.std.specs.Prelude.{◌≡◌, ◌≤◌, ℕ, ◌+◌, ◌==◌, if◌then◌else◌, List, ◌++◌, sum_by}
+use Rattle.tick_clock.specs.Tickets.{PassState, ticket_numbers}
 
 -- the same pass, with which these tickets were drawn
 pub record PassHasDrawn (old new : PassState) (tickets : List ℕ) : Type 0 where

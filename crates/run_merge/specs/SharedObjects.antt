@@ -1,7 +1,7 @@
 -- What is left of objects that were shared, as histories of entries and as a state of runs.
 use Rattle.std.specs.Prelude.{◌≡◌, ◌-◌, ◌≤◌, List, All, map, slice_index_or}
 use Rattle.std.specs.Option.{is_some}
-use Rattle.tick_clock.specs.Tickets.{PassState}
+use Rattle.tick_clock.specs.Tickets.{PassState, ticket_numbers}
 use Rattle.run_machine.specs.Laws.{Object, OfPool, OfRescuer, OfDisk, OfBook, OfTally, OfNone}
 use Rattle.run_machine.specs.Opened.{no_task}
 use Rattle.run_machine.specs.Runs.{State}
@@ -15,7 +15,7 @@ use Rattle.object_things.specs.Stamps.{ThingState}
 use Rattle.shared_objects.specs.Closes.{Returned, ClosesAs}
 use Rattle.shared_objects.specs.Kinds.{ThingAt}
 use Rattle.shared_objects.specs.Logs.{is_event}
-use Rattle.shared_objects.specs.Passes.{found_by, numbers_of}
+use Rattle.shared_objects.specs.Passes.{found_by}
 use Rattle.run_merge.specs.Closing.{MergeIsEndedRun}
 use Rattle.run_merge.specs.Merging.{Ticketed, Histories}
 use Rattle.run_merge.specs.ObjectsByName.{StateAt, made_of}
@@ -57,5 +57,5 @@ ClosesAreRuns = (opened : Opened) (names : List Object) (history : Object → Li
     → map (λ (task : Returned). task.first) tasks ≡ states opened.tasks.items
     → ClosesAs (routing_setup (stage_of opened.objects).routing) opened.objects names history left tasks pass
     → All (λ (task : Returned). found_by task.desk.pass ≤ pass.known) tasks
-    → MergeIsEndedRun (scenario_in opened) (stage_of opened.objects).ledger (entry_histories names history) (numbers_of pass.drawn) (state_left left tasks)
+    → MergeIsEndedRun (scenario_in opened) (stage_of opened.objects).ledger (entry_histories names history) (ticket_numbers pass.drawn) (state_left left tasks)
     × ((name : Object) → All DrewAsEvent (history name))

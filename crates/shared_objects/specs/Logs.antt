@@ -1,9 +1,9 @@
 -- What is kept of a task with its seats: the calls that it made, in their order, lead it on.
-use Rattle.std.specs.Prelude.{◌≡◌, ◌⊎◌, ◌≤◌, ◌<◌, ◌-◌, ◌^◌, ◌==◌, ◌||◌, ◌++◌, not, ℕ, Bool, true, false, IsTrue, IfSome, List, [], ◌∷◌, All, Contains, map, filter, Option, None, Some}
+use Rattle.std.specs.Prelude.{◌≡◌, ◌⊎◌, ◌≤◌, ◌<◌, ◌-◌, ◌^◌, ◌==◌, ◌||◌, ◌++◌, not, ℕ, Bool, true, false, IsTrue, IfSome, List, [], ◌∷◌, All, Contains, filter, Option, None, Some}
 use Rattle.std.specs.List.{filter_map}
 use Rattle.std.specs.Option.{is_some}
 use Rattle.tick_clock.specs.declared.ticking.Ticket.{Ticket}
-use Rattle.tick_clock.specs.Tickets.{PassState}
+use Rattle.tick_clock.specs.Tickets.{PassState, ticket_numbers}
 use Rattle.bio_books.specs.Drops as end
 use Rattle.bio_books.specs.Links.{NoRoom, Stray}
 use Rattle.run_machine.specs.Events.{id_of, what_of}
@@ -83,7 +83,7 @@ pub record WentThrough (pass : PassState) (end : ℕ) (log : List Call) : Type 0
   pub met : All (IsMet pass.seen) log
   pub own : IsSeenIn log pass.seen
   -- it drew their tickets and no others
-  pub drew : map (λ (t : Ticket). t.number) pass.drawn ≡ tickets_in log
+  pub drew : ticket_numbers pass.drawn ≡ tickets_in log
   pub saw : All (λ (t : Ticket). IsSeenIn log t.seen) pass.drawn
   pub last : All (λ (call : Call). FoundNone call → KnowsLast pass log) log
 

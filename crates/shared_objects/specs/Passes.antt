@@ -1,5 +1,5 @@
 -- The passes of tasks.
-use Rattle.std.specs.Prelude.{ℕ, List, [], map, Option, Some, None}
+use Rattle.std.specs.Prelude.{ℕ, List, [], Option, Some, None}
 use Rattle.tick_clock.specs.declared.ticking.Ticket.{Ticket}
 use Rattle.tick_clock.specs.Tickets.{PassState}
 
@@ -12,6 +12,3 @@ drawn_by (Some pass) = pass.drawn
 abbrev pub found_by : Option PassState → ℕ
 found_by None = 0
 found_by (Some pass) = pass.known
-
-abbrev pub numbers_of : List Ticket → List ℕ
-numbers_of tickets = map (λ (ticket : Ticket). ticket.number) tickets

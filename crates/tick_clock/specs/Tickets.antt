@@ -1,5 +1,5 @@
 -- Tickets of a clock, and what contracts see of a pass.
-use Rattle.std.specs.Prelude.{◌≡◌, ℕ, ◌+◌, ◌<◌, ◌≤◌, ◌^◌, ◌-◌, ◌⊎◌, ◌==◌, if◌then◌else◌, max, Bool, true, false, List, [], ◌∷◌, ◌++◌, sum_by, All, Contains, IsPermutation}
+use Rattle.std.specs.Prelude.{◌≡◌, ℕ, ◌+◌, ◌<◌, ◌≤◌, ◌^◌, ◌-◌, ◌⊎◌, ◌==◌, if◌then◌else◌, max, Bool, true, false, List, [], ◌∷◌, ◌++◌, map, sum_by, All, Contains, IsPermutation}
 use Rattle.atomic_table.specs.Seated.{TableId}
 use Rattle.tick_clock.specs.declared.ticking.Rank.{Rank}
 use Rattle.tick_clock.specs.declared.ticking.Rank.TheVariants.{First, Other, Spent}
@@ -57,6 +57,10 @@ pub record IsSamePass (old new : PassState) : Type 0 where
 -- no ticket is greater than this one
 abbrev pub IsEnd : ℕ → Type 0
 IsEnd number = number ≡ 2 ^ 64 - 1
+
+-- the numbers of tickets
+abbrev pub ticket_numbers : List Ticket → List ℕ
+ticket_numbers tickets = map (λ (ticket : Ticket). ticket.number) tickets
 
 -- 1 where the ticket has this number, and 0 otherwise
 abbrev pub hit : ℕ → Ticket → ℕ

@@ -11,7 +11,7 @@ use Rattle.stack_base.proofs.ListLemmas.{first_or, behind_first}
 use Rattle.bio_records.specs.Rescue.{Rescue}
 use Rattle.seat_lock.specs.History.{indicator, count, calls_by}
 use Rattle.seat_lock.proofs.Histories.{count_one}
-use Rattle.tick_clock.specs.Tickets.{PassState}
+use Rattle.tick_clock.specs.Tickets.{PassState, ticket_numbers}
 use Rattle.run_machine.specs.Laws.{Object, OfPool, OfRescuer, OfDisk, OfBook, OfTally, OfNone, object_of}
 use Rattle.run_machine.specs.Objects.{Objects, TallyState}
 use Rattle.run_machine.specs.Opened.{Scenario, at, setup, start, no_task}
@@ -29,7 +29,7 @@ use Rattle.shared_objects.specs.Calls.{is_same_object}
 use Rattle.shared_objects.specs.Closes.{Returned, ClosesAs}
 use Rattle.shared_objects.specs.Kinds.{ThingAt, opened_at, unasked}
 use Rattle.shared_objects.specs.Logs.{LogLeads}
-use Rattle.shared_objects.specs.Passes.{found_by, numbers_of}
+use Rattle.shared_objects.specs.Passes.{found_by}
 use Rattle.shared_objects.proofs.tickets.TicketsOfCalls.{in_row, keeps}
 use Rattle.shared_objects.proofs.tickets.CallOwners.{logged}
 use Rattle.run_merge.specs.Closing.{IsThrough, WasRefused, HasLast, IsClosed, MergeIsEndedRun}
@@ -155,7 +155,7 @@ module _ (s : Scenario) (plain : Plain) (names : List Object) (history : Object 
     looks : (mine rest : List Ticketed) (n : Ticketed) → done_by place (event_histories names history) ≡ mine ++ n ∷ rest
         → let task = task_behind s place (without_tickets mine) in LetsAsk s (stage_of plain).ledger (history_of OfTally (event_histories names history)) n.ticket task (look_of task)
     comes : ((get_or (tasks_left tasks) place no_task ≡ now) × IsThrough s (stage_of plain).ledger (event_histories names history) now)
-        ⊎ (WasRefused s (stage_of plain).ledger (event_histories names history) place now (get_or (tasks_left tasks) place no_task) ⊎ HasLast (numbers_of pass.drawn))
+        ⊎ (WasRefused s (stage_of plain).ledger (event_histories names history) place now (get_or (tasks_left tasks) place no_task) ⊎ HasLast (ticket_numbers pass.drawn))
 
   shown_task : (place : ℕ) (task : Returned) → slice_get tasks place ≡ Some task → IsShownAt place
   shown_task place task at = record {
@@ -164,7 +164,7 @@ module _ (s : Scenario) (plain : Plain) (names : List Object) (history : Object 
         (subst (λ ns. LeadsTask (setup s) task.first (without_tickets ns) w.now) (sym done) w.leads);
     looks = λ mine rest n is. by_cut mine n (cut_at task.log mine rest n (sym done ∙ is));
     comes = subst (λ t. ((t ≡ w.now) × IsThrough s (stage_of plain).ledger (event_histories names history) w.now)
-        ⊎ (WasRefused s (stage_of plain).ledger (event_histories names history) place w.now t ⊎ HasLast (numbers_of pass.drawn)))
+        ⊎ (WasRefused s (stage_of plain).ledger (event_histories names history) place w.now t ⊎ HasLast (ticket_numbers pass.drawn)))
         (sym (image_at (λ (task : Returned). task.task) no_task tasks place task at))
         (comes_to s plain names history left tasks pass c (stage_of plain).ledger begins ready found place task at done w.now w.end);
   }
@@ -246,17 +246,17 @@ module _ (s : Scenario) (plain : Plain) (names : List Object) (history : Object 
     looks = λ place mine rest n is. (shown_at place).looks mine rest n is;
   }
 
-  object_left : (name : Object) → (get (state_left left tasks).objects name ≡ get reached.objects name) ⊎ HasLast (numbers_of pass.drawn)
+  object_left : (name : Object) → (get (state_left left tasks).objects name ≡ get reached.objects name) ⊎ HasLast (ticket_numbers pass.drawn)
   unfolding reached
   object_left name = by_test (left name).spent refl
     where
       by_test : (b : Bool) → (left name).spent ≡ b
-          → (get (made_of (λ name. seen_at name (left name).object)) name ≡ get (made_of (λ name. seen_at name (run name).0)) name) ⊎ HasLast (numbers_of pass.drawn)
+          → (get (made_of (λ name. seen_at name (left name).object)) name ≡ get (made_of (λ name. seen_at name (run name).0)) name) ⊎ HasLast (ticket_numbers pass.drawn)
       by_test true is = inr (object_last s plain names history left tasks pass c (stage_of plain).ledger begins ready found name is)
       by_test false is =
           inl (get_made (λ name. seen_at name (left name).object) name ∙ ap (seen_at name) (sym ((run name).2 is)) ∙ sym (get_made (λ name. seen_at name (run name).0) name))
 
-  pub is_closed : IsClosed s (stage_of plain).ledger (event_histories names history) (numbers_of pass.drawn) (state_left left tasks)
+  pub is_closed : IsClosed s (stage_of plain).ledger (event_histories names history) (ticket_numbers pass.drawn) (state_left left tasks)
   unfolding reached
   is_closed = record {
     reached = reached;
@@ -273,12 +273,12 @@ closes_are_runs opened names history left tasks pass is firsts c found =
     let ledger = (stage_of opened.objects).ledger in
     let runnable = (accepted_texts_are_runnable opened.accepted.value opened.work.value is.read).0 in
     let closes = subst (λ setup. ClosesAs setup opened.objects names history left tasks pass) is.setup c in
-    let merged = closed_runs_end s ledger (event_histories names history) (numbers_of pass.drawn) (state_left left tasks) runnable is.rescuers is.one.holds.numbered
+    let merged = closed_runs_end s ledger (event_histories names history) (ticket_numbers pass.drawn) (state_left left tasks) runnable is.rescuers is.one.holds.numbered
     (is_closed s opened.objects names history left tasks pass closes (firsts ∙ is.tasks)
     (λ name. ap (λ (o : Objects). get o name) (sym is.objects) ∙ opened_is opened.objects name) found) in
     let shows = λ (name : Object). history_shows name (unasked (opened_at opened.objects name)) (left name) (history name) (c.things name) in
     let drew = drew_as_events s opened.objects names history left tasks pass closes
     (λ place task at. ap is_broken (sym (image_at (λ (task : Returned). task.task) no_task tasks place task at)) ∙ merged.unbroken place) in (
-      subst (λ histories. MergeIsEndedRun s ledger histories (numbers_of pass.drawn) (state_left left tasks)) (sym (histories_are names history shows)) merged,
+      subst (λ histories. MergeIsEndedRun s ledger histories (ticket_numbers pass.drawn) (state_left left tasks)) (sym (histories_are names history shows)) merged,
       drew,
     )

@@ -8,7 +8,7 @@ use Rattle.std.proofs.lemmas.List.Concat.{length-flat_map}
 use Rattle.std.proofs.lemmas.List.Elements.{All-head, All-tail, All-nil, All-append, All-map, All-filter, All-weaker, All-contains, All-contains_itself, filter_passes}
 use Rattle.std.proofs.lemmas.List.Sums.{sum_by-cons}
 use Rattle.std.proofs.lemmas.Option.{slice_get_cases, slice_get_within, get_or_from_slice_get}
-use Rattle.tick_clock.specs.Tickets.{PassState}
+use Rattle.tick_clock.specs.Tickets.{PassState, ticket_numbers}
 use Rattle.run_machine.specs.Laws.{Object, OfNone, OfTally, object_of}
 use Rattle.run_machine.specs.Opened.{Scenario, setup, start, no_task, round_count}
 use Rattle.run_machine.specs.Opened as opened
@@ -21,7 +21,6 @@ use Rattle.shared_objects.specs.Calls.{is_same_object, struck}
 use Rattle.shared_objects.specs.Closes.{Returned, ClosesAs}
 use Rattle.shared_objects.specs.Kinds.{ThingAt, serves_at, looks_at, opened_at, unasked}
 use Rattle.shared_objects.specs.Logs.{is_event, is_stop, is_glance, events_in, tickets_in, LogLeads}
-use Rattle.shared_objects.specs.Passes.{numbers_of}
 use Rattle.shared_objects.proofs.logs.CallsLead.{event_first, kinds, quiet_first, stop_kind}
 use Rattle.shared_objects.proofs.tickets.TicketsOfCalls.{drawn_of, drew_of, numbers_is}
 use Rattle.shared_objects.proofs.tickets.CallOwners.{logged, kept, IsInPlace, in_place}
@@ -216,7 +215,7 @@ module _ (s : Scenario) (plain : Plain) (names : List Object) (history : Object 
           absurd (true≢false (sym glance ∙ ap (λ b. not (is_told call || b)) stop ∙ ap (λ b. not (b || true)) untold))
 
   one_more : (place : ℕ) (task : Returned) → slice_get tasks place ≡ Some task
-      → length (numbers_of (drawn_of task)) ≤ length (filter (is_by place) (all_of (event_histories names history))) + 1
+      → length (ticket_numbers (drawn_of task)) ≤ length (filter (is_by place) (all_of (event_histories names history))) + 1
   one_more place task at =
       let tickets = ap (λ (l : List ℕ). length l) (drew_of (setup s) plain names history left tasks pass c place task at) in
       let few = few_tickets (setup s) [] task.first task.log task.task (ask_some s plain names history left tasks pass c place task at)
@@ -226,10 +225,10 @@ module _ (s : Scenario) (plain : Plain) (names : List Object) (history : Object 
       let order = sorted_length (filter (is_by place) (all_of (event_histories names history))) in
       omega (arith, tickets, few, events, done, order)
 
-  pub few_drawn : length (numbers_of pass.drawn) ≤ length (all_of (event_histories names history)) + length (opened.tasks s)
+  pub few_drawn : length (ticket_numbers pass.drawn) ≤ length (all_of (event_histories names history)) + length (opened.tasks s)
   few_drawn =
-      let all = ap (λ (l : List ℕ). length l) (numbers_is (setup s) plain names history left tasks pass c) ∙ length-flat_map (λ (task : Returned). numbers_of (drawn_of task)) tasks in
-      let most = sum_most (λ (task : Returned). length (numbers_of (drawn_of task))) (λ place. length (filter (is_by place) (all_of (event_histories names history)))) tasks one_more in
+      let all = ap (λ (l : List ℕ). length l) (numbers_is (setup s) plain names history left tasks pass c) ∙ length-flat_map (λ (task : Returned). ticket_numbers (drawn_of task)) tasks in
+      let most = sum_most (λ (task : Returned). length (ticket_numbers (drawn_of task))) (λ place. length (filter (is_by place) (all_of (event_histories names history)))) tasks one_more in
       let split = by_places (length tasks) (all_of (event_histories names history)) (all_placed names) in
       let same = long in
       omega (arith, all, most, split, same)

@@ -6,7 +6,7 @@ use Rattle.std.proofs.lemmas.Bool.{true≢false}
 use Rattle.std.proofs.lemmas.List.{append-nil}
 use Rattle.std.proofs.lemmas.List.Elements.{All-weaker, All-contains, All-contains_itself, Contains-append_left, Contains-append_right}
 use Rattle.elem_ledger.specs.Ledger.{LedgerId}
-use Rattle.tick_clock.specs.Tickets.{PassState}
+use Rattle.tick_clock.specs.Tickets.{PassState, ticket_numbers}
 use Rattle.run_machine.specs.Laws.{Object, object_of}
 use Rattle.run_machine.specs.Opened.{Scenario, setup, start}
 use Rattle.run_machine.specs.Requests.{Reply, LookLeft, Spent}
@@ -17,7 +17,7 @@ use Rattle.object_things.specs.Stamps.{ThingState, StepOf, is_spent}
 use Rattle.shared_objects.specs.Closes.{Returned, ClosesAs}
 use Rattle.shared_objects.specs.Kinds.{ThingAt, serves_at, looks_at, opened_at, unasked}
 use Rattle.shared_objects.specs.Logs.{HasStopped}
-use Rattle.shared_objects.specs.Passes.{found_by, numbers_of}
+use Rattle.shared_objects.specs.Passes.{found_by}
 use Rattle.shared_objects.proofs.tickets.TicketsOfCalls.{last_drawn, keeps}
 use Rattle.shared_objects.proofs.tickets.CallOwners.{first_there, logged, kept, IsInPlace, in_place}
 use Rattle.shared_objects.proofs.logs.StepNotes.{HasTicket}
@@ -39,7 +39,7 @@ module _ (s : Scenario) (plain : Plain) (names : List Object) (history : Object 
     (ready : (name : Object) → IsReady ledger name (opened_at plain name) (drawn_in (history name)))
     (found : All (λ (task : Returned). found_by task.desk.pass ≤ pass.known) tasks) where
   -- where an object said that there was no ticket, the last one was drawn
-  pub said_last : (name : Object) (call : Call) → Contains (history name) call → is_spent call.told.reply ≡ true → HasLast (numbers_of pass.drawn)
+  pub said_last : (name : Object) (call : Call) → Contains (history name) call → is_spent call.told.reply ≡ true → HasLast (ticket_numbers pass.drawn)
   said_last name call there spent = by_ticket call.told.drawn refl p.answers.step
     where
       p : IsInPlace (setup s) plain names history left tasks pass c name call
@@ -49,18 +49,18 @@ module _ (s : Scenario) (plain : Plain) (names : List Object) (history : Object 
       spent_is Spent is = refl
       spent_is reply is = absurd (true≢false (sym is))
 
-      by_object : (b : Bool) → p.here.spent ≡ b → call.told.drawn ≡ None → HasLast (numbers_of pass.drawn)
+      by_object : (b : Bool) → p.here.spent ≡ b → call.told.drawn ≡ None → HasLast (ticket_numbers pass.drawn)
       by_object false had none = last_drawn (setup s) plain names history left tasks pass c found name call there (spent, p.answers.drew ∙ ap not had, none)
       by_object true had none =
           let f = found_none name (unasked (opened_at plain name)) p.here p.before p.leads refl had in
           last_drawn (setup s) plain names history left tasks pass c found name f.0 (subst (λ l. Contains l f.0) (sym p.is) (Contains-append_left p.before (call ∷ p.after) f.0 f.1)) f.2
 
-      by_ticket : (ticket : Option ℕ) → call.told.drawn ≡ ticket → StepOf (serves_at name) (looks_at name) p.here call.asked call.told.reply ticket p.next → HasLast (numbers_of pass.drawn)
+      by_ticket : (ticket : Option ℕ) → call.told.drawn ≡ ticket → StepOf (serves_at name) (looks_at name) p.here call.asked call.told.reply ticket p.next → HasLast (ticket_numbers pass.drawn)
       by_ticket (Some n) t step =
           none_served name p.here.object p.next.object call.asked (subst (λ r. serves_at name p.here.object call.asked r p.next.object) (spent_is call.told.reply spent) step.0)
       by_ticket None t step = by_object p.here.spent refl t
 
-  pub object_last : (name : Object) → (left name).spent ≡ true → HasLast (numbers_of pass.drawn)
+  pub object_last : (name : Object) → (left name).spent ≡ true → HasLast (ticket_numbers pass.drawn)
   object_last name spent =
       let f = found_none name (unasked (opened_at plain name)) (left name) (history name) (c.things name) refl spent in
       last_drawn (setup s) plain names history left tasks pass c found name f.0 f.1 f.2
@@ -153,11 +153,11 @@ module _ (s : Scenario) (plain : Plain) (names : List Object) (history : Object 
               (All-weaker (λ (x : Ticketed). x.ticket ≤ parts.0) (λ (x : Ticketed). x.ticket < n) (λ x le. omega (arith, le, lt)) (ticketed_events st.here)
               (none_greater 0 parts.0 st.here parts.1 has_here).1)
 
-      stopped : WasRefused s ledger (event_histories names history) place now task.task ⊎ HasLast (numbers_of pass.drawn)
+      stopped : WasRefused s ledger (event_histories names history) place now task.task ⊎ HasLast (ticket_numbers pass.drawn)
       stopped = by_ticket st.call.told.drawn refl
         where
           by_ticket : (ticket : Option ℕ) → st.call.told.drawn ≡ ticket
-              → WasRefused s ledger (event_histories names history) place now task.task ⊎ HasLast (numbers_of pass.drawn)
+              → WasRefused s ledger (event_histories names history) place now task.task ⊎ HasLast (ticket_numbers pass.drawn)
           by_ticket (Some n) t = inl (refused n t)
           by_ticket None t =
               let step = subst (λ x. StepOf (serves_at (object_of st.call.asked)) (looks_at (object_of st.call.asked)) p.here st.call.asked st.call.told.reply x p.next) t p.answers.step in
@@ -175,6 +175,6 @@ module _ (s : Scenario) (plain : Plain) (names : List Object) (history : Object 
 
     pub comes_to : (task.task ≡ now) ⊎ IsStopped (setup s) [] task.log now task.task
         → ((task.task ≡ now) × IsThrough s ledger (event_histories names history) now)
-        ⊎ (WasRefused s ledger (event_histories names history) place now task.task ⊎ HasLast (numbers_of pass.drawn))
+        ⊎ (WasRefused s ledger (event_histories names history) place now task.task ⊎ HasLast (ticket_numbers pass.drawn))
     comes_to (inl is) = inl (is, through (subst (HasStopped (setup s) task.log) is (logged (setup s) plain names history left tasks pass c place task at).1))
     comes_to (inr st) = inr (stopped st)

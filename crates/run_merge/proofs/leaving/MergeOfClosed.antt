@@ -29,7 +29,7 @@ use Rattle.shared_objects.specs.Logs.{events_in}
 use Rattle.shared_objects.specs.Rows.{Abreast}
 use Rattle.shared_objects.specs.declared.closed.Closed.{Closed}
 use Rattle.shared_objects.specs.declared.closed.ClosedTask.{ClosedTask}
-use Rattle.shared_objects.specs.Passes.{numbers_of}
+use Rattle.tick_clock.specs.Tickets.{ticket_numbers}
 use Rattle.shared_objects.proofs.logs.StepNotes.{HasTicket}
 use Rattle.run_merge.specs.declared.outcome.Outcome.{Outcome}
 use Rattle.run_merge.specs.Closing.{MergeIsEndedRun}
@@ -138,16 +138,16 @@ module _ (closed : Closed) (has : HasClosed closed) where
   runnable : IsRunnable (shared_scenario closed)
   runnable = (accepted_texts_are_runnable closed.told.value.accepted.value closed.told.value.work.value has.opened.read).0
 
-  closes : MergeIsEndedRun (shared_scenario closed) (shared_ledger closed) (histories_in closed) (numbers_of closed.pass.value.drawn)
+  closes : MergeIsEndedRun (shared_scenario closed) (shared_ledger closed) (histories_in closed) (ticket_numbers closed.pass.value.drawn)
       (state_left (object_left_in closed closed.told.value.objects) has.returned)
       × ((name : Object) → All DrewAsEvent (history_in closed name))
   closes =
       closes_are_runs closed.told.value (names_in closed) (history_in closed) (object_left_in closed closed.told.value.objects) has.returned closed.pass.value
       has.opened has.firsts has.closes has.found
 
-  merged : MergeIsEndedRun (shared_scenario closed) (shared_ledger closed) (histories_in closed) (numbers_of closed.pass.value.drawn) (state_in closed)
+  merged : MergeIsEndedRun (shared_scenario closed) (shared_ledger closed) (histories_in closed) (ticket_numbers closed.pass.value.drawn) (state_in closed)
   merged =
-      subst (MergeIsEndedRun (shared_scenario closed) (shared_ledger closed) (histories_in closed) (numbers_of closed.pass.value.drawn)) state_is closes.0
+      subst (MergeIsEndedRun (shared_scenario closed) (shared_ledger closed) (histories_in closed) (ticket_numbers closed.pass.value.drawn)) state_is closes.0
 
   shows : (name : Object) → All HasTicket (history_in closed name) × All CarriesItsOwn (history_in closed name)
   shows name =

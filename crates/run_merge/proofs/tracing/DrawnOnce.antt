@@ -9,7 +9,7 @@ use Rattle.std.proofs.lemmas.List.Elements.{All-head, All-tail, All-cons, All-ni
 use Rattle.std.proofs.lemmas.List.Sums.{sum_by-cons, sum_by-append, sum-map}
 use Rattle.std.proofs.lemmas.Option.{slice_get_cases}
 use Rattle.tick_clock.specs.declared.ticking.Ticket.{Ticket}
-use Rattle.tick_clock.specs.Tickets.{PassState, hit, ticket_count}
+use Rattle.tick_clock.specs.Tickets.{PassState, hit, ticket_count, ticket_numbers}
 use Rattle.tick_clock.proofs.Rows.{pass_once}
 use Rattle.run_machine.specs.Laws.{Object}
 use Rattle.run_machine.specs.Opened.{Scenario, setup}
@@ -20,7 +20,6 @@ use Rattle.object_things.specs.Stamps.{ThingState}
 use Rattle.shared_objects.specs.Closes.{Returned, ClosesAs}
 use Rattle.shared_objects.specs.Kinds.{ThingAt}
 use Rattle.shared_objects.specs.Logs.{tickets_in}
-use Rattle.shared_objects.specs.Passes.{numbers_of}
 use Rattle.shared_objects.proofs.tickets.TicketsOfCalls.{drawn_of, drew_of, numbers_is}
 use Rattle.shared_objects.proofs.logs.StepNotes.{HasTicket}
 use Rattle.run_merge.specs.Merging.{Ticketed, sorted_by_ticket, all_of}
@@ -50,12 +49,12 @@ sum_least f g (x ∷ xs) each =
     let rest = sum_least f g xs (λ place y at. each (suc place) y at) in
     omega (arith, here, rest, sum_by-cons f x xs, sum_by-cons g x xs)
 
-times_is : (number : ℕ) (ts : List Ticket) → hits number (numbers_of ts) ≡ ticket_count number ts
+times_is : (number : ℕ) (ts : List Ticket) → hits number (ticket_numbers ts) ≡ ticket_count number ts
 times_is number [] = refl
 times_is number (t ∷ ts) =
     let rest = times_is number ts in
     let here : is_hit number t.number ≡ hit number t = refl in
-    omega (arith, rest, here, sum_by-cons (is_hit number) t.number (numbers_of ts), sum_by-cons (hit number) t ts)
+    omega (arith, rest, here, sum_by-cons (is_hit number) t.number (ticket_numbers ts), sum_by-cons (hit number) t ts)
 
 -- entries with a ticket
 abbrev has_number : ℕ → Ticketed → Bool
@@ -114,12 +113,12 @@ module _ (s : Scenario) (plain : Plain) (names : List Object) (history : Object 
 
   -- how often a task drew a ticket
   abbrev pub drew : ℕ → Returned → ℕ
-  drew number task = hits number (numbers_of (drawn_of task))
+  drew number task = hits number (ticket_numbers (drawn_of task))
 
   pub drawn_once : (number : ℕ) → sum_by (drew number) tasks ≤ 1
   drawn_once number =
       let all = ap (hits number) (numbers_is (setup s) plain names history left tasks pass c) in
-      let parts = hits_flat (λ (task : Returned). numbers_of (drawn_of task)) tasks number in
+      let parts = hits_flat (λ (task : Returned). ticket_numbers (drawn_of task)) tasks number in
       let same = times_is number pass.drawn in
       let once = (pass_once pass c.all.1).0 number in
       omega (arith, all, parts, same, once)

@@ -1,8 +1,8 @@
 -- What a step keeps of a task with its seats.
 use Rattle.std.proofs.Common.{◌≡◌, ℕ, ◌+◌, ◌-◌, ◌^◌, ◌⊎◌, inl, inr, Bool, true, false, List, [], ◌∷◌, ◌++◌, Option, Some, None, arith, refl, sym, ◌∙◌, ap, subst}
-use Rattle.std.specs.Prelude.{length, min, map, All, ◌≤◌}
+use Rattle.std.specs.Prelude.{length, min, All, ◌≤◌}
 use Rattle.tick_clock.specs.declared.ticking.Ticket.{Ticket}
-use Rattle.tick_clock.specs.Tickets.{PassState}
+use Rattle.tick_clock.specs.Tickets.{PassState, ticket_numbers}
 use Rattle.std.proofs.lemmas.List.{length-append}
 use Rattle.std.proofs.lemmas.List.Elements.{All-nil, filter-append, Contains-append_left, Contains-append_right}
 use Rattle.task_steps.specs.declared.step.Step.{Step}
@@ -95,7 +95,7 @@ unused_goes (Some pass) is = record {
   above = omega (arith);
   met = All-nil (IsMet pass.seen);
   own = inl is.0;
-  drew = ap (map (λ (t : Ticket). t.number)) is.1;
+  drew = ap ticket_numbers is.1;
   saw = subst (All (λ (t : Ticket). IsSeenIn [] t.seen)) (sym is.1) (All-nil (λ (t : Ticket). IsSeenIn [] t.seen));
   last = All-nil (λ (c : Call). FoundNone c → KnowsLast pass []);
 }

@@ -6,7 +6,7 @@ use Rattle.std.proofs.lemmas.Bool.{true≢false}
 use Rattle.std.proofs.lemmas.List.Elements.{All-contains, All-contains_itself, All-weaker, Contains-append_right}
 use Rattle.std.proofs.lemmas.Option.{get_or_from_slice_get}
 use Rattle.tick_clock.specs.declared.ticking.Ticket.{Ticket}
-use Rattle.tick_clock.specs.Tickets.{PassState}
+use Rattle.tick_clock.specs.Tickets.{PassState, ticket_numbers}
 use Rattle.tick_clock.proofs.Rows.{pass_once}
 use Rattle.run_machine.specs.declared.event.What.{What}
 use Rattle.run_machine.specs.Events.{what_of}
@@ -22,7 +22,7 @@ use Rattle.shared_objects.specs.Kinds.{ThingAt, looks_at, serves_at}
 use Rattle.shared_objects.specs.Led.{BrokeOff, IsLed}
 use Rattle.shared_objects.specs.Left.{HasClosed}
 use Rattle.shared_objects.specs.Logs.{is_event, is_glance, is_stop}
-use Rattle.shared_objects.specs.Passes.{found_by, numbers_of}
+use Rattle.shared_objects.specs.Passes.{found_by}
 use Rattle.shared_objects.specs.Tickets.{AreOfHistories, ClosesShowTickets, DrewTicket, EntryCarries, IsBehind, IsEvent, IsRefusedCall, ShowsItsTickets}
 use Rattle.shared_objects.specs.declared.closed.Closed.{Closed}
 use Rattle.shared_objects.proofs.tickets.TicketsOfCalls.{drawn_of, drew_of, flat_all, in_row, last_drawn, map_from, map_there, ticket_from}
@@ -111,13 +111,13 @@ module _ (set : Setup) (plain : Plain) (names : List Object) (history : Object �
       (flat_all HasDrawing drawn_of tasks (λ place task at. All-weaker (Contains (drawn_of task)) HasDrawing (of_task place task at) (drawn_of task) (All-contains_itself (drawn_of task))))
 
   -- a ticket by its number
-  by_number : (n : ℕ) → Contains (numbers_of pass.drawn) n → (ticket : Ticket) × Contains pass.drawn ticket × (ticket.number ≡ n)
+  by_number : (n : ℕ) → Contains (ticket_numbers pass.drawn) n → (ticket : Ticket) × Contains pass.drawn ticket × (ticket.number ≡ n)
   by_number n there = map_from (λ (t : Ticket). t.number) pass.drawn n there
 
   behind : (ticket : Ticket) → Contains pass.drawn ticket → IsBehind pass.drawn ticket
   behind ticket there = by_two (in_row set plain names history left tasks pass c ticket.number (map_there (λ (t : Ticket). t.number) pass.drawn ticket there))
     where
-      by_two : (ticket.number ≡ 1) ⊎ ((other : ℕ) × Contains (numbers_of pass.drawn) other × (ticket.number ≡ other + 1)) → IsBehind pass.drawn ticket
+      by_two : (ticket.number ≡ 1) ⊎ ((other : ℕ) × Contains (ticket_numbers pass.drawn) other × (ticket.number ≡ other + 1)) → IsBehind pass.drawn ticket
       by_two (inl is) = inl is
       by_two (inr (other, inside, is)) = let o = by_number other inside in inr (o.0, o.1, is ∙ ap (λ n. n + 1) (sym o.2))
 

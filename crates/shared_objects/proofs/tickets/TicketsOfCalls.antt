@@ -5,7 +5,7 @@ use Rattle.std.specs.List.{flat_map, cons_option}
 use Rattle.std.proofs.lemmas.List.{map-append}
 use Rattle.std.proofs.lemmas.List.Elements.{All-cons, All-nil, All-append, All-contains, All-weaker, Contains-append_left, Contains-append_right, filter_map-append}
 use Rattle.tick_clock.specs.declared.ticking.Ticket.{Ticket}
-use Rattle.tick_clock.specs.Tickets.{PassState, IsOneOf, IsOneMore}
+use Rattle.tick_clock.specs.Tickets.{PassState, IsOneOf, IsOneMore, ticket_numbers}
 use Rattle.tick_clock.proofs.Rows.{pass_greatest, pass_one_more}
 use Rattle.run_machine.specs.Laws.{Object, object_of}
 use Rattle.run_machine.specs.Scene.{Setup}
@@ -22,7 +22,7 @@ use Rattle.object_things.specs.Pools.{PoolServes, PoolLooks}
 use Rattle.object_things.specs.Tallies.{TallyServes, TallyLooks}
 use Rattle.run_machine.specs.Laws.{OfPool, OfRescuer, OfDisk, OfBook, OfTally, OfNone}
 use Rattle.shared_objects.specs.Closes.{Returned, ClosesAs}
-use Rattle.shared_objects.specs.Passes.{drawn_by, found_by, numbers_of}
+use Rattle.shared_objects.specs.Passes.{drawn_by, found_by}
 use Rattle.shared_objects.specs.Kinds.{ThingAt, chooses_at, looks_at, opened_at, serves_at, unasked}
 use Rattle.shared_objects.specs.Logs.{tickets_in, IsSeenIn, KnowsLast, HasPass, IsLogged}
 use Rattle.shared_objects.proofs.tickets.CallOwners.{split_at, first_there, at_all, IsCallOfTask, owner, logged, kept, IsInPlace, in_place}
@@ -86,12 +86,12 @@ flat_all P f (x ∷ xs) each = All-append P (f x) (flat_map f xs) (each 0 x refl
 abbrev pub drawn_of : Returned → List Ticket
 drawn_of task = drawn_by task.desk.pass
 
-pub numbers_flat : (tasks : List Returned) → numbers_of (flat_map drawn_of tasks) ≡ flat_map (λ (task : Returned). numbers_of (drawn_of task)) tasks
+pub numbers_flat : (tasks : List Returned) → ticket_numbers (flat_map drawn_of tasks) ≡ flat_map (λ (task : Returned). ticket_numbers (drawn_of task)) tasks
 numbers_flat [] = refl
 numbers_flat (task ∷ tasks) =
-    map-append (λ (t : Ticket). t.number) (drawn_of task) (flat_map drawn_of tasks) ∙ ap (λ l. numbers_of (drawn_of task) ++ l) (numbers_flat tasks)
+    map-append (λ (t : Ticket). t.number) (drawn_of task) (flat_map drawn_of tasks) ∙ ap (λ l. ticket_numbers (drawn_of task) ++ l) (numbers_flat tasks)
 
-pub pass_drew : (pass : Option PassState) (end : ℕ) (log : List Call) → HasPass pass end log → numbers_of (drawn_by pass) ≡ tickets_in log
+pub pass_drew : (pass : Option PassState) (end : ℕ) (log : List Call) → HasPass pass end log → ticket_numbers (drawn_by pass) ≡ tickets_in log
 pass_drew None end log has = absurd has
 pass_drew (Some pass) end log has = has.drew
 
@@ -121,79 +121,79 @@ InRow drawn = (ticket : ℕ) → Contains drawn ticket → (ticket ≡ 1) ⊎ ((
 
 module _ (set : Setup) (plain : Plain) (names : List Object) (history : Object → List Call) (left : (name : Object) → ThingState (ThingAt name)) (tasks : List Returned)
     (pass : PassState) (c : ClosesAs set plain names history left tasks pass) where
-  pub drew_of : (place : ℕ) (task : Returned) → slice_get tasks place ≡ Some task → numbers_of (drawn_of task) ≡ tickets_in task.log
+  pub drew_of : (place : ℕ) (task : Returned) → slice_get tasks place ≡ Some task → ticket_numbers (drawn_of task) ≡ tickets_in task.log
   drew_of place task at =
       let l = (logged set plain names history left tasks pass c place task at).0 in pass_drew task.desk.pass l.end task.log l.pass
 
-  pub numbers_is : numbers_of pass.drawn ≡ flat_map (λ (task : Returned). numbers_of (drawn_of task)) tasks
-  numbers_is = ap numbers_of c.drawn ∙ numbers_flat tasks
+  pub numbers_is : ticket_numbers pass.drawn ≡ flat_map (λ (task : Returned). ticket_numbers (drawn_of task)) tasks
+  numbers_is = ap ticket_numbers c.drawn ∙ numbers_flat tasks
 
-  pub ticket_drawn : (name : Object) (call : Call) (n : ℕ) → Contains (history name) call → call.told.drawn ≡ Some n → Contains (numbers_of pass.drawn) n
+  pub ticket_drawn : (name : Object) (call : Call) (n : ℕ) → Contains (history name) call → call.told.drawn ≡ Some n → Contains (ticket_numbers pass.drawn) n
   ticket_drawn name call n there is =
       let o = owner set plain names history left tasks pass c name call there in
       subst (λ l. Contains l n) (sym numbers_is)
-      (flat_there (λ (task : Returned). numbers_of (drawn_of task)) tasks o.place o.task n o.at
+      (flat_there (λ (task : Returned). ticket_numbers (drawn_of task)) tasks o.place o.task n o.at
       (subst (λ l. Contains l n) (sym (drew_of o.place o.task o.at)) (ticket_there o.task.log call n o.there is)))
 
-  note_drawn : (name : Object) (call : Call) → Contains (history name) call → (call.told.note ≡ 0) ⊎ Contains (numbers_of pass.drawn) call.told.note
+  note_drawn : (name : Object) (call : Call) → Contains (history name) call → (call.told.note ≡ 0) ⊎ Contains (ticket_numbers pass.drawn) call.told.note
   note_drawn name call there = by_two (end_is 0 p.here.note p.before ((keeps name).rises (unasked (opened_at plain name)) p.here p.before p.leads))
     where
       p : IsInPlace set plain names history left tasks pass c name call
       p = in_place set plain names history left tasks pass c name call there
 
-      by_two : (p.here.note ≡ 0) ⊎ ((x : Call) × Contains p.before x × (x.told.drawn ≡ Some p.here.note)) → (call.told.note ≡ 0) ⊎ Contains (numbers_of pass.drawn) call.told.note
+      by_two : (p.here.note ≡ 0) ⊎ ((x : Call) × Contains p.before x × (x.told.drawn ≡ Some p.here.note)) → (call.told.note ≡ 0) ⊎ Contains (ticket_numbers pass.drawn) call.told.note
       by_two (inl none) = inl (p.answers.note ∙ none)
       by_two (inr (x, inside, is)) =
-          inr (subst (λ n. Contains (numbers_of pass.drawn) n) (sym p.answers.note)
+          inr (subst (λ n. Contains (ticket_numbers pass.drawn) n) (sym p.answers.note)
           (ticket_drawn name x p.here.note (subst (λ l. Contains l x) (sym p.is) (Contains-append_left p.before (call ∷ p.after) x inside)) is))
 
-  seen_drawn : (place : ℕ) (task : Returned) → slice_get tasks place ≡ Some task → (n : ℕ) → IsSeenIn task.log n → (n ≡ 0) ⊎ Contains (numbers_of pass.drawn) n
+  seen_drawn : (place : ℕ) (task : Returned) → slice_get tasks place ≡ Some task → (n : ℕ) → IsSeenIn task.log n → (n ≡ 0) ⊎ Contains (ticket_numbers pass.drawn) n
   seen_drawn place task at n (inl none) = inl none
   seen_drawn place task at n (inr (call, there, inl ticket)) =
       inr (ticket_drawn (object_of call.asked) call n (kept set plain names history left tasks pass c place task at call there) ticket)
   seen_drawn place task at n (inr (call, there, inr note)) =
-      subst (λ m. (m ≡ 0) ⊎ Contains (numbers_of pass.drawn) m) note (note_drawn (object_of call.asked) call (kept set plain names history left tasks pass c place task at call there))
+      subst (λ m. (m ≡ 0) ⊎ Contains (ticket_numbers pass.drawn) m) note (note_drawn (object_of call.asked) call (kept set plain names history left tasks pass c place task at call there))
 
-  all_seen : All (λ (t : Ticket). (t.seen ≡ 0) ⊎ Contains (numbers_of pass.drawn) t.seen) pass.drawn
-  all_seen = subst (All (λ (t : Ticket). (t.seen ≡ 0) ⊎ Contains (numbers_of pass.drawn) t.seen)) (sym c.drawn)
-      (flat_all (λ (t : Ticket). (t.seen ≡ 0) ⊎ Contains (numbers_of pass.drawn) t.seen) drawn_of tasks
+  all_seen : All (λ (t : Ticket). (t.seen ≡ 0) ⊎ Contains (ticket_numbers pass.drawn) t.seen) pass.drawn
+  all_seen = subst (All (λ (t : Ticket). (t.seen ≡ 0) ⊎ Contains (ticket_numbers pass.drawn) t.seen)) (sym c.drawn)
+      (flat_all (λ (t : Ticket). (t.seen ≡ 0) ⊎ Contains (ticket_numbers pass.drawn) t.seen) drawn_of tasks
       (λ place task at. let l = (logged set plain names history left tasks pass c place task at).0 in
-      All-weaker (λ (t : Ticket). IsSeenIn task.log t.seen) (λ (t : Ticket). (t.seen ≡ 0) ⊎ Contains (numbers_of pass.drawn) t.seen)
+      All-weaker (λ (t : Ticket). IsSeenIn task.log t.seen) (λ (t : Ticket). (t.seen ≡ 0) ⊎ Contains (ticket_numbers pass.drawn) t.seen)
       (λ t h. seen_drawn place task at t.seen h) (drawn_of task) (pass_saw task.desk.pass l.end task.log l.pass)))
 
-  one_there : (n : ℕ) → IsOneOf pass.drawn n → (n ≡ 0) ⊎ Contains (numbers_of pass.drawn) n
+  one_there : (n : ℕ) → IsOneOf pass.drawn n → (n ≡ 0) ⊎ Contains (ticket_numbers pass.drawn) n
   one_there n (inl none) = inl none
-  one_there n (inr (u, there, is)) = inr (subst (λ m. Contains (numbers_of pass.drawn) m) (sym is) (map_there (λ (t : Ticket). t.number) pass.drawn u there))
+  one_there n (inr (u, there, is)) = inr (subst (λ m. Contains (ticket_numbers pass.drawn) m) (sym is) (map_there (λ (t : Ticket). t.number) pass.drawn u there))
 
-  behind : (ticket before : ℕ) → ticket ≡ before + 1 → (before ≡ 0) ⊎ Contains (numbers_of pass.drawn) before
-      → (ticket ≡ 1) ⊎ ((other : ℕ) × Contains (numbers_of pass.drawn) other × (ticket ≡ other + 1))
+  behind : (ticket before : ℕ) → ticket ≡ before + 1 → (before ≡ 0) ⊎ Contains (ticket_numbers pass.drawn) before
+      → (ticket ≡ 1) ⊎ ((other : ℕ) × Contains (ticket_numbers pass.drawn) other × (ticket ≡ other + 1))
   behind ticket before is (inl none) = inl (omega (arith, is, none))
   behind ticket before is (inr there) = inr (before, there, is)
 
-  pub in_row : InRow (numbers_of pass.drawn)
+  pub in_row : InRow (ticket_numbers pass.drawn)
   in_row ticket there = by_ticket (map_from (λ (t : Ticket). t.number) pass.drawn ticket there)
     where
       by_more : (t : Ticket) → Contains pass.drawn t → t.number ≡ ticket → IsOneMore pass.drawn t
-          → (ticket ≡ 1) ⊎ ((other : ℕ) × Contains (numbers_of pass.drawn) other × (ticket ≡ other + 1))
+          → (ticket ≡ 1) ⊎ ((other : ℕ) × Contains (ticket_numbers pass.drawn) other × (ticket ≡ other + 1))
       by_more t inside is (inl (before, one, more)) = behind ticket before (sym is ∙ more) (one_there before one)
       by_more t inside is (inr more) =
-          behind ticket t.seen (sym is ∙ more) (All-contains (λ (t : Ticket). (t.seen ≡ 0) ⊎ Contains (numbers_of pass.drawn) t.seen) pass.drawn t all_seen inside)
+          behind ticket t.seen (sym is ∙ more) (All-contains (λ (t : Ticket). (t.seen ≡ 0) ⊎ Contains (ticket_numbers pass.drawn) t.seen) pass.drawn t all_seen inside)
 
-      by_ticket : (t : Ticket) × Contains pass.drawn t × (t.number ≡ ticket) → (ticket ≡ 1) ⊎ ((other : ℕ) × Contains (numbers_of pass.drawn) other × (ticket ≡ other + 1))
+      by_ticket : (t : Ticket) × Contains pass.drawn t × (t.number ≡ ticket) → (ticket ≡ 1) ⊎ ((other : ℕ) × Contains (ticket_numbers pass.drawn) other × (ticket ≡ other + 1))
       by_ticket (t, inside, is) = by_more t inside is (All-contains (IsOneMore pass.drawn) pass.drawn t (pass_one_more pass c.all.1 c.all.0) inside)
 
   -- where a call found no ticket, the last one was drawn
-  known_last : 2 ^ 64 - 1 ≤ pass.known → Contains (numbers_of pass.drawn) (2 ^ 64 - 1)
+  known_last : 2 ^ 64 - 1 ≤ pass.known → Contains (ticket_numbers pass.drawn) (2 ^ 64 - 1)
   known_last le = by_two (one_there pass.known (pass_greatest pass c.all.1 c.all.0).0)
     where
       is : pass.known ≡ 2 ^ 64 - 1
       is = let fits = c.all.1.fits in omega (arith, fits, le)
 
-      by_two : (pass.known ≡ 0) ⊎ Contains (numbers_of pass.drawn) pass.known → Contains (numbers_of pass.drawn) (2 ^ 64 - 1)
+      by_two : (pass.known ≡ 0) ⊎ Contains (ticket_numbers pass.drawn) pass.known → Contains (ticket_numbers pass.drawn) (2 ^ 64 - 1)
       by_two (inl none) = absurd (omega (arith, none, le))
-      by_two (inr there) = subst (λ n. Contains (numbers_of pass.drawn) n) is there
+      by_two (inr there) = subst (λ n. Contains (ticket_numbers pass.drawn) n) is there
 
-  pub last_drawn : All (λ (task : Returned). found_by task.desk.pass ≤ pass.known) tasks → (name : Object) (call : Call) → Contains (history name) call → FoundNone call → Contains (numbers_of pass.drawn) (2 ^ 64 - 1)
+  pub last_drawn : All (λ (task : Returned). found_by task.desk.pass ≤ pass.known) tasks → (name : Object) (call : Call) → Contains (history name) call → FoundNone call → Contains (ticket_numbers pass.drawn) (2 ^ 64 - 1)
   last_drawn found name call there none = by_two (pass_knows o.task.desk.pass l.end o.task.log call l.pass o.there none)
     where
       o : IsCallOfTask set plain names history left tasks pass c name call
@@ -202,11 +202,11 @@ module _ (set : Setup) (plain : Plain) (names : List Object) (history : Object �
       l : IsLogged set o.task.first o.task.log o.task.task o.task.desk
       l = (logged set plain names history left tasks pass c o.place o.task o.at).0
 
-      seen : (2 ^ 64 - 1 ≡ 0) ⊎ Contains (numbers_of pass.drawn) (2 ^ 64 - 1) → Contains (numbers_of pass.drawn) (2 ^ 64 - 1)
+      seen : (2 ^ 64 - 1 ≡ 0) ⊎ Contains (ticket_numbers pass.drawn) (2 ^ 64 - 1) → Contains (ticket_numbers pass.drawn) (2 ^ 64 - 1)
       seen (inl none) = absurd (omega (arith, none))
       seen (inr there) = there
 
-      by_two : (2 ^ 64 - 1 ≤ found_by o.task.desk.pass) ⊎ IsSeenIn o.task.log (2 ^ 64 - 1) → Contains (numbers_of pass.drawn) (2 ^ 64 - 1)
+      by_two : (2 ^ 64 - 1 ≤ found_by o.task.desk.pass) ⊎ IsSeenIn o.task.log (2 ^ 64 - 1) → Contains (ticket_numbers pass.drawn) (2 ^ 64 - 1)
       by_two (inl le) =
           let more = at_all (λ (task : Returned). found_by task.desk.pass ≤ pass.known) tasks o.place o.task found o.at in known_last (omega (arith, le, more))
       by_two (inr in_log) = seen (seen_drawn o.place o.task o.at (2 ^ 64 - 1) in_log)
