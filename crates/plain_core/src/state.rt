@@ -3,9 +3,10 @@ ghost use Rattle.std.specs.Prelude.{◌≡◌, ◌<◌, map, length, MatchBool, 
 ghost use Rattle.task_steps.specs.Within.{TaskFits};
 ghost use Rattle.task_core.specs.opened.OfOne.{IsOpened, scenario_in};
 ghost use Rattle.plain_core.specs.steps.Views.{task_of_plain};
-ghost use Rattle.plain_core.specs.opening.Opening.{CanOpen, IsOpenedCore, scenario_by};
+ghost use Rattle.plain_core.specs.opening.Opening.{CanOpen, IsOpenedCore};
 ghost use Rattle.stack_base.specs.PoolId.{pool_number};
 ghost use Rattle.run_machine.specs.Runs.{HasEnded, HasFree, unfinished};
+ghost use Rattle.run_machine.specs.Scenario.{scenario_by};
 ghost use Rattle.plain_core.specs.steps.Free.{IsFirstFree};
 ghost use Rattle.plain_core.specs.Cores.{scene_of_core, state_of_core, task_at, AreFound, FindsTask, StepsAt, Applies};
 

@@ -29,10 +29,11 @@ use Rattle.run_machine.specs.Opened.{Scenario, at, duties, is_numbered, keepers,
 use Rattle.task_steps.specs.Routed.{Routing, places_at, routing_setup}
 use Rattle.run_machine.specs.Scene.{is_disk, keeps_data, setup_of}
 use Rattle.run_machine.specs.Tasks.{Duty, TaskState, Writer, Rescuer, Completer, Keeper, Keeps, NoBio, Empty}
+use Rattle.run_machine.specs.Scenario.{scenario_by}
 use Rattle.task_steps.specs.Within.{AreWithin, IsItemWithin, SubmissionFits, TaskFits}
 use Rattle.plain_core.specs.Cores.{CoreState, AreFound, IsCore}
 use Rattle.plain_core.specs.objects.Ledgers.{ledger_of}
-use Rattle.plain_core.specs.opening.Opening.{core_objects_of, CanOpen, IsOpenedCore, new_book, new_books, new_disk, new_disks, new_pool, new_pools, scenario_by}
+use Rattle.plain_core.specs.opening.Opening.{core_objects_of, CanOpen, IsOpenedCore, new_book, new_books, new_disk, new_disks, new_pool, new_pools}
 use Rattle.plain_core.specs.objects.Plain.{CoreObjects, HasPlacesForStack, HasSize, disk_or, no_core_pool, objects_of_core}
 use Rattle.task_core.specs.opened.NewTasks.{AreServableWrites}
 use Rattle.task_core.proofs.opened.Behind.{sum_le}

@@ -9,7 +9,7 @@ use Rattle.stack_base.specs.PoolId.{IsOfStack}
 use Rattle.fail_script.specs.Script.{Answers}
 use Rattle.stack_base.specs.declared.stack.Stack.{Stack}
 use Rattle.work_text.specs.declared.Work.{Work}
-use Rattle.run_machine.specs.Scenario.{change_of}
+use Rattle.run_machine.specs.Scenario.{change_of, scenario_by}
 use Rattle.run_machine.specs.Events.{id_of}
 use Rattle.run_machine.specs.Submissions.{rests}
 use Rattle.task_core.specs.opened.OfOne.{states}
@@ -21,7 +21,7 @@ use Rattle.task_steps.specs.TaskViews.{TaskOf}
 use Rattle.run_machine.specs.Tasks.{TaskState, Duty, Resizes, Starts, NoBio, Empty, Keeps, Writer, Rescuer, Completer, Keeper}
 use Rattle.plain_core.specs.declared.steps.task.Task.{Task}
 use Rattle.plain_core.specs.Cores.{slot_of}
-use Rattle.plain_core.specs.opening.Opening.{AreTasksEntered, CanOpen, EntersTasks, scenario_by}
+use Rattle.plain_core.specs.opening.Opening.{AreTasksEntered, CanOpen, EntersTasks}
 use Rattle.plain_core.specs.opening.Seen.{HasNotBegun, Rises}
 use Rattle.plain_core.specs.steps.Duties.{NamesStackPool}
 use Rattle.plain_core.specs.steps.Views.{task_of_plain}

@@ -20,7 +20,6 @@ use Rattle.run_machine.specs.Events.{id_of, pool_of}
 use Rattle.run_machine.specs.Objects.{TallyState}
 use Rattle.run_machine.specs.Opened.{Scenario, most_writers, objects, reserve_of, scene, script_at, start, opened_disk}
 use Rattle.task_steps.specs.Routed.{places_at}
-use Rattle.run_machine.specs.Scenario.{change_of}
 use Rattle.run_machine.specs.Scene.{keeps_data}
 use Rattle.run_machine.specs.Tasks.{TaskState}
 use Rattle.plain_core.specs.declared.steps.task.Task.{Task}
@@ -28,16 +27,6 @@ use Rattle.plain_core.specs.Cores.{CoreState, most_slots, AreFound, scene_of_cor
 use Rattle.plain_core.specs.objects.Ledgers.{ledger_of}
 use Rattle.plain_core.specs.objects.Plain.{CoreObjects, most_pools}
 use Rattle.plain_core.specs.steps.Views.{task_of_plain}
-
--- the scenario that these mean together
-abbrev pub scenario_by : Stack → List (PoolId × Answers) → Work → Scenario
-scenario_by stack scripts work = record {
-  stack = stack;
-  scripts = scripts;
-  writes = work.writes.items;
-  rounds = work.rounds.items;
-  changes = map change_of work.resizes.items;
-}
 
 -- Such work a text may have over this stack, and such scripts. That each pool has its script, how the scripts are ordered, that writes are
 -- apart and how many lines there are does not matter here.

@@ -1,5 +1,5 @@
 -- What opened tasks know of devices is the setup of their scenario, and they are its tasks.
-use Rattle.std.proofs.Common.{◌≡◌, inl, inr, ◌<◌, ◌≤◌, ◌==◌, ◌++◌, ℕ, false, List, [], ◌∷◌, get_or, map, refl, sym, ap, ◌∙◌, arith}
+use Rattle.std.proofs.Common.{◌≡◌, inl, inr, ◌<◌, ◌≤◌, ◌==◌, ◌++◌, ℕ, false, List, [], ◌∷◌, get_or, refl, sym, ap, ◌∙◌, arith}
 use Rattle.std.specs.Prelude.{sum_by}
 use Rattle.std.specs.List.{range_with_len}
 use Rattle.std.proofs.lemmas.Bool.Decides.{nat_tests}
@@ -12,7 +12,7 @@ use Rattle.layout_model.specs.NeedCounts.{nodes}
 use Rattle.work_text.specs.declared.Work.{Work}
 use Rattle.run_machine.specs.Opened.{Scenario, is_by, places_of, tasks, todos, writers_of}
 use Rattle.run_machine.specs.Opened as opened
-use Rattle.run_machine.specs.Scenario.{change_of}
+use Rattle.run_machine.specs.Scenario.{scenario_by}
 use Rattle.run_machine.specs.Scene.{setup_of}
 use Rattle.run_machine.specs.Tasks.{TaskState, Todo}
 use Rattle.run_machine.proofs.Passing.{none_passing}
@@ -33,7 +33,7 @@ shown_states routing (task ∷ tasks) = ap (λ more. task ∷ more) (shown_state
 
 module _ (stack : Stack) (scripts : List (PoolId × Answers)) (work : Work) (sharing : AreServableWrites stack work.rounds.items work.writes.items) where
   abbrev s : Scenario
-  s = record { stack = stack; scripts = scripts; writes = work.writes.items; rounds = work.rounds.items; changes = map change_of work.resizes.items }
+  s = scenario_by stack scripts work
 
   -- writers have small numbers
   pub no_writer : (writer : ℕ) → 8 ≤ writer → places_of s writer ≡ 0

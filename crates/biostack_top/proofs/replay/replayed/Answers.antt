@@ -2,7 +2,8 @@
 use Rattle.std.proofs.Common.{List, subst}
 use Rattle.fail_script.specs.Script.{Answers}
 use Rattle.stack_base.specs.declared.ids.PoolId.{PoolId}
-use Rattle.plain_core.specs.opening.Opening.{IsOpenedCore, scenario_by}
+use Rattle.run_machine.specs.Scenario.{scenario_by}
+use Rattle.plain_core.specs.opening.Opening.{IsOpenedCore}
 use Rattle.trace_replay.specs.Lines.{told_in}
 use Rattle.biostack_top.proofs.ReplayLemmas.{comes_if_ok}
 use Rattle.biostack_top.proofs.replay.replayed.Goals as goal
