@@ -176,9 +176,13 @@ is_numbered number script = pool_number script.0 == number
 abbrev pub script_at : List (PoolId × Answers) → ℕ → Answers
 script_at scripts number = option_map_or (λ (script : PoolId × Answers). script.1) (find (is_numbered number) scripts) (only_tail true)
 
--- the tally in which every write is unfinished
+-- the tally of so many writes of each round and so many of all, none of which is done
+abbrev pub new_tally : List ℕ → ℕ → TallyState
+new_tally counts writes = record { round = 0; left = counts; statuses = replicate writes status.Ok }
+
+-- that of these writes, with their rounds
 abbrev pub tally_in : List ℕ → List Write → TallyState
-tally_in rounds writes = record { round = 0; left = left_in rounds; statuses = replicate (length writes) status.Ok }
+tally_in rounds writes = new_tally (left_in rounds) (length writes)
 
 -- a disk of a stack as it is opened
 abbrev pub opened_disk : Stack → ℕ → DiskState

@@ -15,10 +15,9 @@ use Rattle.bio_books.specs.Books.{BookState}
 use Rattle.model_disks.specs.Disks.{DiskState}
 use Rattle.work_text.specs.declared.Resize.{Resize}
 use Rattle.work_text.specs.declared.Work.{Work}
-use Rattle.task_core.specs.opened.NewTasks.{new_tally}
 use Rattle.run_machine.specs.Events.{id_of, pool_of}
 use Rattle.run_machine.specs.Objects.{TallyState}
-use Rattle.run_machine.specs.Opened.{Scenario, most_writers, objects, reserve_of, scene, script_at, start, opened_disk}
+use Rattle.run_machine.specs.Opened.{Scenario, most_writers, objects, reserve_of, scene, script_at, start, opened_disk, new_tally}
 use Rattle.task_steps.specs.Routed.{places_at}
 use Rattle.run_machine.specs.Scene.{keeps_data}
 use Rattle.run_machine.specs.Tasks.{TaskState}

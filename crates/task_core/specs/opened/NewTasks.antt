@@ -1,9 +1,8 @@
 -- What the writes and the `resize` lines of a text are to the tasks and the tally, as these are opened.
-use Rattle.std.specs.Prelude.{◌≡◌, ◌+◌, ◌-◌, ◌^◌, ◌<◌, ◌++◌, ℕ, List, [], ◌∷◌, All, length, map, replicate, sum_by, slice_index_or}
+use Rattle.std.specs.Prelude.{◌≡◌, ◌+◌, ◌-◌, ◌^◌, ◌<◌, ◌++◌, ℕ, List, [], ◌∷◌, All, length, map, sum_by, slice_index_or}
 use Rattle.std.specs.List.{range_with_len}
 use Rattle.stack_base.specs.declared.ids.DevId.{DevId}
 use Rattle.stack_base.specs.declared.ids.PoolId.{PoolId}
-use Rattle.stack_base.specs.declared.ids.Status.TheVariants.{Ok as Well}
 use Rattle.stack_base.specs.declared.stack.Stack.{Stack}
 use Rattle.layout_model.specs.declared.write.Write.{Write}
 use Rattle.layout_model.specs.NeedCounts.{nodes}
@@ -18,7 +17,6 @@ use Rattle.run_machine.specs.Scene.{Setup}
 use Rattle.task_steps.specs.KeeperViews.{duty_of}
 use Rattle.task_steps.specs.Routed.{Routing, routing_setup}
 use Rattle.task_steps.specs.TaskViews.{TaskOf, task_of}
-use Rattle.run_machine.specs.Objects.{TallyState}
 use Rattle.run_machine.specs.Submissions.{rests}
 use Rattle.run_machine.specs.Tasks.{Todo, NoBio, Duty, Starts, TaskState, Writer}
 use Rattle.run_machine.specs.Opened.{share_of, nodes_of, writers_of, rescuers_of, completers_of, rounds_in, changes_at, duties_in, keepers}
@@ -102,10 +100,6 @@ abbrev pub others_in : Setup → Work → List TaskState
 others_in setup work =
     rescuers_of setup (range_with_len 0 setup.count)
     ++ (completers_of setup (range_with_len 0 setup.count) ++ keepers_in work.rounds.items work.resizes.items)
-
--- the tally of so many writes of each round and so many of all, none of which is done
-abbrev pub new_tally : List ℕ → ℕ → TallyState
-new_tally counts writes = record { round = 0; left = counts; statuses = replicate writes Well }
 
 -- the reserves that pools get
 abbrev pub reserves_in : List Resize → List (PoolId × ℕ)

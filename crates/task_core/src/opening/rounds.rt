@@ -2,8 +2,8 @@
 ghost use Rattle.std.specs.Prelude.{◌≡◌, ◌+◌, ◌-◌, ◌<◌, ◌≤◌, ◌^◌, [], ◌∷◌, IfOk, OnOk, fold, length, map, max, sum};
 ghost use Rattle.task_steps.specs.KeeperViews.{duty_of};
 ghost use Rattle.task_core.specs.Plains.{tally_of};
-ghost use Rattle.run_machine.specs.Opened.{left_in, rounds_in};
-ghost use Rattle.task_core.specs.opened.NewTasks.{all_duties, duties_at, keepers_in, new_tally, resizes_at, AddsDuties, AddsTasks};
+ghost use Rattle.run_machine.specs.Opened.{left_in, rounds_in, new_tally};
+ghost use Rattle.task_core.specs.opened.NewTasks.{all_duties, duties_at, keepers_in, resizes_at, AddsDuties, AddsTasks};
 
 use crate::plain::tally::Tally;
 use stack_base::Status;
