@@ -11,7 +11,7 @@ use Rattle.decl_text.specs.declared.accepted.Accepted.{Accepted}
 use Rattle.decl_text.specs.declared.reason.ReadFault.{ReadFault}
 use Rattle.decl_text.specs.declared.reason.ReadFault.TheVariants.{Refused, Memory}
 use Rattle.stack_check.specs.Accept.{AcceptsBy}
-use Rattle.work_text.specs.Work.{all_checks, kept_resizes, known_of, last_round, resized}
+use Rattle.work_text.specs.Work.{all_checks, kept_resizes, known_of, last_round, change_of}
 use Rattle.work_text.specs.Reading.{ReadsWork, work_lines}
 use Rattle.work_text.specs.Whole.{RestDecides, known_of_text, text_refusal_by, work_of}
 use Rattle.work_text.proofs.Wholes.{refused_first, rest_decides}
@@ -66,7 +66,7 @@ says_all loose text read scene is accepts reads served same =
             arith,
             ap last_round (reads.1.rounds ∙ ap (λ (k : Known). k.rounds) work),
             ap length (reads.1.resizes ∙ ap (λ (k : Known). kept_resizes (last_round k.rounds) k.resizes) work),
-            length-map scene.work.resizes.items resized,
+            length-map scene.work.resizes.items change_of,
           ))
           reads.1.bound;
       begins = rest_begins loose text read accepted is accepts;

@@ -6,21 +6,20 @@ use Rattle.std.proofs.lemmas.List.{length-map}
 use Rattle.stack_base.specs.declared.stack.Stack.{Stack}
 use Rattle.layout_model.specs.declared.write.Write.{Write}
 use Rattle.decl_text.specs.Accepting.{Means}
-use Rattle.decl_text.specs.Known.{Known, Resized, Written, nothing}
+use Rattle.decl_text.specs.Known.{Known, Written, nothing}
 use Rattle.decl_text.specs.Refusals.{known_after, refusal, refused}
 use Rattle.decl_text.specs.Text.{lines, most_bytes}
 use Rattle.decl_text.specs.declared.accepted.Accepted.{Accepted}
 use Rattle.decl_text.specs.declared.reason.Reason.TheVariants.{TooLong}
 use Rattle.work_text.specs.Whole.{known_of_text}
-use Rattle.work_text.specs.Work.{checks_by, kept_resizes, last_round, resized, as_written}
-use Rattle.work_text.specs.declared.Resize.{Resize}
+use Rattle.work_text.specs.Work.{checks_by, kept_resizes, last_round, change_of, as_written}
 use Rattle.work_text.specs.declared.Work.{Work}
 use Rattle.work_text.proofs.Unrefused.{text_lines}
 use Rattle.run_machine.specs.declared.event.Event.{Event}
 use Rattle.run_machine.specs.Named.{IsEventOf}
-use Rattle.run_machine.specs.Opened.{Change, Scenario, scene, start}
+use Rattle.run_machine.specs.Opened.{Scenario, scene, start}
 use Rattle.run_machine.specs.Runs.{IsRun}
-use Rattle.run_machine.specs.Scenario.{change_of, scenario_of}
+use Rattle.run_machine.specs.Scenario.{scenario_of}
 use Rattle.block_core.specs.Dones.{times_done}
 use Rattle.block_core.specs.Scenarios.{IsScenario}
 use Rattle.block_core.proofs.claim.Runnable.{accepted_texts_are_runnable}
@@ -49,26 +48,19 @@ writes_back : (writes : List Write) → map write_of (map as_written writes) ≡
 writes_back [] = refl
 writes_back (write ∷ more) = ap (λ all. write ∷ all) (writes_back more)
 
-abbrev change_in : Resized → Change
-change_in r = record { round = r.round; pool = r.pool; min = r.min }
-
-changes_back : (resizes : List Resize) → map change_in (map resized resizes) ≡ map change_of resizes
-changes_back [] = refl
-changes_back (resize ∷ more) = ap (λ all. change_of resize ∷ all) (changes_back more)
-
 -- two readings of texts that declare the same, but for their stacks
 module _ (known : Known) (one other : Accepted) (first second : Work)
     (a : Means known one.stack one.scripts.items) (b : Means known other.stack other.scripts.items)
     (one_writes : map as_written first.writes.items ≡ known.writes) (other_writes : map as_written second.writes.items ≡ known.writes)
     (one_rounds : first.rounds.items ≡ known.rounds) (other_rounds : second.rounds.items ≡ known.rounds)
-    (one_resizes : map resized first.resizes.items ≡ kept_resizes (last_round known.rounds) known.resizes)
-    (other_resizes : map resized second.resizes.items ≡ kept_resizes (last_round known.rounds) known.resizes) where
+    (one_resizes : map change_of first.resizes.items ≡ kept_resizes (last_round known.rounds) known.resizes)
+    (other_resizes : map change_of second.resizes.items ≡ kept_resizes (last_round known.rounds) known.resizes) where
   same_scenario : record (scenario_of one first) { stack = other.stack } ≡ scenario_of other second
   same_scenario =
       let scripts = a.scripts ∙ sym b.scripts in
       let writes = sym (writes_back first.writes.items) ∙ ap (map write_of) (one_writes ∙ sym other_writes) ∙ writes_back second.writes.items in
       let rounds = one_rounds ∙ sym other_rounds in
-      let changes = sym (changes_back first.resizes.items) ∙ ap (map change_in) (one_resizes ∙ sym other_resizes) ∙ changes_back second.resizes.items in
+      let changes = one_resizes ∙ sym other_resizes in
       λ k. record { stack = other.stack; scripts = scripts k; writes = writes k; rounds = rounds k; changes = changes k }
 
 module _ (stacks_named : AcceptedStacksAreNamed) (replays : TracesReplay) (no_event : ReportsTellNoEvent) (maker : Maker) (text told : List ℕ) (well : Bool)

@@ -12,7 +12,7 @@ use Rattle.decl_text.specs.declared.reason.ReadFault.{ReadFault}
 use Rattle.decl_text.specs.declared.reason.ReadFault.TheVariants.{Refused, Memory}
 use Rattle.stack_check.specs.Accept.{HasRescuersAsked}
 use Rattle.work_text.specs.Reading.{ReadsWork, work_lines}
-use Rattle.work_text.specs.Work.{all_entries, kept_resizes, last_round, resized, as_written}
+use Rattle.work_text.specs.Work.{all_entries, kept_resizes, last_round, change_of, as_written}
 use Rattle.work_text.specs.Whole.{text_refusal_by, known_of_text}
 use Rattle.work_text.specs.declared.Work.{Work}
 use Rattle.biostack_top.specs.declared.scene.Scene.{Scene}
@@ -31,7 +31,7 @@ pub record SaysBy (loose : Bool) (text : List ℕ) (accepted : Accepted) (work :
   pub writes : map as_written work.writes.items ≡ (known_of_text text).writes
   pub served : (write : Write) → Contains work.writes.items write → IsWrite accepted.stack write
   pub rounds : work.rounds.items ≡ (known_of_text text).rounds
-  pub resizes : map resized work.resizes.items ≡ kept_resizes (last_round (known_of_text text).rounds) (known_of_text text).resizes
+  pub resizes : map change_of work.resizes.items ≡ kept_resizes (last_round (known_of_text text).rounds) (known_of_text text).resizes
   -- what the writes need; and the entries of the scripts, the rounds after the first, and the `resize` lines that are not left out
   pub needs : IsBound accepted.stack work.writes.items
       (all_entries accepted.scripts.items + last_round (known_of_text text).rounds + kept_lines (known_of_text text)) work.bound

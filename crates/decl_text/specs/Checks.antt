@@ -6,7 +6,7 @@ use Rattle.stack_base.specs.PoolId.{pool_number}
 use Rattle.stack_base.specs.declared.ids.PoolId.{PoolId}
 use Rattle.decl_text.specs.Text.{words, is_text}
 use Rattle.decl_text.specs.Items.{malformed, misnumbered, said}
-use Rattle.decl_text.specs.Known.{Known, Declared, Written, Scripted, Resized, present, device_of, number_in, declared_pool, tree_over, tree_of, trees, all_members, sectors_of, declares_disk, declares_mirror, declared}
+use Rattle.decl_text.specs.Known.{Known, Declared, Written, Scripted, Change, present, device_of, number_in, declared_pool, tree_over, tree_of, trees, all_members, sectors_of, declares_disk, declares_mirror, declared}
 use Rattle.decl_text.specs.Stands.{stand_of, misplaced}
 use Rattle.decl_text.specs.declared.item.What.{What}
 use Rattle.decl_text.specs.declared.item.What.TheVariants as what
@@ -39,10 +39,10 @@ has_script scripts None = false
 has_script scripts (Some pool) = list_any (is_of_pool pool) scripts
 
 -- the reserve of this pool from this round on
-abbrev pub is_resize_of : ℕ → PoolId → Resized → Bool
-is_resize_of round pool resized = (resized.round == round) && (pool_number resized.pool == pool_number pool)
+abbrev pub is_resize_of : ℕ → PoolId → Change → Bool
+is_resize_of round pool change = (change.round == round) && (pool_number change.pool == pool_number pool)
 
-abbrev pub has_resize : List Resized → ℕ → Option PoolId → Bool
+abbrev pub has_resize : List Change → ℕ → Option PoolId → Bool
 has_resize resizes round None = false
 has_resize resizes round (Some pool) = list_any (is_resize_of round pool) resizes
 

@@ -41,8 +41,8 @@ pub record Written : Type 0 where
   pub count : ℕ
   pub tag : ℕ
 
--- the reserve that a pool has from a round on
-pub record Resized : Type 0 where
+-- a change of a reserve: what a pool keeps from the round of this number on
+pub record Change : Type 0 where
   pub round : ℕ
   pub pool : PoolId
   pub min : ℕ
@@ -60,7 +60,7 @@ pub record Known : Type 0 where
   pub rounds : List ℕ
   -- how many `sync` lines there were, each of which ends a round
   pub syncs : ℕ
-  pub resizes : List Resized
+  pub resizes : List Change
 
 abbrev pub nothing : Known
 nothing = record { devices = []; fs = None; bad = []; scripts = []; no_memory = false; writes = []; rounds = []; syncs = 0; resizes = [] }

@@ -11,11 +11,11 @@ use Rattle.stack_base.specs.declared.stack.Device.{Device}
 use Rattle.stack_base.specs.declared.stack.Stack.{Stack}
 use Rattle.stack_base.specs.Fault.{bads_of_kind}
 use Rattle.fail_script.specs.Script.{Answers}
-use Rattle.decl_text.specs.Known.{BadOf, Declared, Known, Resized, Written}
+use Rattle.decl_text.specs.Known.{BadOf, Change, Declared, Known, Written}
 use Rattle.decl_text.specs.Accepting.{Means, reserves_or_two, scripts_of, shown_devices}
 use Rattle.work_text.specs.Work.{as_written, last_round, kept_resizes}
 use Rattle.work_text.specs.Whole.{text_refusal, known_of_text}
-use Rattle.run_machine.specs.Opened.{Change, Scenario, at}
+use Rattle.run_machine.specs.Opened.{Scenario, at}
 
 pub itself : (n : ℕ) → n ≤ n
 itself n = omega arith
@@ -56,17 +56,13 @@ module _ (memory : Global) where
     fs_vecs = reserve;
   }
 
--- a `resize` line as a change of a reserve
-abbrev pub change : Resized → Change
-change submission = record { round = submission.round; pool = submission.pool; min = submission.min }
-
 -- No line of the text is refused, and they say this scenario.
 pub record SaysScenario (text : List ℕ) (s : Scenario) : Type 0 where
   pub right : text_refusal text ≡ None
   pub means : Means (known_of_text text) s.stack s.scripts
   pub writes : map as_written s.writes ≡ (known_of_text text).writes
   pub rounds : s.rounds ≡ (known_of_text text).rounds
-  pub changes : s.changes ≡ map change (kept_resizes (last_round (known_of_text text).rounds) (known_of_text text).resizes)
+  pub changes : s.changes ≡ kept_resizes (last_round (known_of_text text).rounds) (known_of_text text).resizes
 
 -- devices without bad ranges
 abbrev pub AreSound : List Device → Type 0
@@ -99,7 +95,7 @@ told_in known = record {
   scripts = scripts_of known;
   writes = known.writes;
   rounds = known.rounds;
-  changes = map change (kept_resizes (last_round known.rounds) known.resizes);
+  changes = kept_resizes (last_round known.rounds) known.resizes;
 }
 
 abbrev pub told_of : Scenario → Told

@@ -19,6 +19,7 @@ use Rattle.layout_model.specs.May.{bads_of}
 use Rattle.layout_model.specs.NeedCounts.{nodes}
 use Rattle.mempool_core.specs.Move.{opened}
 use Rattle.model_disks.specs.Moves as disk
+pub use Rattle.decl_text.specs.Known.{Change}
 use Rattle.run_machine.specs.Scene.{Setup, Scene, setup_of, is_disk}
 use Rattle.run_machine.specs.Submissions.{rests}
 use Rattle.run_machine.specs.Tasks.{Todo, NoBio, Empty, Duty, Resizes, Starts, Keeps, TaskState, Writer, Rescuer, Completer, Keeper}
@@ -26,12 +27,6 @@ use Rattle.run_machine.specs.Objects.{Objects, TallyState}
 use Rattle.run_machine.specs.Events.{pool_of}
 use Rattle.run_machine.specs.Runs.{State}
 use Rattle.model_disks.specs.Disks.{DiskState}
-
--- a pool gets another reserve before the round of this number starts
-pub record Change : Type 0 where
-  pub round : ℕ
-  pub pool : PoolId
-  pub min : ℕ
 
 -- what an accepted text means: a stack, the script of each pool, the writes with the round of each, and the changes of reserves, in the order
 -- of their lines

@@ -4,13 +4,9 @@ use Rattle.fail_script.specs.Script.{Answers}
 use Rattle.stack_base.specs.declared.ids.PoolId.{PoolId}
 use Rattle.stack_base.specs.declared.stack.Stack.{Stack}
 use Rattle.decl_text.specs.declared.accepted.Accepted.{Accepted}
-use Rattle.work_text.specs.declared.Resize.{Resize}
 use Rattle.work_text.specs.declared.Work.{Work}
-use Rattle.run_machine.specs.Opened.{Change, Scenario}
-
--- a `resize` line
-abbrev pub change_of : Resize → Change
-change_of resize = record { round = resize.round; pool = resize.pool; min = resize.min }
+pub use Rattle.work_text.specs.Work.{change_of}
+use Rattle.run_machine.specs.Opened.{Scenario}
 
 -- a stack and its scripts, and the writes with their rounds and the changes of reserves of work over it
 abbrev pub scenario_by : Stack → List (PoolId × Answers) → Work → Scenario

@@ -23,7 +23,7 @@ use Rattle.decl_text.specs.Items.{said}
 use Rattle.decl_text.specs.Accepting.{shown_devices}
 use Rattle.decl_text.specs.Checks.{is_among, not_a_top, reserve_zero, shares, too_large, too_many_segments}
 use Rattle.decl_text.specs.Fit.{IsReserve}
-use Rattle.decl_text.specs.Known.{Known, Declared, Resized, Written, after_line, all_members, bios_pool_of, device_before, number_in, pool_if, declared_pool, records_pool_of}
+use Rattle.decl_text.specs.Known.{Known, Declared, Change, Written, after_line, all_members, bios_pool_of, device_before, number_in, pool_if, declared_pool, records_pool_of}
 use Rattle.decl_text.specs.Reading.{declarations}
 use Rattle.decl_text.specs.Refusals.{check, known_after, refusal, said_reason}
 use Rattle.decl_text.specs.Stands.{stand_of}
@@ -36,7 +36,7 @@ use Rattle.decl_text.specs.declared.stand.Stand.TheVariants.{Front}
 use Rattle.decl_text.proofs.Unrefused.{finds_nothing, line_passes, none_refused}
 use Rattle.work_text.specs.Fit.{IsPoolIn, WorkIsFit}
 use Rattle.work_text.specs.Reading.{work_lines}
-use Rattle.work_text.specs.Work.{all_checks, known_of, kept_resizes, last_round, resized, as_written}
+use Rattle.work_text.specs.Work.{all_checks, known_of, kept_resizes, last_round, change_of, as_written}
 use Rattle.work_text.proofs.LoopLemmas.{first_works}
 use Rattle.work_text.proofs.NameLemmas.{among_members}
 use Rattle.work_text.proofs.Rests.{never_front, step}
@@ -50,7 +50,7 @@ record IsFitWrite (devices : List Declared) (write : Written) : Type 0 where
   top : is_among (all_members devices) write.dev ≡ false
   segments : write.count ≤ 2048
 
-record IsFitResize (devices : List Declared) (resize : Resized) : Type 0 where
+record IsFitResize (devices : List Declared) (resize : Change) : Type 0 where
   min : IsReserve resize.min
   pool : IsPoolIn devices resize.pool
 
@@ -138,7 +138,7 @@ more_reserves known pool min fit one few = by_pool (declared_pool known.devices 
     by_pool None is = rw (append-nil known.resizes) (fit.reserves, omega (arith, few))
     by_pool (Some p) is = (
       All-push (IsFitResize known.devices) known.resizes (record { round = known.syncs; pool = p; min = min }) fit.reserves (record { min = one; pool = is p refl }),
-      let r : Resized = record { round = known.syncs; pool = p; min = min } in omega (arith, few, length_push known.resizes r),
+      let r : Change = record { round = known.syncs; pool = p; min = min } in omega (arith, few, length_push known.resizes r),
     )
 
 -- a line that passes all checks keeps this
@@ -242,7 +242,7 @@ apart_by a b none dev = by_tests (nat_lt b.start (a.start + a.count)) (nat_lt a.
     by_tests true false is also none = inr (ltb-false a.start (b.start + b.count) also)
     by_tests true true is also none = absurd (let same = eq-eqb a.dev.0 b.dev.0 dev in let all : shares b.dev.0 b.start b.count (as_written a) ≡ true = rw (same, is, also) refl in both_ways _ none all)
 
-kept_few : (last : ℕ) (resizes : List Resized) → length (kept_resizes last resizes) ≤ length resizes
+kept_few : (last : ℕ) (resizes : List Change) → length (kept_resizes last resizes) ≤ length resizes
 kept_few last [] = omega arith
 kept_few last (x ∷ xs) = by_test (nat_le x.round last) (kept_few last xs)
   where
@@ -257,8 +257,8 @@ work_is_fit text accepted work begins (none, is) =
     let known = known_after (known_of stack) lines in
     let fit = lines_fit (known_of stack) accepted.line lines (λ front. begins) none (nothing_fits stack) in
     let devices : known.devices ≡ shown_devices stack = lines_devices (known_of stack) accepted.line lines (λ front. begins) none refl in
-    let resizes : All (λ resize. IsFitResize known.devices (resized resize)) work.resizes.items = unmapped (IsFitResize known.devices) resized work.resizes.items
-    (subst (All (IsFitResize known.devices)) (sym is.resizes) (All-filter (λ (r : Resized). nat_le r.round (last_round known.rounds)) (IsFitResize known.devices) known.resizes fit.reserves)) in
+    let resizes : All (λ resize. IsFitResize known.devices (change_of resize)) work.resizes.items = unmapped (IsFitResize known.devices) change_of work.resizes.items
+    (subst (All (IsFitResize known.devices)) (sym is.resizes) (All-filter (λ (r : Change). nat_le r.round (last_round known.rounds)) (IsFitResize known.devices) known.resizes fit.reserves)) in
     let writes : All (λ write. IsFitWrite known.devices (as_written write)) work.writes.items = unmapped (IsFitWrite known.devices) as_written work.writes.items (subst (All (IsFitWrite known.devices)) (sym is.writes) fit.writes) in
     record {
       writers = All-weaker (λ write. IsFitWrite known.devices (as_written write)) (λ write. write.task ≤ 7) (λ write one. one.task) work.writes.items writes;
@@ -272,12 +272,12 @@ work_is_fit text accepted work begins (none, is) =
             (shown_at is.writes i a found) (shown_at is.writes j b other)
             (ap (λ rs. get_or rs i 0) (sym is.rounds) ∙ round ∙ ap (λ rs. get_or rs j 0) is.rounds));
       };
-      reserves = All-weaker (λ resize. IsFitResize known.devices (resized resize)) (λ resize. IsReserve resize.min) (λ resize one. one.min) work.resizes.items resizes;
+      reserves = All-weaker (λ resize. IsFitResize known.devices (change_of resize)) (λ resize. IsReserve resize.min) (λ resize one. one.min) work.resizes.items resizes;
       last = last_few work.rounds.items (subst (All (λ round. round ≤ 1024)) (sym is.rounds)
           (All-weaker (λ round. round ≤ known.syncs) (λ round. round ≤ 1024) (λ round le. omega (arith, le, fit.syncs)) known.rounds fit.past));
-      few = omega (arith, length-map work.resizes.items resized, ap length is.resizes, kept_few (last_round known.rounds) known.resizes, fit.few);
+      few = omega (arith, length-map work.resizes.items change_of, ap length is.resizes, kept_few (last_round known.rounds) known.resizes, fit.few);
       segments = All-weaker (λ write. IsFitWrite known.devices (as_written write)) (λ write. write.count ≤ 2048) (λ write one. one.segments) work.writes.items writes;
-      pools = All-weaker (λ resize. IsFitResize known.devices (resized resize)) (λ resize. IsPoolIn (shown_devices stack) resize.pool)
+      pools = All-weaker (λ resize. IsFitResize known.devices (change_of resize)) (λ resize. IsPoolIn (shown_devices stack) resize.pool)
           (λ resize one. subst (λ ds. IsPoolIn ds resize.pool) devices one.pool) work.resizes.items resizes;
     }
   where

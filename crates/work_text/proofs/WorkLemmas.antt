@@ -7,19 +7,19 @@ use Rattle.stack_base.specs.declared.stack.Stack.{Stack}
 use Rattle.layout_model.specs.declared.write.Write.{Write}
 use Rattle.layout_model.specs.declared.totals.Bounds.{Bounds}
 use Rattle.layout_model.specs.Bound.{IsBound}
-use Rattle.decl_text.specs.Known.{Known, Resized}
-use Rattle.work_text.specs.Work.{IsWork, all_entries, kept_resizes, last_round, resized, as_written}
+use Rattle.decl_text.specs.Known.{Known, Change}
+use Rattle.work_text.specs.Work.{IsWork, all_entries, kept_resizes, last_round, change_of, as_written}
 use Rattle.work_text.specs.Draft.{IsLeftOf, known_with}
 use Rattle.work_text.specs.declared.Resize.{Resize}
 use Rattle.work_text.specs.declared.Work.{Work}
 
-kept_first : (b : Bool) (x : Resize) (xs : List Resize) (ys : List Resized) → map resized xs ≡ ys → map resized (cond b (x ∷ xs) xs) ≡ cond b (resized x ∷ ys) ys
-kept_first true x xs ys is = ap (λ zs. resized x ∷ zs) is
+kept_first : (b : Bool) (x : Resize) (xs : List Resize) (ys : List Change) → map change_of xs ≡ ys → map change_of (cond b (x ∷ xs) xs) ≡ cond b (change_of x ∷ ys) ys
+kept_first true x xs ys is = ap (λ zs. change_of x ∷ zs) is
 kept_first false x xs ys is = is
 
-kept_shown : (last : ℕ) (resizes : List Resize) → map resized (filter (λ (r : Resize). nat_le r.round last) resizes) ≡ kept_resizes last (map resized resizes)
+kept_shown : (last : ℕ) (resizes : List Resize) → map change_of (filter (λ (r : Resize). nat_le r.round last) resizes) ≡ kept_resizes last (map change_of resizes)
 kept_shown last [] = refl
-kept_shown last (x ∷ xs) = kept_first (nat_le x.round last) x (filter (λ (r : Resize). nat_le r.round last) xs) (kept_resizes last (map resized xs)) (kept_shown last xs)
+kept_shown last (x ∷ xs) = kept_first (nat_le x.round last) x (filter (λ (r : Resize). nat_le r.round last) xs) (kept_resizes last (map change_of xs)) (kept_shown last xs)
 
 -- what is left of a draft is the work
 pub finished : (stack : Stack) (scripts : List (PoolId × Answers)) (known : Known) (work left : Work) (syncs : ℕ) → known_with stack work syncs ≡ known
@@ -29,7 +29,7 @@ pub finished : (stack : Stack) (scripts : List (PoolId × Answers)) (known : Kno
 finished stack scripts known work left syncs is bound entries of = record {
   writes = ap (map as_written) of.writes ∙ ap (λ (k : Known). k.writes) is;
   rounds = of.rounds ∙ ap (λ (k : Known). k.rounds) is;
-  resizes = ap (map resized) of.resizes ∙ kept_shown (last_round work.rounds.items) work.resizes.items
+  resizes = ap (map change_of) of.resizes ∙ kept_shown (last_round work.rounds.items) work.resizes.items
       ∙ ap (λ (k : Known). kept_resizes (last_round k.rounds) k.resizes) is;
   bound = subst (λ (ws : List Write). IsBound stack ws (all_entries scripts + last_round left.rounds.items + length left.resizes.items) left.bound) (sym of.writes)
       (subst (λ (b : Bounds). IsBound stack work.writes.items (all_entries scripts + last_round left.rounds.items + length left.resizes.items) b) (sym of.bound)

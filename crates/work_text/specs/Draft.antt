@@ -15,7 +15,7 @@ use Rattle.decl_text.specs.declared.line.LineFault.{LineFault}
 use Rattle.decl_text.specs.declared.reason.Reason.{Reason}
 use Rattle.decl_text.specs.declared.item.Item.{Item}
 use Rattle.decl_text.specs.declared.item.Item.TheVariants as item
-use Rattle.work_text.specs.Work.{as_written, resized, known_of, last_round, all_checks}
+use Rattle.work_text.specs.Work.{as_written, change_of, known_of, last_round, all_checks}
 use Rattle.work_text.specs.declared.Resize.{Resize}
 use Rattle.work_text.specs.declared.Work.{Work}
 use Rattle.work_text.specs.Lines.{AddsWork}
@@ -25,7 +25,7 @@ use Rattle.work_text.specs.declared.draft.Draft.{Draft}
 -- what is known behind the lines of this work, so many of which are `sync` lines
 abbrev pub known_with : Stack → Work → ℕ → Known
 known_with stack work syncs =
-    record (known_of stack) { writes = map as_written work.writes.items; rounds = work.rounds.items; syncs = syncs; resizes = map resized work.resizes.items }
+    record (known_of stack) { writes = map as_written work.writes.items; rounds = work.rounds.items; syncs = syncs; resizes = map change_of work.resizes.items }
 
 abbrev pub known_so_far : Stack → Draft → Known
 known_so_far stack draft = known_with stack draft.work draft.syncs

@@ -8,7 +8,7 @@ use Rattle.work_text.specs.declared.Resize.{Resize}
 use Rattle.work_text.specs.declared.Work.{Work}
 use Rattle.layout_model.specs.Need.{needed, vectors}
 use Rattle.layout_model.specs.Bound.{IsBound, most_elements}
-use Rattle.decl_text.specs.Known.{Known, Declared, Resized, Written, nothing, number_in, tree_of}
+use Rattle.decl_text.specs.Known.{Known, Declared, Change, Written, nothing, number_in, tree_of}
 use Rattle.decl_text.specs.Accepting.{checks_for, shown_devices}
 use Rattle.decl_text.specs.Refusals.{Check, check}
 use Rattle.decl_text.specs.declared.reason.Reason.TheVariants.{TooMuchWork}
@@ -31,15 +31,15 @@ too_much_work known (item.Write task dev range tag) =
 too_much_work known _ = false
 
 -- a `resize` line as it stands in a text
-abbrev pub resized : Resize → Resized
-resized resize = record { round = resize.round; pool = resize.pool; min = resize.min }
+abbrev pub change_of : Resize → Change
+change_of resize = record { round = resize.round; pool = resize.pool; min = resize.min }
 
 -- the round of the last write, or the first round where there is none: `sync` lines behind it are left out
 abbrev pub last_round : List ℕ → ℕ
 last_round rounds = slice_index_or rounds (length rounds - 1) 0
 
 -- the `resize` lines of the rounds up to that one; those of `sync` lines that are left out are left out too
-abbrev pub kept_resizes : ℕ → List Resized → List Resized
+abbrev pub kept_resizes : ℕ → List Change → List Change
 kept_resizes last resizes = filter (λ resize. nat_le resize.round last) resizes
 
 -- the checks of what a line says, in their order: those of declarations, all or the loose ones, and that of work
@@ -62,6 +62,6 @@ all_entries scripts = sum_by (λ script. entries_of script.1) scripts
 pub record IsWork (stack : Stack) (scripts : List (PoolId × Answers)) (known : Known) (work : Work) : Type 0 where
   pub writes : map as_written work.writes.items ≡ known.writes
   pub rounds : work.rounds.items ≡ known.rounds
-  pub resizes : map resized work.resizes.items ≡ kept_resizes (last_round known.rounds) known.resizes
+  pub resizes : map change_of work.resizes.items ≡ kept_resizes (last_round known.rounds) known.resizes
   -- what the writes need; and the entries of the scripts, the rounds after the first, and the `resize` lines
   pub bound : IsBound stack work.writes.items (all_entries scripts + last_round work.rounds.items + length work.resizes.items) work.bound

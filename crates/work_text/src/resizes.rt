@@ -3,7 +3,7 @@ ghost use Rattle.std.specs.Prelude.{◌≡◌, ◌≤◌, ◌==◌, ◌&&◌, []
 ghost use Rattle.std.specs.List.{list_any};
 ghost use Rattle.stack_base.specs.PoolId.{pool_number};
 ghost use Rattle.decl_text.specs.Checks.{has_resize};
-ghost use Rattle.work_text.specs.Work.{last_round, resized};
+ghost use Rattle.work_text.specs.Work.{last_round, change_of};
 
 use crate::Resize;
 use stack_base::PoolId;
@@ -21,7 +21,7 @@ pub(crate) fn keep(resizes: &mut Vec<Resize>, resize: Resize) -> Result<(), Allo
 pub(crate) fn has_resize(resizes: &[Resize], round: u32, pool: Option<PoolId>) -> bool
     requires small { IfSome pool (λ p. pool_number p ≤ 65) }
     requires pools { All (λ resize. pool_number resize.pool ≤ 65) resizes.now }
-    ensures { result ≡ has_resize (map resized resizes.now) round pool }
+    ensures { result ≡ has_resize (map change_of resizes.now) round pool }
 {
     match pool {
         Some(pool) => has_one(resizes, round, pool.no()),
