@@ -1,9 +1,10 @@
 -- Sums over the sectors of a run, or over the members of a mirror.
-use Rattle.std.proofs.Common.{◌≡◌, ◌+◌, ◌*◌, ◌<◌, ◌≤◌, ◌==◌, ℕ, zero, suc, true, cond, List, [], ◌∷◌, ◌++◌, length, get_or, sum_by, zero-add, add-zero, mul-suc, refl, sym, ap, ◌∙◌, arith}
+use Rattle.std.proofs.Common.{◌≡◌, ◌+◌, ◌*◌, ◌<◌, ◌≤◌, ◌==◌, ℕ, zero, suc, true, cond, List, [], ◌∷◌, length, get_or, sum_by, zero-add, add-zero, mul-suc, refl, sym, ap, ◌∙◌, arith}
 use Rattle.std.specs.List.{range_with_len}
 use Rattle.std.proofs.lemmas.List.Sums.{sum_by-cons, sum_by-append, get_or-le-sum_by}
 use Rattle.std.proofs.lemmas.List.FromFn.{length-range_with_len, get_or-range_with_len}
 use Rattle.std.proofs.lemmas.Bool.{eq-eqb, ne_eqb}
+use Rattle.stack_base.proofs.ListLemmas.{range_joined}
 
 -- the sum over one more number
 pub sum_next : (f : ℕ → ℕ) (a n : ℕ) → sum_by f (range_with_len a (suc n)) ≡ f a + sum_by f (range_with_len (a + 1) n)
@@ -29,14 +30,6 @@ sum_moved f g a b (suc n) same =
 pub sum_same : {X : Type 0} (f g : X → ℕ) (xs : List X) → ((x : X) → f x ≡ g x) → sum_by f xs ≡ sum_by g xs
 sum_same f g [] same = refl
 sum_same f g (x ∷ xs) same = omega (arith, sum_by-cons f x xs, sum_by-cons g x xs, same x, sum_same f g xs same)
-
--- a range in two parts
-pub range_joined : (a m n : ℕ) → range_with_len a (m + n) ≡ range_with_len a m ++ range_with_len (a + m) n
-range_joined a zero n = rw (zero-add, add-zero) refl
-range_joined a (suc m) n =
-    let one : suc m + n ≡ suc (m + n) = omega arith in
-    let on : a + 1 + m ≡ a + suc m = omega arith in
-    rw one (ap (λ rest. a ∷ rest) (range_joined (a + 1) m n ∙ ap (λ b. range_with_len (a + 1) m ++ range_with_len b n) on))
 
 -- a sum in two parts
 pub sum_joined : (f : ℕ → ℕ) (a m n : ℕ) → sum_by f (range_with_len a (m + n)) ≡ sum_by f (range_with_len a m) + sum_by f (range_with_len (a + m) n)

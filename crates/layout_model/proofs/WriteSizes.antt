@@ -1,5 +1,6 @@
 -- What a write needs, by the bounds on its run.
-use Rattle.std.proofs.Common.{◌+◌, ◌≤◌, ◌/◌, cond, ltb, Bool, true, false, arith}
+use Rattle.std.proofs.Common.{◌+◌, ◌≤◌, ◌/◌, ltb, arith}
+use Rattle.stack_base.proofs.NumberLemmas.{one_or_none}
 use Rattle.stack_base.specs.declared.stack.Stack.{Stack}
 use Rattle.stack_base.specs.Stack.{IsStack}
 use Rattle.stack_base.specs.Tree.{tree}
@@ -13,11 +14,6 @@ use Rattle.layout_model.proofs.Stacks.{tree_sound}
 -- what stands for a write where there is none
 abbrev pub no_write : Write
 no_write = record { task = 0; dev = record { 0 = 0 }; start = 0; count = 0; tag = 0 }
-
--- a choice between one and nothing
-one_or_none : (b : Bool) → cond b 1 0 ≤ 1
-one_or_none true = omega arith
-one_or_none false = omega arith
 
 module _ (stack : Stack) (good : IsStack stack) (write : Write) (served : IsWrite stack write) where
   -- a write needs its own bio and a vector besides what its run needs

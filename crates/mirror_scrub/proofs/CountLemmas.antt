@@ -5,8 +5,9 @@ use Rattle.std.proofs.lemmas.List.Sums.{sum_by_push, sum_by-append, sum_by-cons}
 use Rattle.image_lanes.specs.Lanes.{sectors, sectors_differ, unlike_of}
 use Rattle.image_lanes.proofs.SectorLemmas.{unlike_more}
 use Rattle.model_disks.specs.Runs.{flag, runs_from}
-use Rattle.stack_base.proofs.ListLemmas.{range_more}
-use Rattle.model_disks.proofs.WrittenLemmas.{no_runs, range_append}
+use Rattle.stack_base.proofs.ListLemmas.{range_joined, range_more}
+use Rattle.stack_base.proofs.NumberLemmas.{one_or_none}
+use Rattle.model_disks.proofs.WrittenLemmas.{no_runs}
 
 pub count_more : (f : ℕ → Bool) (n : ℕ) → count_by f (range_with_len 0 (n + 1)) ≡ count_by f (range_with_len 0 n) + cond (f n) 1 0
 count_more f n = ap (count_by f) (range_more n) ∙ sum_by_push (λ x. cond (f x) 1 0) (range_with_len 0 n) n
@@ -26,16 +27,12 @@ counts_along f g a b (suc n) same =
 
 pub count_on : (f : ℕ → Bool) (m n : ℕ) → count_by f (range_with_len 0 (m + n)) ≡ count_by f (range_with_len 0 m) + count_by f (range_with_len m n)
 count_on f m n =
-    ap (count_by f) (range_append 0 m n ∙ ap (λ (k : ℕ). range_with_len 0 m ++ range_with_len k n) (omega arith))
+    ap (count_by f) (range_joined 0 m n ∙ ap (λ (k : ℕ). range_with_len 0 m ++ range_with_len k n) (omega arith))
     ∙ sum_by-append (λ x. cond (f x) 1 0) (range_with_len 0 m) (range_with_len m n)
-
-one_most : (b : Bool) → cond b 1 0 ≤ 1
-one_most true = omega arith
-one_most false = omega arith
 
 pub count_le : (f : ℕ → Bool) (a n : ℕ) → count_by f (range_with_len a n) ≤ n
 count_le f a zero = omega arith
-count_le f a (suc n) = omega (arith, sum_by-cons (λ x. cond (f x) 1 0) a (range_with_len (a + 1) n), one_most (f a), count_le f (a + 1) n)
+count_le f a (suc n) = omega (arith, sum_by-cons (λ x. cond (f x) 1 0) a (range_with_len (a + 1) n), one_or_none (f a), count_le f (a + 1) n)
 
 -- the flags that are set are the numbers that pass
 pub count_flags : (f : ℕ → Bool) (xs : List ℕ) → count_by (λ (set : Bool). set) (map f xs) ≡ count_by f xs

@@ -4,10 +4,11 @@ use Rattle.std.specs.Prelude.{MatchOption}
 use Rattle.std.specs.List.{range_with_len, prefix_len}
 use Rattle.std.proofs.lemmas.List.{get_or_past, append-nil, drop-replicate, length-map}
 use Rattle.std.proofs.lemmas.List.Elements.{filter-append}
+use Rattle.stack_base.proofs.ListLemmas.{range_joined}
 use Rattle.stack_base.specs.declared.ids.Range.{Range}
 use Rattle.stack_base.specs.Words.{is_written}
 use Rattle.model_disks.specs.Runs.{flag, starts_run, run_at, runs_from, IsApart, IsNextRun, EndsInWord}
-use Rattle.model_disks.proofs.WrittenLemmas.{range_append, filter_none, unset_starts_none}
+use Rattle.model_disks.proofs.WrittenLemmas.{filter_none, unset_starts_none}
 
 -- the flags of an image whose front has these
 abbrev shown : List Bool → ℕ → List Bool
@@ -53,7 +54,7 @@ runs_shown flags more from =
     ∙ ap (λ (test : ℕ → Bool). map (run_at all) (filter test (range_with_len from (here + behind)))) starts
     ∙ ap (λ (run : ℕ → Range). map run (filter (starts_run flags) (range_with_len from (here + behind)))) runs
     ∙ ap (map (run_at flags))
-    (ap (filter (starts_run flags)) (range_append from here behind)
+    (ap (filter (starts_run flags)) (range_joined from here behind)
     ∙ filter-append (starts_run flags) (range_with_len from here) (range_with_len (from + here) behind)
     ∙ ap (λ rest. filter (starts_run flags) (range_with_len from here) ++ rest) none
     ∙ append-nil (filter (starts_run flags) (range_with_len from here)))

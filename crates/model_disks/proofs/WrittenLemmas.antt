@@ -1,24 +1,18 @@
 -- The runs of written sectors, from one to the next.
-use Rattle.std.proofs.Common.{◌≡◌, ◌+◌, ◌-◌, ◌<◌, ◌≤◌, inl, inr, ℕ, zero, suc, Bool, true, false, List, [], ◌∷◌, ◌++◌, map, filter, length, take, drop, zero-add, add-zero, refl, sym, ap, ◌∙◌, subst, arith, length-drop}
+use Rattle.std.proofs.Common.{◌≡◌, ◌+◌, ◌-◌, ◌<◌, ◌≤◌, inl, inr, ℕ, zero, suc, Bool, true, false, List, [], ◌∷◌, ◌++◌, map, filter, length, take, drop, refl, sym, ap, ◌∙◌, subst, arith, length-drop}
 use Rattle.std.specs.Bool.{beq}
 use Rattle.std.specs.List.{range_with_len, prefix_len, AllWithin}
 use Rattle.std.proofs.lemmas.List.{get_or-drop, get_or-take, get_or_past, length-take-le}
 use Rattle.std.proofs.lemmas.List.Elements.{filter-append}
 use Rattle.std.proofs.lemmas.Bool.{cases_eq}
 use Rattle.std.proofs.lemmas.Bool.Decides.{nat_tests}
+use Rattle.stack_base.proofs.ListLemmas.{range_joined}
 use Rattle.model_disks.specs.Runs.{flag, starts_run, run_at, runs_from, IsApart, IsFirst}
 
 -- no number of the range passes
 pub filter_none : (p : ℕ → Bool) (a m : ℕ) → ((x : ℕ) → a ≤ x → x < a + m → p x ≡ false) → filter p (range_with_len a m) ≡ []
 filter_none p a zero none = refl
 filter_none p a (suc m) none = rw (none a (omega arith) (omega arith)) (filter_none p (a + 1) m (λ x le lt. none x (omega arith) (omega arith)))
-
-pub range_append : (a m k : ℕ) → range_with_len a (m + k) ≡ range_with_len a m ++ range_with_len (a + m) k
-range_append a zero k = rw (zero-add, add-zero) refl
-range_append a (suc m) k =
-    let one : suc m + k ≡ suc (m + k) = omega arith in
-    let on : a + 1 + m ≡ a + suc m = omega arith in
-    rw one (ap (λ r. a ∷ r) (range_append (a + 1) m k ∙ ap (λ b. range_with_len (a + 1) m ++ range_with_len b k) on))
 
 -- the first m flags are set, and the next one is not
 prefix_is : (flags : List Bool) (m : ℕ) → ((x : ℕ) → x < m → flag flags x ≡ true) → flag flags m ≡ false → prefix_len (λ f. f) flags ≡ m
@@ -32,7 +26,7 @@ prefix_is (f ∷ fs) (suc m) set unset =
 -- numbers that do not pass can be passed over
 skip : (p : ℕ → Bool) (a m k b : ℕ) → b ≡ a + m → ((x : ℕ) → a ≤ x → x < b → p x ≡ false) → filter p (range_with_len a (m + k)) ≡ filter p (range_with_len b k)
 skip p a m k b is none =
-    ap (filter p) (range_append a m k)
+    ap (filter p) (range_joined a m k)
     ∙ filter-append p (range_with_len a m) (range_with_len (a + m) k)
     ∙ ap (λ front. front ++ filter p (range_with_len (a + m) k)) (filter_none p a m (λ x le lt. none x le (omega arith)))
     ∙ ap (λ c. filter p (range_with_len c k)) (sym is)

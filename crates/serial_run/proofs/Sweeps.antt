@@ -4,6 +4,7 @@ use Rattle.std.specs.Prelude.{IsTrue}
 use Rattle.std.proofs.Math.Nat.{add-mod_right, mod-add-mod, mod-eq_of_lt}
 use Rattle.std.proofs.lemmas.Nat.{mod_below}
 use Rattle.rand_pcg.specs.Lcg.{Lcg}
+use Rattle.stack_base.proofs.NumberLemmas.{below_or_last}
 use Rattle.run_machine.specs.declared.event.Event.{Event}
 use Rattle.run_machine.specs.declared.event.Got.TheVariants as got
 use Rattle.run_machine.specs.declared.event.What.{What}
@@ -112,14 +113,11 @@ module _ {V : Type 0} (happens : V → Event → V → Type 0) (old : Plain) (fi
     place = following ∙ ap (λ p. (p + 1) % length first) sweep.place ∙ next_place w passed (length first);
     words = stays.1 ∙ sweep.words;
     events = stays.2 ∙ sweep.events;
-    others = λ k lt. elim (before_or k passed lt) [ inl less ↦ sweep.others k less | inr same ↦ here k same ];
+    others = λ k lt. elim (below_or_last k passed lt) [ inl less ↦ sweep.others k less | inr same ↦ here k same ];
   }
     where
       stays : TriedOver happens now tasks spot words seen false new more after next
       stays = subst (λ b. TriedOver happens now tasks spot words seen b new more after next) none tried
-
-      before_or : (k p : ℕ) → k < p + 1 → (k < p) ⊎ (k ≡ p)
-      before_or k p lt = grind (arith, lt)
 
       here : (k : ℕ) → k ≡ passed → IsPassedOver (scene_of_objects old (length first)) (run_state old first) ((w + k) % length first)
       here k same =

@@ -1,5 +1,5 @@
--- Lists: what a test says of the elements, lists through functions, and a range with one more number.
-use Rattle.std.proofs.Common.{◌≡◌, ℕ, zero, suc, ◌+◌, ◌||◌, Bool, true, false, List, [], ◌∷◌, ◌++◌, map, Some, refl, sym, ap, ◌∙◌, arith}
+-- Lists: what a test says of the elements, lists through functions, and ranges.
+use Rattle.std.proofs.Common.{◌≡◌, ℕ, zero, suc, ◌+◌, ◌||◌, Bool, true, false, List, [], ◌∷◌, ◌++◌, map, Some, zero-add, add-zero, refl, sym, ap, ◌∙◌, arith}
 use Rattle.std.specs.Prelude.{All, slice_get}
 use Rattle.std.specs.List.{list_any, range_with_len}
 use Rattle.std.proofs.lemmas.Bool.{or_parts}
@@ -27,6 +27,11 @@ pub any_not : {X : Type 0} (p : X → Bool) (xs : List X) (i : ℕ) (x : X) → 
 any_not p [] i x none found = absurd (grind arith)
 any_not p (y ∷ ys) zero x none found = ap p (sym (same_Some y x found)) ∙ (or_parts (p y) (list_any p ys) none).0
 any_not p (y ∷ ys) (suc i) x none found = any_not p ys i x (or_parts (p y) (list_any p ys) none).1 found
+
+-- two tests that agree at each element find the same
+pub list_any_same : {X : Type 0} (p q : X → Bool) (xs : List X) → ((x : X) → p x ≡ q x) → list_any p xs ≡ list_any q xs
+list_any_same p q [] same = refl
+list_any_same p q (x ∷ xs) same = rw (same x) (ap (λ b. q x || b) (list_any_same p q xs same))
 
 or_swap : (a b c d : Bool) → ((a || b) || (c || d)) ≡ ((a || c) || (b || d))
 or_swap true b c d = refl
@@ -56,3 +61,11 @@ unmapped P f (x ∷ xs) all = All-cons (λ x. P (f x)) x xs (All-head P (f x) (m
 pub range_more : (n : ℕ) → range_with_len 0 (n + 1) ≡ range_with_len 0 n ++ n ∷ []
 range_more n =
     sym (map-id (range_with_len 0 (n + 1))) ∙ map-range_with_len_more (λ (i : ℕ). i) 0 n n (omega arith) ∙ ap (λ xs. xs ++ n ∷ []) (map-id (range_with_len 0 n))
+
+-- a range in two parts
+pub range_joined : (a m n : ℕ) → range_with_len a (m + n) ≡ range_with_len a m ++ range_with_len (a + m) n
+range_joined a zero n = rw (zero-add, add-zero) refl
+range_joined a (suc m) n =
+    let one : suc m + n ≡ suc (m + n) = omega arith in
+    let on : a + 1 + m ≡ a + suc m = omega arith in
+    rw one (ap (λ rest. a ∷ rest) (range_joined (a + 1) m n ∙ ap (λ b. range_with_len (a + 1) m ++ range_with_len b n) on))

@@ -3,7 +3,8 @@ use Rattle.std.proofs.Common.{◌≡◌, ◌≤◌, ℕ, ◌+◌, ◌==◌, ◌|
 use Rattle.std.specs.List.{list_any}
 use Rattle.std.proofs.lemmas.Bool.{cases_eq, eq-eqb, ne_eqb}
 use Rattle.std.proofs.lemmas.List.{get_or-set_same, get_or-set_other, at_drop_more, at_drop_all}
-use Rattle.stack_base.proofs.ListLemmas.{any_or}
+use Rattle.stack_base.proofs.ListLemmas.{any_or, list_any_same}
+use Rattle.stack_base.proofs.NumberLemmas.{eqb_flips}
 use Rattle.decl_text.specs.Checks.{is_among, repeats}
 
 -- the flag of a number
@@ -26,19 +27,6 @@ or_swap false true r true d is = refl
 or_swap false true r false d is = refl
 or_swap false false r c d is = is
 
-any_agree : {X : Type 0} (p q : X → Bool) (xs : List X) → ((x : X) → p x ≡ q x) → list_any p xs ≡ list_any q xs
-any_agree p q [] same = refl
-any_agree p q (x ∷ xs) same =
-    let first = same x in
-    let rest = any_agree p q xs same in
-    cc
-
-pub eqb_turned : (a b : ℕ) → (a == b) ≡ (b == a)
-eqb_turned a b = elim (cases_eq a b) [
-  | inl same ↦ eq-eqb a b same ∙ sym (eq-eqb b a (sym same))
-  | inr other ↦ ne_eqb a b other ∙ sym (ne_eqb b a (λ is. other (sym is)))
-]
-
 or_turned : (a b r s : Bool) → s ≡ (b || a) → (a || (b || r)) ≡ (s || r)
 or_turned true true r s is = ap (λ x. x || r) (sym is)
 or_turned true false r s is = ap (λ x. x || r) (sym is)
@@ -53,8 +41,8 @@ clash flags numbers = list_any (flag flags) numbers || repeats numbers
 pub clash_step : (flags : List Bool) (n : ℕ) (rest : List ℕ) → n < length flags → flag flags n ≡ false → clash flags (n ∷ rest) ≡ clash (set flags n true) rest
 clash_step flags n rest within free =
     let split : list_any (flag (set flags n true)) rest ≡ (list_any (λ m. n == m) rest || list_any (flag flags) rest) =
-    any_agree (flag (set flags n true)) (λ m. n == m || flag flags m) rest (λ m. flag_set flags n m within) ∙ any_or (λ m. n == m) (flag flags) rest in
-    let turned : list_any (λ m. n == m) rest ≡ is_among rest n = any_agree (λ m. n == m) (λ m. m == n) rest (λ m. eqb_turned n m) in
+    list_any_same (flag (set flags n true)) (λ m. n == m || flag flags m) rest (λ m. flag_set flags n m within) ∙ any_or (λ m. n == m) (flag flags) rest in
+    let turned : list_any (λ m. n == m) rest ≡ is_among rest n = list_any_same (λ m. n == m) (λ m. m == n) rest (λ m. eqb_flips n m) in
     ap (λ b. (b || list_any (flag flags) rest) || repeats (n ∷ rest)) free
     ∙ or_turned (list_any (flag flags) rest) (is_among rest n) (repeats rest) (list_any (flag (set flags n true)) rest)
     (split ∙ ap (λ b. b || list_any (flag flags) rest) turned)

@@ -8,6 +8,7 @@ use Rattle.std.proofs.lemmas.List.Elements.{All-push}
 use Rattle.std.proofs.lemmas.List.Folds.{list_any-append}
 use Rattle.std.proofs.lemmas.List.Sums.{sum_by_push}
 use Rattle.std.proofs.lemmas.Option.{slice_get_within, get_or_from_slice_get, same_Some}
+use Rattle.stack_base.proofs.NumberLemmas.{eqb_flips}
 use Rattle.stack_base.specs.Tree.{size}
 use Rattle.decl_text.specs.Text.{is_name}
 use Rattle.decl_text.specs.Known.{Declared, all_members, declared, device_of, number_in, sectors_of, tree_over, trees}
@@ -18,7 +19,6 @@ use Rattle.decl_text.specs.declared.item.What.TheVariants as what
 use Rattle.stack_check.specs.Rows.{device_reason, has_no_room, is_large, size_with, takes_taken}
 use Rattle.stack_check.specs.Sound.{AreSound, IsFit, HasNumbers, records_of_what}
 use lib.Dec.{eqb}
-use Rattle.stack_check.proofs.Flags.{eqb_turned}
 use Rattle.stack_check.proofs.DeviceLemmas.{names_known}
 use Rattle.stack_check.proofs.Kept.{all_members_push}
 use Rattle.decl_text.proofs.Unrefused.{cond_none}
@@ -94,7 +94,7 @@ none_first : (x : ℕ) (xs ys : List ℕ) → list_any (is_among (x ∷ xs)) ys 
 none_first x xs [] free = refl
 none_first x xs (y ∷ ys) free =
     let parts = or_parts (eqb x y || is_among xs y) (list_any (is_among (x ∷ xs)) ys) free in
-    or_from (eqb y x) (is_among ys x) (eqb_turned y x ∙ (or_parts (eqb x y) (is_among xs y) parts.0).0) (none_first x xs ys parts.1)
+    or_from (eqb y x) (is_among ys x) (eqb_flips y x ∙ (or_parts (eqb x y) (is_among xs y) parts.0).0) (none_first x xs ys parts.1)
 
 none_rest : (x : ℕ) (xs ys : List ℕ) → list_any (is_among (x ∷ xs)) ys ≡ false → list_any (is_among xs) ys ≡ false
 none_rest x xs [] free = refl

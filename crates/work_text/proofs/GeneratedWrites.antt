@@ -5,6 +5,7 @@ use Rattle.std.specs.List.{filter, list_any, zip}
 use Rattle.std.proofs.Math.Dec.{leb-zero}
 use Rattle.std.proofs.lemmas.Bool.{le-leb, le-ltb, leb-true}
 use Rattle.std.proofs.lemmas.List.Sums.{sum_by-append}
+use Rattle.stack_base.proofs.NumberLemmas.{one_or_none}
 use Rattle.decl_text.specs.Text.{is_name}
 use Rattle.decl_text.specs.Items.{meaning, number}
 use Rattle.decl_text.specs.Commands.{command_of}
@@ -65,11 +66,7 @@ and_no true b = refl
 and_no false b = refl
 
 vector_le : (count : ℕ) → vectors count ≤ 1
-vector_le count = go (nat_lt 4 ((count + 7) / 8))
-  where
-    go : (b : Bool) → cond b 1 0 ≤ 1
-    go true = omega arith
-    go false = omega arith
+vector_le count = one_or_none (nat_lt 4 ((count + 7) / 8))
 
 module _ (m0 m1 m2 m3 c0 c1 : List ℕ) where
   abbrev pub devices : List Declared

@@ -9,6 +9,7 @@ use Rattle.std.specs.List.{list_any, position, position_or_len, flat_map}
 use Rattle.std.proofs.lemmas.List.Folds.{list_any-append, list_any_none}
 use Rattle.std.proofs.lemmas.List.Sums.{position_or_len_is}
 use Rattle.std.proofs.lemmas.Slice.Eq.{bytes_eq-Decides}
+use Rattle.stack_base.proofs.ListLemmas.{list_any_same}
 use Rattle.stack_base.specs.Stack.{IsStack}
 use Rattle.decl_text.specs.Fit.{IsFitStack}
 use Rattle.stack_base.specs.declared.ids.DevId.{DevId}
@@ -38,10 +39,6 @@ list_any-map p f (x ∷ xs) = ap (λ b. p (f x) || b) (list_any-map p f xs)
 list_any-flat_map : {X Y : Type 0} (p : Y → Bool) (f : X → List Y) (xs : List X) → list_any p (flat_map f xs) ≡ list_any (λ x. list_any p (f x)) xs
 list_any-flat_map p f [] = refl
 list_any-flat_map p f (x ∷ xs) = list_any-append p (f x) (flat_map f xs) ∙ ap (λ b. list_any p (f x) || b) (list_any-flat_map p f xs)
-
-list_any_same : {X : Type 0} (p q : X → Bool) (xs : List X) → ((x : X) → p x ≡ q x) → list_any p xs ≡ list_any q xs
-list_any_same p q [] same = refl
-list_any_same p q (x ∷ xs) same = rw (same x) (ap (λ b. q x || b) (list_any_same p q xs same))
 
 flat_map-shown : (devices : List Device) → flat_map (λ device. device.members) (map shown devices) ≡ flat_map (λ (device : Device). map (λ (m : DevId). m.0) device.members.items) devices
 flat_map-shown [] = refl

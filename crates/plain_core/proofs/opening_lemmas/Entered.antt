@@ -1,10 +1,11 @@
 -- Tasks in their order, each found by its name.
-use Rattle.std.proofs.Common.{◌≡◌, ◌≢◌, ◌+◌, ◌<◌, ◌≤◌, ◌++◌, ◌⊎◌, inl, inr, ℕ, List, [], ◌∷◌, length, map, sym, ap, ◌∙◌, subst, arith, Some, length-append}
+use Rattle.std.proofs.Common.{◌≡◌, ◌≢◌, ◌+◌, ◌<◌, ◌≤◌, ◌++◌, inl, inr, ℕ, List, [], ◌∷◌, length, map, sym, ap, ◌∙◌, subst, arith, Some, length-append}
 use Rattle.std.specs.Prelude.{slice_get, slice_set}
 use Rattle.std.proofs.lemmas.List.{get_or-set_other, get_or-set_same, get_or_append_left, length-map, length-set, map-append}
 use Rattle.std.proofs.lemmas.List.Elements.{All-push, All-weaker}
 use Rattle.std.proofs.lemmas.Option.{slice_get-get_or, slice_get_within, get_or_from_slice_get}
 use Rattle.std.proofs.Math.Seq.{get_or-append_seam}
+use Rattle.stack_base.proofs.NumberLemmas.{below_or_last}
 use Rattle.run_machine.specs.Events.{id_of}
 use Rattle.run_machine.specs.Opened.{no_task}
 use Rattle.run_machine.specs.Tasks.{TaskState}
@@ -24,13 +25,10 @@ get_set_other xs i j x y ne is =
     slice_get-get_or (slice_set xs i y) j x (omega (arith, lt, length-set xs i y))
     ∙ ap Some (get_or-set_other xs i j y x ne ∙ get_or_from_slice_get xs j x x is)
 
-pub last_or : (k n : ℕ) → k < n + 1 → (k < n) ⊎ (k ≡ n)
-last_or k n lt = search (lt, arith)
-
 module _ (tasks : List TaskState) (task : TaskState) (places : List ℕ) (so_far : AreTasksEntered tasks places (slot_of (id_of task))) (small : slot_of (id_of task) < 73) where
   found_with : AreFound (slice_set places (slot_of (id_of task)) (length tasks)) (tasks ++ task ∷ [])
   found_with k lt =
-      elim (last_or k (length tasks) (omega (arith, lt, length-append tasks (task ∷ [])))) [
+      elim (below_or_last k (length tasks) (omega (arith, lt, length-append tasks (task ∷ [])))) [
         | inl before ↦
             let same : task_at (tasks ++ task ∷ []) k ≡ task_at tasks k = get_or_append_left tasks (task ∷ []) no_task k before in
             let lower = so_far.below k no_task before in

@@ -2,6 +2,7 @@
 use Rattle.std.proofs.Common.{◌≡◌, ◌+◌, ◌<◌, inl, inr, ℕ, zero, suc, List, [], ◌∷◌, length, map, refl, sym, ap, ◌∙◌, subst, arith, Some}
 use Rattle.std.specs.Prelude.{slice_get}
 use Rattle.std.proofs.lemmas.List.{length-map}
+use Rattle.stack_base.proofs.NumberLemmas.{below_or_last}
 use Rattle.run_machine.specs.declared.event.TaskId.{TaskId}
 use Rattle.run_machine.specs.Events.{id_of}
 use Rattle.run_machine.specs.Maps.{upd}
@@ -13,7 +14,6 @@ use Rattle.plain_core.specs.objects.Plain.{CoreObjects}
 use Rattle.plain_core.specs.steps.Views.{task_of_plain}
 use Rattle.plain_core.specs.Cores.{CoreState, scene_of_core, state_of_core, task_at}
 use Rattle.plain_core.specs.steps.Free.{IsFirstFree, IsFreeAt, TaskIsFree}
-use Rattle.plain_core.proofs.opening_lemmas.Entered.{last_or}
 
 pub free_at : (c : CoreState) (place : ℕ) → place < length c.tasks → TaskIsFree c.routing c.objects (task_at c.tasks place) → IsFreeAt c place
 free_at c place here f = record {
@@ -60,7 +60,7 @@ found_not routing objects tasks place x is never =
 
 -- one more task can't
 pub next_is_not : (c : CoreState) (place : ℕ) → ((k : ℕ) → k < place → IsFreeAt c k → ⊥) → (IsFreeAt c place → ⊥) → (k : ℕ) → k < place + 1 → IsFreeAt c k → ⊥
-next_is_not c place before here k lt = elim (last_or k place lt) [
+next_is_not c place before here k lt = elim (below_or_last k place lt) [
   | inl less ↦ before k less
   | inr last ↦ λ f. here (subst (IsFreeAt c) last f)
 ]

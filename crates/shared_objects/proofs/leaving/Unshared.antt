@@ -1,9 +1,9 @@
 -- An object that was not shared has no history.
-use Rattle.std.proofs.Common.{◌≡◌, ◌==◌, ℕ, Bool, true, false, List, [], ◌∷◌, arith, refl, sym, ◌∙◌, map, true≢false}
+use Rattle.std.proofs.Common.{◌≡◌, ◌==◌, ℕ, Bool, true, false, List, [], ◌∷◌, refl, sym, ◌∙◌, map, true≢false}
 use Rattle.std.specs.Prelude.{◌++◌, if◌then◌else◌}
 use Rattle.std.specs.List.{list_any}
 use Rattle.std.proofs.lemmas.Bool.{or_parts}
-use Rattle.std.proofs.lemmas.Bool.Decides.{nat_tests}
+use Rattle.stack_base.proofs.NumberLemmas.{eqb_flips}
 use Rattle.run_machine.specs.Laws.{Object, OfPool, OfRescuer, OfDisk, OfBook, OfTally, OfNone}
 use Rattle.task_core.specs.Plains.{is_bios_number}
 use Rattle.task_core.specs.Tables.{look_up}
@@ -18,15 +18,12 @@ apart_any p [] ys e = (refl, e)
 apart_any p (x ∷ xs) ys e =
     let parts = or_parts (p x) (list_any p (xs ++ ys)) e in let rest = apart_any p xs ys parts.1 in (rw (parts.0) rest.0, rest.1)
 
-turned : (a b : ℕ) → (a == b) ≡ (b == a)
-turned a b = grind (arith, nat_tests)
-
 not_there : {E X : Type 0} (name : Object) (n : ℕ) (key : E → ℕ) (of : E → Object) (value : E → X) (none : ℕ → X) → ((e : E) → is_same_object name (of e) ≡ (n == key e))
     → (es : List E) → list_any (is_same_object name) (map of es) ≡ false → look_up key value none es n ≡ none n
 not_there name n key of value none same [] e = refl
 not_there name n key of value none same (x ∷ xs) e =
     let parts = or_parts (is_same_object name (of x)) (list_any (is_same_object name) (map of xs)) e in
-    let other : (key x == n) ≡ false = turned (key x) n ∙ sym (same x) ∙ parts.0 in
+    let other : (key x == n) ≡ false = eqb_flips (key x) n ∙ sym (same x) ∙ parts.0 in
     let rest = not_there name n key of value none same xs parts.1 in rw (other) rest
 
 module _ (closed : Closed) where

@@ -1,5 +1,5 @@
 -- Objects of one kind are opened one behind the other.
-use Rattle.std.proofs.Common.{◌≡◌, ◌≢◌, ◌⊎◌, inl, inr, ◌+◌, ◌<◌, ◌≤◌, ◌==◌, ◌++◌, ℕ, Bool, true, false, List, [], ◌∷◌, length, map, filter, get_or, set, Some, None, refl, sym, ap, subst, ◌∙◌, arith, length-append, find}
+use Rattle.std.proofs.Common.{◌≡◌, ◌≢◌, inl, inr, ◌+◌, ◌<◌, ◌≤◌, ◌==◌, ◌++◌, ℕ, Bool, true, false, List, [], ◌∷◌, length, map, filter, get_or, set, Some, None, refl, sym, ap, subst, ◌∙◌, arith, length-append, find}
 use Rattle.std.specs.List.{position_or_len, range_with_len}
 use Rattle.std.specs.Option.{option_or}
 use Rattle.std.proofs.lemmas.List.{append-nil, get_or-set_same, get_or-set_other, length-set, map-append}
@@ -10,9 +10,7 @@ use Rattle.task_core.specs.Tables.{is_entry_of, IsEntryAt}
 use Rattle.task_core.specs.opened.Filled.{AreMade, IsNext}
 use Rattle.task_core.proofs.NumberTests.{is_itself, is_apart, clash, lt_or}
 use Rattle.stack_base.proofs.ListLemmas.{range_more}
-
-pub below_or_last : (i n : ℕ) → i < n + 1 → (i < n) ⊎ (i ≡ n)
-below_or_last i n lt = search (lt, arith)
+use Rattle.stack_base.proofs.NumberLemmas.{below_or_last}
 
 -- what is found is found with one more, and what is not found is the last where this passes
 still_found : {E : Type 0} (p : E → Bool) (xs : List E) (x e : E) → find p xs ≡ Some e → find p (xs ++ x ∷ []) ≡ Some e

@@ -20,6 +20,7 @@ use Rattle.run_machine.specs.Scene.{Setup, is_disk}
 use Rattle.run_machine.specs.Opened.{at, is_by, numbered, numbered_from, share_of, nodes_of, is_writer, writers_of}
 use Rattle.run_machine.specs.Tasks.{Todo, TaskState, NoBio, Empty, Writer, Rescuer, Completer}
 use Rattle.run_machine.proofs.Passing.{filter_sum, none_passes}
+use Rattle.stack_base.proofs.NumberLemmas.{below_or_last}
 use Rattle.task_core.proofs.NumberTests.{clash}
 use Rattle.task_core.proofs.opened.Filling as fill
 
@@ -131,7 +132,7 @@ module _ (stack : Stack) (rounds : List ℕ) (writes : List Write) (shared : Are
       → new ≡ set places bound (nodes_of stack (share_of rounds writes bound)) → ArePlaced stack rounds writes (bound + 1) new
   placed_more bound places new placed lt is = subst (ArePlaced stack rounds writes (bound + 1)) (sym is) (record {
     eight = length-set places bound (nodes_of stack (share_of rounds writes bound)) ∙ placed.eight;
-    each = λ writer below. elim (fill.below_or_last writer bound below) [
+    each = λ writer below. elim (below_or_last writer bound below) [
       | inl before ↦
           get_or-set_other places bound writer (nodes_of stack (share_of rounds writes bound)) 0 (fill.not_itself writer bound before) ∙ placed.each writer before
       | inr last ↦
