@@ -1,5 +1,5 @@
 -- The way of a sector at a mirror, by the member that the first choice names; and at a disk.
-use Rattle.std.proofs.Common.{◌≡◌, ◌↔◌, ℕ, zero, suc, ◌-◌, ◌≤◌, List, [], ◌∷◌, length, get_or, take, drop, Some, refl, sym, ap, ◌∙◌, subst, arith}
+use Rattle.std.proofs.Common.{◌≡◌, ◌↔◌, ℕ, ◌-◌, ◌≤◌, List, [], ◌∷◌, length, get_or, take, drop, Some, refl, sym, ap, ◌∙◌, subst, arith}
 use Rattle.std.specs.Prelude.{slice_get}
 use Rattle.std.proofs.lemmas.List.{take_all, length-map}
 use Rattle.std.proofs.lemmas.Option.{slice_get_within}
@@ -11,11 +11,6 @@ use Rattle.stack_base.specs.Stack.{IsStack}
 use Rattle.layout_model.specs.Way.{FitsWay, place, heads}
 use Rattle.layout_model.proofs.ByShape.{copies_is, keeps_is, member_is}
 use Rattle.layout_model.proofs.MirrorLemmas.{leg_fits, leg_place}
-
--- what is not 0 is 1 at least
-pub some_from : (n : ℕ) → (n ≡ 0 → ⊥) → 1 ≤ n
-some_from zero none = absurd (none refl)
-some_from (suc n) none = omega arith
 
 module _ (stack : Stack) (good : IsStack stack) (number : ℕ) (device : Device) (found : slice_get stack.devices.items number ≡ Some device)
     (copies : shape_of device.kind ≡ Copies) where

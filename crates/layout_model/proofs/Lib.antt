@@ -14,7 +14,6 @@ pub mod ShownLemmas
 pub mod Closed
 pub mod CountFrags
 pub mod PlanLists
-pub mod PieceLength
 pub mod Planned
 pub mod PlanLaws
 pub mod Apart

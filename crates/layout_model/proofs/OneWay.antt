@@ -1,5 +1,5 @@
 -- At most one sector of the writes of one round has a way to a sector of a disk.
-use Rattle.std.proofs.Common.{◌≡◌, ◌≢◌, ◌⊎◌, ℕ, zero, suc, ◌+◌, ◌<◌, ◌≤◌, List, [], ◌∷◌, map, length, get_or, Option, None, Some, refl, sym, ◌∙◌, ap, subst, inl, inr, arith}
+use Rattle.std.proofs.Common.{◌≡◌, ◌≢◌, ℕ, zero, suc, ◌+◌, ◌<◌, ◌≤◌, List, [], ◌∷◌, map, length, get_or, Option, None, Some, refl, sym, ◌∙◌, ap, subst, inl, inr, arith}
 use Rattle.std.specs.Prelude.{slice_get, All}
 use Rattle.std.proofs.lemmas.Bool.{cases_eq}
 use Rattle.std.proofs.lemmas.List.{length-map, get_or-map}
@@ -14,6 +14,7 @@ use Rattle.stack_base.specs.Stack.{HasShape, IsStack}
 use Rattle.stack_base.proofs.Smallest.{smallest_le}
 use Rattle.stack_base.proofs.Inside.{IsInside, kind_inside}
 use Rattle.stack_base.proofs.Unfolded.{tree_is}
+use Rattle.stack_base.proofs.NumberLemmas.{in_order}
 use Rattle.layout_model.specs.declared.write.Write.{Write}
 use Rattle.layout_model.specs.Way.{FitsWay, Place, place}
 use Rattle.layout_model.specs.Fragments.{IsFragmentOf, IsIn}
@@ -210,6 +211,3 @@ one_way_a_round stack writes rounds i j disk at a b good served apart found othe
 
     of_write : (P : Write → Type 0) → All P writes → (k : ℕ) (write : Write) → slice_get writes k ≡ Some write → P write
     of_write P all k write at = subst P (get_or_from_slice_get writes k write write at) (All-get_or P writes k write (slice_get_within writes k write at) all)
-
-    in_order : (m n : ℕ) → (m < n) ⊎ (m ≡ n) ⊎ (n < m)
-    in_order m n = grind arith

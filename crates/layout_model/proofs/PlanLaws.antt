@@ -4,6 +4,7 @@ use Rattle.std.specs.List.{AllPairs}
 use Rattle.stack_base.specs.Mapping.{slot, head}
 use Rattle.stack_base.specs.Cutting.{next}
 use Rattle.stack_base.specs.Tree.{tree}
+use Rattle.stack_base.proofs.Heads.{piece_only}
 use Rattle.layout_model.specs.Fragments.{IsFragmentOf, AreOther}
 use Rattle.layout_model.specs.Laws.{IsCutOff, PlanOfPieces, PlanOfLegs, PlanOfDisk, PlanGivesFragments, PlanKeepsOrder, PlanTakesNeeded, FragmentsAreCounted, TreesAreSound, PlanFragmentsDiffer}
 use Rattle.layout_model.proofs.Sound.{cut_of_split}
@@ -11,7 +12,6 @@ use Rattle.layout_model.proofs.Whole.{frags_are}
 use Rattle.layout_model.proofs.Apart.{frags_distinct}
 use Rattle.layout_model.proofs.CountFrags.{fragments_of_is_length}
 use Rattle.layout_model.proofs.Stacks.{tree_sound, tree_apart}
-use Rattle.layout_model.proofs.PieceLength.{piece_length}
 use Rattle.layout_model.proofs.Planned.{pieces_first, legs_are, whole_is, leaves_plan, takes_plan}
 
 -- a run's first piece, wherever its number of sectors comes from
@@ -20,7 +20,7 @@ plan_of_pieces number kind sizes members write offset start len piece sound is =
     let cut = cut_of_split number kind sizes members sound in
     subst (λ place. IsCutOff number kind sizes members write offset start len place.member place.at piece.len) is.place
     (pieces_first number kind sizes members write offset start len piece.len cut (omega (arith, is.some, is.within))
-    (piece_length (head kind sizes) (next kind sizes) (slot kind sizes) cut start len piece.len is.some is.within is.exact))
+    (piece_only (head kind sizes) (next kind sizes) (slot kind sizes) cut start len piece.len is.some is.within is.exact))
 
 -- a mirror's plan
 pub plan_of_legs : PlanOfLegs

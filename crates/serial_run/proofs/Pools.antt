@@ -15,6 +15,7 @@ use Rattle.stack_base.specs.declared.ids.PoolId.TheVariants.{FsBios, FsVecs}
 use Rattle.stack_base.specs.PoolId.{pool_number}
 use Rattle.mempool_core.specs.declared.Facts.{Facts}
 use Rattle.stack_base.proofs.Unfolded.{tree_is}
+use Rattle.stack_base.proofs.NumberLemmas.{zero_or}
 use Rattle.task_core.specs.Leaving.{falling_from, falling_pools, pools_at}
 use Rattle.run_machine.specs.Objects.{Objects}
 use Rattle.run_machine.specs.Opened.{at}
@@ -130,9 +131,6 @@ module _ (objects : Objects) (stack : Stack) (good : IsStack stack) (before : Li
 -- where there is no task, there is no device
 pub no_devices : {T : Type 0} (tasks : List T) (count : ℕ) → (1 ≤ count → 1 ≤ length tasks) → None ≡ slice_get tasks 0 → 0 ≡ count
 no_devices [] count some none = elim (zero_or count) [ inl nothing ↦ sym nothing | inr one ↦ absurd (let no = some one in omega (arith, no)) ]
-  where
-    zero_or : (n : ℕ) → (n ≡ 0) ⊎ (1 ≤ n)
-    zero_or n = grind arith
 no_devices (task ∷ more) count some none = absurd cc
 
 -- and of all pools

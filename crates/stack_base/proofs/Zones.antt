@@ -236,7 +236,7 @@ module _ (counts : List ℕ) where
   ]
 
 -- a fold of maxima is at least its start, and each element
-fold_max_start : (c : ℕ) (cs : List ℕ) → c ≤ fold max c cs
+pub fold_max_start : (c : ℕ) (cs : List ℕ) → c ≤ fold max c cs
 fold_max_start c [] = omega arith
 fold_max_start c (d ∷ cs) = omega (arith, fold_max_start (max c d) cs)
 

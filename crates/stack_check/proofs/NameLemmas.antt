@@ -1,8 +1,7 @@
 -- Names are short texts.
-use Rattle.std.proofs.Common.{◌≡◌, ℕ, ◌&&◌, ◌<◌, ◌≤◌, true, not, codes, List, [], ◌∷◌, length, Result, Ok, Err, refl, arith}
+use Rattle.std.proofs.Common.{◌≡◌, ℕ, ◌&&◌, ◌<◌, ◌≤◌, true, not, codes, List, [], ◌∷◌, length, arith}
 use Rattle.std.specs.Prelude.{IsTrue, nat_le}
 use Rattle.std.specs.List.{list_all}
-use Rattle.std.specs.Result.{MatchResult, IsOk}
 use Rattle.std.specs.Str.{IsAscii, IsUtf8, bytes_eq}
 use Rattle.std.proofs.lemmas.Bool.{and_parts, leb-true}
 use Rattle.std.proofs.lemmas.Bool.Decides.{nat_tests}
@@ -33,10 +32,3 @@ name_short word is = (name_parts word is).0
 
 pub name_is_text : (word : List ℕ) → IsTrue (is_name word) → IsUtf8 word
 name_is_text word is = IsUtf8-from_ascii word (names_are_ascii word (name_parts word is).1)
-
--- what `from_utf8` says of a text
-pub text_is_read :
-    {S E : Type 0} (word : List ℕ) (r : Result S E) (P : S → Type 0) (Q : E → Type 0) → IsUtf8 word
-    → MatchResult r (λ s. P s × IsUtf8 word) (λ e. ¬ (IsUtf8 word) × Q e) → IsOk r
-text_is_read word (Ok s) P Q text read = refl
-text_is_read word (Err e) P Q text read = absurd (read.0 text)

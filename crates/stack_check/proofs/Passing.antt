@@ -8,7 +8,7 @@ use Rattle.std.proofs.lemmas.List.Elements.{All-push}
 use Rattle.std.proofs.lemmas.List.Folds.{list_any-append}
 use Rattle.std.proofs.lemmas.List.Sums.{sum_by_push}
 use Rattle.std.proofs.lemmas.Option.{slice_get_within, get_or_from_slice_get, same_Some}
-use Rattle.stack_base.proofs.NumberLemmas.{eqb_flips}
+use Rattle.stack_base.proofs.NumberLemmas.{eqb_flips, nonzero}
 use Rattle.stack_base.specs.Tree.{size}
 use Rattle.decl_text.specs.Text.{is_name}
 use Rattle.decl_text.specs.Known.{Declared, all_members, declared, device_of, number_in, sectors_of, tree_over, trees}
@@ -84,10 +84,6 @@ has_numbers (what.Stripe chunk) members reserve rescuer formed = formed
 has_numbers (what.Zoned chunk) members reserve rescuer formed = formed
 has_numbers (what.Limit longest chunk) members reserve rescuer formed = formed
 has_numbers (what.Mirror records) members reserve rescuer formed = tt
-
-nonzero : (n : ℕ) → (n ≡ 0 → ⊥) → 1 ≤ n
-nonzero zero some = absurd (some refl)
-nonzero (suc n) some = omega arith
 
 -- a list that has none of some numbers has not the first, nor one of the rest
 none_first : (x : ℕ) (xs ys : List ℕ) → list_any (is_among (x ∷ xs)) ys ≡ false → is_among ys x ≡ false

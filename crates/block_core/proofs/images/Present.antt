@@ -3,6 +3,7 @@ use Rattle.std.proofs.Common.{◌≡◌, ◌*◌, ◌<◌, ◌⊎◌, ℕ, List,
 use Rattle.bio_books.specs.Books.{Node, node_at, parent_of}
 use Rattle.bio_books.specs.Drops.{Closed}
 use Rattle.stack_base.specs.declared.ids.DevId.{DevId}
+use Rattle.stack_base.proofs.NumberLemmas.{in_order}
 use Rattle.run_machine.specs.Scene.{Scene}
 use Rattle.run_machine.specs.Tasks.{Completer, Carries}
 use Rattle.run_machine.specs.Opened.{scene, start, setup as setup_in}
@@ -31,9 +32,6 @@ top_present rounds keeper scene s i t writer key node at is = by_order (in_order
     r : ℕ
     r = round_of rounds node.write
 
-    in_order : (a b : ℕ) → (a < b) ⊎ (a ≡ b) ⊎ (b < a)
-    in_order a b = grind arith
-
     worth : tops node.role * one r r ≡ 1
     worth = ap (λ n. n * one r r) (top_is node.role is) ∙ ap (λ n. 1 * n) (one-same r)
 
@@ -49,9 +47,6 @@ carried_present rounds keeper scene s t place disk writer closed here is top = b
   where
     r : ℕ
     r = round_of rounds closed.write
-
-    in_order : (a b : ℕ) → (a < b) ⊎ (a ≡ b) ⊎ (b < a)
-    in_order a b = grind arith
 
     worth : tops_left closed.parent * one r r ≡ 1
     worth = ap (λ parent. tops_left parent * one r r) top ∙ ap (λ n. 1 * n) (one-same r)

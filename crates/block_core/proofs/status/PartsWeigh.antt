@@ -4,6 +4,7 @@ use Rattle.std.specs.Prelude.{sum_by, Contains}
 use Rattle.std.specs.List.{range_with_len}
 use Rattle.std.proofs.lemmas.List.Sums.{sum_by-cons}
 use Rattle.stack_base.specs.declared.ids.DevId.{DevId}
+use Rattle.stack_base.proofs.NumberLemmas.{zero_or}
 use Rattle.bio_records.specs.declared.bio.Bio.{Bio}
 use Rattle.bio_records.specs.declared.bio.Pad.{Pad}
 use Rattle.bio_records.specs.Items.{Item}
@@ -18,7 +19,7 @@ use Rattle.block_core.specs.Weights.{Weight, Spot, Lined, Rescued, Pending, Brou
 use Rattle.block_core.specs.AtWork.{DoingHolds, SubmissionHolds, CarriedHolds, SubmissionOf, IsBrought, IsInDisk, IsAtWork}
 use Rattle.block_core.proofs.images.PlannedOnce.{term_in}
 use Rattle.block_core.proofs.moves.Totals.{part_of, task_part}
-use Rattle.block_core.proofs.stuck.NothingWaits.{zero_or, some_place}
+use Rattle.block_core.proofs.stuck.NothingWaits.{some_place}
 
 pub some_in : {X : Type 0} (f : X → ℕ) (xs : List X) → 1 ≤ sum_by f xs → (x : X) × Contains xs x × (1 ≤ f x)
 some_in f [] h = absurd (omega (arith, h))

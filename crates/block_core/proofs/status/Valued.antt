@@ -9,6 +9,7 @@ use Rattle.stack_base.specs.declared.ids.DevId.{DevId}
 use Rattle.stack_base.specs.declared.ids.Status.{Status}
 use Rattle.stack_base.specs.declared.ids.Status.TheVariants.{Ok, Io, Medium, NoSpace}
 use Rattle.stack_base.specs.Tree.{Tree, Leaf, Split, Mirrored, tree}
+use Rattle.stack_base.proofs.NumberLemmas.{zero_or}
 use Rattle.layout_model.specs.declared.fragment.Fragment.{Fragment}
 use Rattle.layout_model.specs.declared.write.Write.{Write}
 use Rattle.layout_model.specs.Plan.{plan}
@@ -34,7 +35,7 @@ use Rattle.block_core.proofs.moves.Sums.{apart}
 use Rattle.block_core.proofs.moves.Totals.{task_part}
 use Rattle.block_core.proofs.sound.Facts.{Kept}
 use Rattle.block_core.proofs.stuck.Idle.{node_part}
-use Rattle.block_core.proofs.stuck.NothingWaits.{zero_or, both, one-eq}
+use Rattle.block_core.proofs.stuck.NothingWaits.{both, one-eq}
 use Rattle.block_core.proofs.status.PartsWeigh.{in_range, some_in_range, in_disk, is_brought, submission_within, at_work, Weighs, IsOfWork, some_weighs}
 use Rattle.block_core.proofs.status.Marks.{yes, is, may, bio_may, leg_may, todo_may, write_may, Mark, allowed_by, allowed, decides, lack, mismatch, kind_is, above, unallowed, deciding, IsMarked}
 use Rattle.block_core.proofs.status.NodeBios.{AreOfBios}

@@ -1,6 +1,7 @@
 -- A task that does not stand still has an event that needs no ordinary memory.
 use Rattle.std.proofs.Common.{◌≡◌, ◌*◌, ◌<◌, ◌≤◌, ◌⊎◌, ℕ, Bool, true, false, IsTrue, List, [], ◌∷◌, Option, None, Some, inl, inr, refl, sym, ◌∙◌, ap, subst, arith}
 use Rattle.stack_base.specs.declared.ids.DevId.{DevId}
+use Rattle.stack_base.proofs.NumberLemmas.{zero_or}
 use Rattle.mempool_core.specs.Move.{takes_spare}
 use Rattle.bio_records.specs.declared.bio.Pad.{Pad}
 use Rattle.bio_records.specs.declared.tasks.TaskLists.{TaskLists}
@@ -36,7 +37,7 @@ use Rattle.block_core.specs.Rooms.{todo_need, HasRoomInBooks}
 use Rattle.block_core.proofs.unrefused.NodeNeeds.{Needs}
 use Rattle.block_core.proofs.unrefused.VacantPlaces.{has_vacant}
 use Rattle.block_core.proofs.sound.Posts.{TakenFits, AtPost, Posted}
-use Rattle.block_core.proofs.stuck.NothingWaits.{spares, StillDoing, StillTaken, StillWriter, StillRescuer, IsStill, zero_or}
+use Rattle.block_core.proofs.stuck.NothingWaits.{spares, StillDoing, StillTaken, StillWriter, StillRescuer, IsStill}
 use Rattle.block_core.proofs.stuck.FreeEvents.{HasNumbers, some_needs, free_of, link_serves}
 use Rattle.block_core.proofs.stuck.SubmissionsFree.{submission_free}
 use Rattle.block_core.proofs.stuck.CompletersFree.{complete_free, drop_free, carries_free}

@@ -4,6 +4,7 @@ use Rattle.std.specs.Prelude.{sum_by}
 use Rattle.std.proofs.lemmas.List.Sums.{sum_by-cons}
 use Rattle.stack_base.specs.Tree.{Tree, Leaf, Split, Mirrored}
 use Rattle.stack_base.proofs.ListLemmas.{Each}
+use Rattle.stack_base.proofs.NumberLemmas.{zero_or}
 use Rattle.bio_records.specs.declared.bio.Bio.{Bio}
 use Rattle.bio_records.specs.declared.bio.Pad.{Pad}
 use Rattle.bio_records.specs.declared.tasks.TaskLists.{TaskLists}
@@ -91,9 +92,6 @@ pub record Below (setup : Setup) (s : State) (level : ℕ) : Type 0 where
 
 pub lower : (setup : Setup) (s : State) (a b : ℕ) → a ≤ b → Below setup s a → Below setup s b
 lower setup s a b le below = let lt = below.low in record { pool = below.pool; low = omega (arith, lt, le); empty = below.empty; is = below.is }
-
-pub zero_or : (k : ℕ) → (k ≡ 0) ⊎ (1 ≤ k)
-zero_or k = grind arith
 
 -- a sum that is not 0 has a place that is not 0
 pub some_place : {X : Type 0} (w : ℕ → X → ℕ) (n : ℕ) (f : ℕ → X) → 1 ≤ sum_at w n f → (i : ℕ) × (i < n) × (1 ≤ w i (f i))

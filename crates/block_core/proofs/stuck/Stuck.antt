@@ -5,6 +5,7 @@ use Rattle.std.proofs.lemmas.Bool.{eq-eqb}
 use Rattle.stack_base.specs.declared.ids.DevId.{DevId}
 use Rattle.stack_base.specs.PoolId.{pool_number}
 use Rattle.stack_base.proofs.ListLemmas.{Each}
+use Rattle.stack_base.proofs.NumberLemmas.{zero_or}
 use Rattle.mempool_core.specs.Move.{resizes}
 use Rattle.bio_records.specs.declared.tasks.TaskLists.{TaskLists}
 use Rattle.bio_books.specs.Books.{Node, node_at, keeping}
@@ -34,7 +35,7 @@ use Rattle.block_core.proofs.sound.EventStages.{zeros, submission_zero}
 use Rattle.block_core.proofs.sound.Rounds.{TodosFit, TaskRounds, Tallied}
 use Rattle.block_core.proofs.unrefused.NodeNeeds.{Needs}
 use Rattle.block_core.proofs.sound.Posts.{ByRounds, starts, AtPost, Posted}
-use Rattle.block_core.proofs.stuck.NothingWaits.{IsPool, spares, StillDoing, StillTaken, StillWriter, IsStill, AllStill, zero_or, some_place, submission_below}
+use Rattle.block_core.proofs.stuck.NothingWaits.{IsPool, spares, StillDoing, StillTaken, StillWriter, IsStill, AllStill, some_place, submission_below}
 use Rattle.block_core.proofs.stuck.WaitersBelow.{Known, none_open, all_home, has_spare}
 use Rattle.block_core.proofs.stuck.Frees.{task_free}
 use Rattle.block_core.proofs.stuck.FreeEvents.{HasNumbers, free_of}

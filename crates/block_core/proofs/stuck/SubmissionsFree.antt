@@ -2,6 +2,7 @@
 use Rattle.std.proofs.Common.{◌≡◌, ◌+◌, ◌*◌, ◌<◌, ◌≤◌, ◌⊎◌, ◌++◌, ℕ, Bool, true, false, Some, inl, inr, refl, sym, ap, subst, arith}
 use Rattle.stack_base.specs.declared.ids.DevId.{DevId}
 use Rattle.stack_base.specs.declared.ids.SetId.TheVariants.{Of}
+use Rattle.stack_base.proofs.NumberLemmas.{zero_or}
 use Rattle.mempool_core.specs.Move.{takes_spare, misses}
 use Rattle.bio_records.specs.declared.tasks.TaskLists.{TaskLists}
 use Rattle.bioset_pools.specs.Sets.{bios_of}
@@ -34,7 +35,7 @@ use Rattle.block_core.specs.Rooms.{need_at, legs_need, room, HasRoomInBooks}
 use Rattle.block_core.proofs.moves.Totals.{task_part, submission_part}
 use Rattle.block_core.proofs.unrefused.NodeNeeds.{Needs, mirror_need, cut_need, legs_few}
 use Rattle.block_core.proofs.unrefused.VacantPlaces.{HasVacant, has_vacant}
-use Rattle.block_core.proofs.stuck.NothingWaits.{spares, StillWant, StillDoing, zero_or}
+use Rattle.block_core.proofs.stuck.NothingWaits.{spares, StillWant, StillDoing}
 use Rattle.block_core.proofs.stuck.Idle.{open_in_books, open_at}
 use Rattle.block_core.proofs.stuck.FreeEvents.{HasNumbers, some_needs, free_submission, link_serves}
 

@@ -20,11 +20,12 @@ use Rattle.block_core.proofs.sound.Facts.{DoingFits, SubmissionFits, TaskFits, K
 use Rattle.block_core.proofs.sound.TaskSubmissions.{IsBusy}
 use Rattle.block_core.proofs.sound.Orders.{IsOwn, DoingPlaced, TaskPlaced, Placed, Ground}
 use Rattle.std.specs.Prelude.{min}
+use Rattle.stack_base.proofs.NumberLemmas.{zero_or}
 use Rattle.block_core.proofs.sound.Alive.{IsAlive}
 use Rattle.block_core.proofs.moves.Totals.{part_of}
 use Rattle.block_core.proofs.sound.OffLevels.{bio_off, parent_off, held_off, off_levels}
 use Rattle.block_core.proofs.stuck.Waits.{DoingWaits, TaskWaits, Waits}
-use Rattle.block_core.proofs.stuck.NothingWaits.{IsPool, spares, StillDoing, StillWriter, StillRescuer, IsStill, AllStill, Below, lower, zero_or, some_place, some_one, one-eq, both, Found, submission_found, submission_below}
+use Rattle.block_core.proofs.stuck.NothingWaits.{IsPool, spares, StillDoing, StillWriter, StillRescuer, IsStill, AllStill, Below, lower, some_place, some_one, one-eq, both, Found, submission_found, submission_below}
 
 -- what holds of a state of a run, so far as no task waits for itself
 pub record Known (scene : Scene) (s : State) (level : ℕ → ℕ → ℕ) : Type 0 where

@@ -3,6 +3,7 @@ use Rattle.std.proofs.Common.{◌≡◌, ◌*◌, ◌<◌, ◌⊎◌, ℕ, List,
 use Rattle.std.specs.Prelude.{sum, slice_index_or}
 use Rattle.stack_base.specs.declared.ids.DevId.{DevId}
 use Rattle.stack_base.specs.declared.ids.PoolId.{PoolId}
+use Rattle.stack_base.proofs.NumberLemmas.{in_order}
 use Rattle.bio_books.specs.Books.{Node, node_at, parent_of}
 use Rattle.bio_books.specs.Drops.{Closed}
 use Rattle.run_machine.specs.Scene.{Scene}
@@ -35,14 +36,11 @@ module _ (rounds : List ℕ) (keeper : ℕ) (scene : Scene) (s : State) (i : Kep
   IsOver round = (total_weight scene (unfinished_of (is_of_round rounds round)) s ≡ 0) ⊎ (total_weight scene (begun_of (is_of_round rounds round)) s ≡ 0)
 
   over : (round : ℕ) → IsOver round
-  over round = elim (by_order round s.objects.tally.round) [
+  over round = elim (in_order round s.objects.tally.round) [
     | inl lt ↦ inl (omega (arith, t.left round, t.tally.past round lt))
     | inr (inl same) ↦ inl (let left = ap (λ r. slice_index_or s.objects.tally.left r 0) same in omega (arith, t.left round, left, past))
     | inr (inr gt) ↦ inr (t.later round gt)
   ]
-    where
-      by_order : (a b : ℕ) → (a < b) ⊎ (a ≡ b) ⊎ (b < a)
-      by_order a b = grind arith
 
   no_top : (writer key : ℕ) (node : Node) → writer < scene.books → node_at (s.objects.book writer) key ≡ Some node → parent_of node.role ≡ None → ⊥
   no_top writer key node some at is = elim (over r) [

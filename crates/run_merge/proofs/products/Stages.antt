@@ -2,6 +2,7 @@
 use Rattle.std.proofs.Common.{◌≡◌, ◌≢◌, ◌+◌, ◌*◌, ◌<◌, ◌≤◌, ◌⊎◌, ℕ, zero, suc, List, [], ◌∷◌, length, map, inl, inr, refl, ◌∙◌, ap, arith}
 use Rattle.std.specs.Prelude.{zip}
 use Rattle.std.specs.List.{range_with_len}
+use Rattle.stack_base.proofs.NumberLemmas.{zero_or}
 use Rattle.elem_ledger.specs.Ledger.{LedgerId}
 use Rattle.layout_model.specs.declared.write.Write.{Write}
 use Rattle.run_machine.specs.Scene.{Scene}
@@ -11,7 +12,6 @@ use Rattle.run_machine.specs.Runs.{State}
 use Rattle.block_core.specs.Rounds.{tops, tops_left, all_worth, unfinished_of}
 use Rattle.block_core.specs.Scenarios.{IsScenario}
 use Rattle.block_core.specs.Weights.{total_weight, one}
-use Rattle.block_core.proofs.stuck.NothingWaits.{zero_or}
 use Rattle.block_core.proofs.sound.DoneOnce.{to_begin, stage}
 use Rattle.block_core.proofs.sound.Dones.{stage_is}
 use Rattle.block_core.proofs.sound.Facts.{Kept}

@@ -8,6 +8,7 @@ use Rattle.std.proofs.lemmas.List.{append-nil, map-id}
 use Rattle.std.proofs.lemmas.List.Filters.{length-filter_more}
 use Rattle.std.proofs.lemmas.List.FromFn.{get_or-map-range_with_len, map-range_with_len_more}
 use Rattle.std.proofs.lemmas.List.Sums.{get_or-le-sum_by, sum_by-set}
+use Rattle.stack_base.proofs.Zones.{fold_max_start}
 use Rattle.run_machine.specs.Opened.{in_round, from_round, rounds_in, left_in, starts_at, duties_in, Change}
 use Rattle.task_core.proofs.NumberTests.{is_itself, is_apart}
 
@@ -63,11 +64,7 @@ counted_more rounds i n round old d lt is inside had =
 -- a round is no greater than the greatest
 pub round_inside : (c : ℕ) (rounds : List ℕ) (i d : ℕ) → i < length rounds → get_or rounds i d ≤ fold max c rounds
 round_inside c [] i d lt = absurd (omega (arith, lt))
-round_inside c (round ∷ rounds) zero d lt = let le = start_le (max c round) rounds in omega (arith, le)
-  where
-    start_le : (c : ℕ) (rounds : List ℕ) → c ≤ fold max c rounds
-    start_le c [] = omega arith
-    start_le c (round ∷ rounds) = let le = start_le (max c round) rounds in omega (arith, le)
+round_inside c (round ∷ rounds) zero d lt = let le = fold_max_start (max c round) rounds in omega (arith, le)
 round_inside c (round ∷ rounds) (suc i) d lt = round_inside (max c round) rounds i d (omega (arith, lt))
 
 -- all writes are those of the first round and later ones

@@ -2,8 +2,9 @@ use Rattle.std.proofs.Common.{◌<◌, length, get_or, refl, ap, sym, ◌∙◌,
 use Rattle.std.proofs.lemmas.Bool.{both_ways, eqb-true, eqb-false, eq-eqb}
 use Rattle.std.proofs.lemmas.Option.{slice_get-get_or}
 use Rattle.stack_base.specs.Tree.{shape_of}
+use Rattle.stack_base.proofs.NumberLemmas.{nonzero}
 use Rattle.layout_model.proofs.Chosen.{leg_known, choice_there}
-use Rattle.biostack_tests.proofs.SlowLegs.{leg_asks, disk_asks, some_from}
+use Rattle.biostack_tests.proofs.SlowLegs.{leg_asks, disk_asks}
 use Rattle.biostack_tests.proofs.slow.+fits.Goals as goal
 use Rattle.biostack_tests.proofs.slow.+fits.Goals.{then-is_empty-via-then-is_empty, then-is_empty-via-else-is_empty+then-len-choices}
 
@@ -43,7 +44,7 @@ returns-in-Disk t c =
 pub returns-else-len-choices : goal.returns-else-len-choices
 returns-else-len-choices t c =
     let inside : get_or c.args.choices.now 0 0 < length c.device-device.result.now.members.items = omega (arith, c.if-len-choices.false, c.len.ensures.value) in
-    let some = some_from (length c.args.choices.now) (eqb-false (length c.args.choices.now) 0 (sym c.is_empty-in-Mirror.ensures ∙ c.if-is_empty.false)) in
+    let some = nonzero (length c.args.choices.now) (eqb-false (length c.args.choices.now) 0 (sym c.is_empty-in-Mirror.ensures ∙ c.if-is_empty.false)) in
     let asks = rw (sym c.deref.ensures.0) at (
     leg_asks c.args.stack.now c.requires.stack c.args.dev.0 c.device-device.result.now c.device-device.ensures.found (ap shape_of c.in-Mirror.is)
     c.args.sector c.args.choices.now _ some

@@ -1,6 +1,7 @@
 use Rattle.std.proofs.Common.{sym, subst}
 use Rattle.std.specs.Str.{IsUtf8}
-use Rattle.stack_check.proofs.NameLemmas.{name_is_text, text_is_read}
+use Rattle.stack_base.proofs.NumeralLemmas.{text_is_read}
+use Rattle.stack_check.proofs.NameLemmas.{name_is_text}
 use Rattle.stack_check.proofs.built.text_of.Goals as goal
 
 pub unwrap-requires : goal.unwrap-requires
