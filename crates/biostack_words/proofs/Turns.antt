@@ -1,8 +1,8 @@
 -- A turn of the parser, at a word of each form.
-use Rattle.std.proofs.Common.{◌≡◌, ◌&&◌, ◌==◌, ℕ, Bool, true, false, refl, List, [], ◌∷◌, Option, Some, None}
+use Rattle.std.proofs.Common.{◌≡◌, ◌==◌, ℕ, Bool, true, false, refl, List, [], ◌∷◌, Option, Some, None}
 use Rattle.clap.specs.Walk.{value as a_value}
 use Rattle.std.specs.List.{list_any}
-use Rattle.std.proofs.lemmas.Bool.{or_parts}
+use Rattle.std.proofs.lemmas.Bool.{or_parts, and_right}
 use Rattle.clap.specs.Walk.{Held, Row, is_pending, after_step, long_word, plain_word, positional, Text, Waiting, arg_by_long, idle, option as for_option, settled, walked}
 use Rattle.clap.specs.Kinds.{or_else}
 use Rattle.clap.specs.Faults.{settle_fault, turn_fault, use_fault, walk_fault, word_fault, long_fault, step_fault}
@@ -93,15 +93,11 @@ late_option name value h e (unknown a b found) = rw found refl
 
 -- ---- a state that is refused at any word, and at the end
 
-pub and_no : (b : Bool) → (b && false) ≡ false
-and_no true = refl
-and_no false = refl
-
 place_fault : (h : Held) (position : ℕ) → fails (settle_fault rules false h) ≡ true → fails (step_fault shape position h a_value) ≡ true
 place_fault h position e = go (1 == position) refl
   where
     go : (b : Bool) → (1 == position) ≡ b → fails (step_fault shape position h a_value) ≡ true
-    go true is = rw (is, and_no (is_pending (rule_for place) h.pending)) e
+    go true is = rw (is, and_right (is_pending (rule_for place) h.pending) false refl) e
     go false is = rw is refl
 
 pub doomed : (rows : List Row) (pending : Option (Text × List Text)) (position : ℕ) (words : List Word) → list_any is_dashed words ≡ false

@@ -3,7 +3,7 @@ use Rattle.std.proofs.Common.{◌≡◌, ◌∙◌, ◌&&◌, ◌||◌, Bool, co
 use Rattle.std.proofs.lemmas.List.{map-append}
 use Rattle.std.proofs.lemmas.Slice.Eq.{bytes_eq-Decides}
 use Rattle.std.proofs.lemmas.Bool.Decides.{Decides-like, same_from_decides}
-use Rattle.std.proofs.lemmas.Bool.{and_parts, not-true, or_parts}
+use Rattle.std.proofs.lemmas.Bool.{and_parts, not-true, or_parts, or_left, or_right, and_right}
 use Rattle.std.specs.Str.{bytes_eq}
 use Rattle.clap.specs.Walk.{Row, at_row, more_values, with_values, without, Text, has_row, used}
 use Rattle.clap.specs.Faults.{use_fault}
@@ -83,9 +83,6 @@ is_of_back : (one other : Setting) → is_setting_of one.kind other ≡ is_setti
 is_of_back one other =
     same_from_decides _ _ (bytes_eq-Decides (kind_word other.kind) (kind_word one.kind)) (Decides-like _ sym sym (bytes_eq-Decides (kind_word one.kind) (kind_word other.kind)))
 
-or_front : (a b : Bool) → a ≡ true → (a || b) ≡ true
-or_front a b e = rw e refl
-
 pub or_no : (b : Bool) → (b || (false || false)) ≡ b
 or_no true = refl
 or_no false = refl
@@ -93,14 +90,6 @@ or_no false = refl
 pub or_yes : (b : Bool) → (b || (true || false)) ≡ true
 or_yes true = refl
 or_yes false = refl
-
-or_back : (a b : Bool) → b ≡ true → (a || b) ≡ true
-or_back true b e = refl
-or_back false b e = e
-
-and_back : (a b : Bool) → b ≡ false → (a && b) ≡ false
-and_back true b e = e
-and_back false b e = refl
 
 -- two of one kind
 are_twice : (setting : Setting) (done more : List Setting) → has setting.kind done ≡ true → are_once (done ++ setting ∷ more) ≡ false
@@ -111,9 +100,9 @@ are_twice setting (first ∷ done) more some = go (is_setting_of setting.kind fi
         → (not (has first.kind (done ++ setting ∷ more)) && are_once (done ++ setting ∷ more)) ≡ false
     go true e some later =
         let there : has first.kind (done ++ setting ∷ more) ≡ true =
-        has_on first.kind done (setting ∷ more) ∙ or_back (has first.kind done) _ (or_front _ (has first.kind more) (is_of_back first setting ∙ e)) in
+        has_on first.kind done (setting ∷ more) ∙ or_right (has first.kind done) _ (or_left _ (has first.kind more) (is_of_back first setting ∙ e)) in
         rw there refl
-    go false e some later = and_back (not (has first.kind (done ++ setting ∷ more))) _ (later some)
+    go false e some later = and_right (not (has first.kind (done ++ setting ∷ more))) _ (later some)
 
 pub one_more : (setting : Setting) (done : List Setting) → are_once done ≡ true → has setting.kind done ≡ false → are_once (done ++ setting ∷ []) ≡ true
 one_more setting [] once none = refl

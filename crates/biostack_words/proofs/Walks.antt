@@ -3,7 +3,7 @@ use Rattle.std.proofs.Common.{◌≡◌, ◌∙◌, ℕ, Bool, true, false, refl
 use Rattle.clap.specs.Walk.{done as is_done, waits as waits_for, long_met, next as next_step, Step}
 use Rattle.std.specs.List.{list_any}
 use Rattle.std.specs.Option.{option_map}
-use Rattle.std.proofs.lemmas.Bool.{or_parts}
+use Rattle.std.proofs.lemmas.Bool.{or_parts, and_right}
 use Rattle.clap.specs.Walk.{Held, Row, is_pending, after_step, plain_word, Rule, Text, Walk, arg_by_long, idle, option as for_option, settled_rows, used, walked}
 use Rattle.clap.specs.Simple.{built, entered}
 use Rattle.clap.specs.Kinds.{Kinds}
@@ -12,7 +12,7 @@ use Rattle.biostack_words.specs.Grammar.{is as is_read, waits as waits_then, as_
 use Rattle.biostack_words.specs.Parser.{parser}
 use Rattle.biostack_words.proofs.Parsing.{IsFlag, Long, Met, Named, PlainWord, Takes, ends, fails, fails_then, flag_one, goes_on, holding, id_of, last, met, named, rows_for, rule_for, rules, shape, standing, stops, unknown, valued_one}
 use Rattle.biostack_words.proofs.Uses.{Fits, first_use, second_use}
-use Rattle.biostack_words.proofs.Turns.{and_no, doomed, flag_fault, late_option, long_stops, long_turn, long_walked, plain_turn, plain_walked, value_of_flag, valued_fault, waits_fault}
+use Rattle.biostack_words.proofs.Turns.{doomed, flag_fault, late_option, long_stops, long_turn, long_walked, plain_turn, plain_walked, value_of_flag, valued_fault, waits_fault}
 use Rattle.biostack_words.proofs.Standing.{Agrees, AgreesAt, IdleAgrees, Stands, WaitAgrees, again, at_end, both_refuse, flag_is_met, flag_is_not, flag_no_place, missing, one_setting, pending_again, pending_stands, place_is, place_moves, place_of, place_stays, takes_is_valued, takes_no_place, used_stands, valued_met, waits_met}
 
 -- ---- one word
@@ -125,9 +125,9 @@ module _ (word : Word) (words : List Word) (clear : list_any is_dashed words ≡
       refused_twice (with_value place word) done _ here word words there (stops here word words (rw (plain_turn rows pending (place_of done) word idle is, place_is done true there) refl))
   place_agrees is false there =
       let passes : turn_fault shape [] here word ≡ [] =
-      plain_turn rows pending (place_of done) word idle is ∙ rw (place_is done false there, and_no (is_pending (rule_for place) pending)) stands.settles in
+      plain_turn rows pending (place_of done) word idle is ∙ rw (place_is done false there, and_right (is_pending (rule_for place) pending) false refl) stands.settles in
       let goes : walked rules [] here word ≡ standing settled_here (Some (id_of place, word ∷ [])) idle 2 =
-      plain_walked rows pending (place_of done) word idle is ∙ rw (place_is done false there, and_no (is_pending (rule_for place) pending)) refl in
+      plain_walked rows pending (place_of done) word idle is ∙ rw (place_is done false there, and_right (is_pending (rule_for place) pending) false refl) refl in
       let after : List Setting = done ++ with_value place word ∷ [] in
       let next : AgreesAt after None (standing settled_here (Some (id_of place, word ∷ [])) idle 2) words =
       subst (λ (k : ℕ). AgreesAt after None (standing settled_here (Some (id_of place, word ∷ [])) idle k) words) (place_moves word done)

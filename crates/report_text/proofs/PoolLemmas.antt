@@ -4,7 +4,7 @@ use Rattle.std.proofs.lemmas.List.{append_assoc, append-nil, take-append-drop, t
 use Rattle.std.proofs.Math.Seq.{take-append_seam, drop-append_seam, drop-cons}
 use Rattle.std.proofs.lemmas.List.Concat.{flat_map-append}
 use Rattle.std.proofs.lemmas.List.Folds.{list_any-append}
-use Rattle.std.proofs.lemmas.List.Elements.{All-append, All-cons}
+use Rattle.std.proofs.lemmas.List.Elements.{All-append, All-cons, All-nil}
 use Rattle.std.proofs.lemmas.Bool.{ne_eqb, eq-eqb, or_parts}
 use Rattle.std.specs.Prelude.{codes, decimal, All}
 use Rattle.std.specs.List.{flat_map, list_any}
@@ -200,15 +200,12 @@ told_of_devices stack number (device ∷ more) before rest behind are without =
     ∙ ap (λ xs. flat_map (facts_line stack) own ++ xs) (subst (λ pools. flat_map (line pools) (rising_from (number + 1) more) ≡ flat_map (facts_line stack) (own_of_each more front)) in_front others)
     ∙ sym (flat_map-append (facts_line stack) own (own_of_each more front))
 
-none_at_all : {X : Type 0} (P : X → Type 0) → All P []
-none_at_all P k d lt = absurd (omega (arith, lt))
-
 one_at_all : {X : Type 0} (P : X → Type 0) (x : X) → P x → All P (x ∷ [])
-one_at_all P x holds = All-cons P x [] holds (none_at_all P)
+one_at_all P x holds = All-cons P x [] holds (All-nil P)
 
 -- the pools of a device of the stack
 pub device_has : (stack : Stack) (number : ℕ) (kind : Kind) → number < length stack.devices.items → All (HasDeviceOfPool stack) (pools_at number kind)
-device_has stack number (Disk sectors bad) lt = none_at_all (HasDeviceOfPool stack)
+device_has stack number (Disk sectors bad) lt = All-nil (HasDeviceOfPool stack)
 device_has stack number Linear lt = one_at_all (HasDeviceOfPool stack) (Bios (at number)) lt
 device_has stack number (Stripe chunk) lt = one_at_all (HasDeviceOfPool stack) (Bios (at number)) lt
 device_has stack number (Zoned chunk) lt = one_at_all (HasDeviceOfPool stack) (Bios (at number)) lt
@@ -221,16 +218,16 @@ IsBelow total dev = dev.0 < total
 
 a_disk_below : (total number : ℕ) (kind : Kind) → number < total → All (IsBelow total) (disk_at number kind)
 a_disk_below total number (Disk sectors bad) lt = one_at_all (IsBelow total) (at number) lt
-a_disk_below total number Linear lt = none_at_all (IsBelow total)
-a_disk_below total number (Stripe chunk) lt = none_at_all (IsBelow total)
-a_disk_below total number (Zoned chunk) lt = none_at_all (IsBelow total)
-a_disk_below total number (Limit longest chunk) lt = none_at_all (IsBelow total)
-a_disk_below total number (Mirror records) lt = none_at_all (IsBelow total)
+a_disk_below total number Linear lt = All-nil (IsBelow total)
+a_disk_below total number (Stripe chunk) lt = All-nil (IsBelow total)
+a_disk_below total number (Zoned chunk) lt = All-nil (IsBelow total)
+a_disk_below total number (Limit longest chunk) lt = All-nil (IsBelow total)
+a_disk_below total number (Mirror records) lt = All-nil (IsBelow total)
 
 -- the disks among devices are devices
 pub disks_below : (total number : ℕ) (devices : List Device) → number + length devices ≤ total → All (IsBelow total) (disks_from number devices)
 unfolding disks_from
-disks_below total number [] le = none_at_all (IsBelow total)
+disks_below total number [] le = All-nil (IsBelow total)
 disks_below total number (device ∷ more) le =
     All-append (IsBelow total) (disk_at number device.kind) (disks_from (number + 1) more)
     (a_disk_below total number device.kind (omega (arith, le))) (disks_below total (number + 1) more (omega (arith, le)))

@@ -1,6 +1,6 @@
 -- Requests change one object, steps one task, and runs are joined.
 use Rattle.std.proofs.Common.{◌≡◌, ◌≢◌, ◌++◌, ◌+◌, ◌*◌, ◌/◌, ◌%◌, ◌<◌, ◌==◌, if◌then◌else◌, ℕ, Bool, true, false, List, [], ◌∷◌, inl, inr, refl, sym, ap, subst, ◌∙◌, arith}
-use Rattle.std.proofs.lemmas.Bool.{cases_eq}
+use Rattle.std.proofs.lemmas.Bool.{cases_eq, eq-eqb, ne_eqb}
 use Rattle.std.proofs.lemmas.Bool.Decides.{nat_tests}
 use Rattle.stack_base.specs.declared.ids.PoolId.TheVariants.{FsBios, FsVecs, Bios, Records}
 use Rattle.mempool_core.specs.Move.{PoolState}
@@ -21,17 +21,11 @@ use Rattle.run_machine.specs.Laws.{OneObjectChanges, OthersStay, RunsAreJoined, 
 -- a map that was changed at a place is the old one with its own value there
 pub upd_same : {X : Type 0} (f : ℕ → X) (i : ℕ) (x : X) → upd f i x i ≡ x
 unfolding upd
-upd_same f i x = rw (same_is i) refl
-  where
-    same_is : (i : ℕ) → (i == i) ≡ true
-    same_is i = grind (arith, nat_tests)
+upd_same f i x = rw (eq-eqb i i refl) refl
 
 pub upd_other : {X : Type 0} (f : ℕ → X) (i : ℕ) (x : X) (j : ℕ) → j ≢ i → upd f i x j ≡ f j
 unfolding upd
-upd_other f i x j apart = rw (other_is j i apart) refl
-  where
-    other_is : (j i : ℕ) → j ≢ i → (j == i) ≡ false
-    other_is j i apart = grind (arith, nat_tests)
+upd_other f i x j apart = rw (ne_eqb j i apart) refl
 
 -- what holds at each place holds so with one changed
 pub upd_keeps : {X : Type 0} (P : ℕ → X → Type 0) (f : ℕ → X) (i : ℕ) (x : X) → ((j : ℕ) → P j (f j)) → P i x → (j : ℕ) → P j (upd f i x j)

@@ -1,6 +1,6 @@
 -- An event leads to one state, and so do runs: it tells its reply, and a reply tells what the objects and the task become.
-use Rattle.std.proofs.Common.{◌≡◌, ◌≢◌, ◌==◌, ℕ, Bool, true, false, List, [], ◌∷◌, refl, sym, ap, subst, ◌∙◌, arith}
-use Rattle.std.proofs.lemmas.Bool.Decides.{nat_tests}
+use Rattle.std.proofs.Common.{◌≡◌, ◌==◌, ℕ, Bool, true, false, List, [], ◌∷◌, refl, sym, ap, subst, ◌∙◌}
+use Rattle.std.proofs.lemmas.Bool.{eqb-true, eqb-false}
 use Rattle.bio_records.specs.declared.bio.Pad.{Pad}
 use Rattle.bio_records.specs.Items.{Item}
 use Rattle.bio_books.specs.Links.{Linked, Made, NoRoom, Stray}
@@ -80,18 +80,12 @@ one scene old new other event apart (place, a) (again, b) =
 names : (scene : Scene) (old new : State) (place : ℕ) (event : Event) → Steps scene old place event new → (at : ℕ) → id_of (new.task at) ≡ id_of (old.task at)
 names scene old new place event a at = by_test (at == place) refl
   where
-    here_is : (i j : ℕ) → (i == j) ≡ true → i ≡ j
-    here_is i j is = grind (arith, nat_tests)
-
-    not_here : (i j : ℕ) → (i == j) ≡ false → i ≢ j
-    not_here i j is = grind (arith, nat_tests)
-
     by_test : (here : Bool) → (at == place) ≡ here → id_of (new.task at) ≡ id_of (old.task at)
     by_test true is =
-        let e = here_is at place is in
+        let e = eqb-true at place is in
         ap (λ i. id_of (new.task i)) e ∙ ap (λ f. id_of (f place)) a.goes_on ∙ ap id_of (upd_same old.task place _)
         ∙ id_stays scene.setup (old.task place) a.reply ∙ ap (λ i. id_of (old.task i)) (sym e)
-    by_test false is = ap (λ f. id_of (f at)) a.goes_on ∙ ap id_of (upd_other old.task place _ at (not_here at place is))
+    by_test false is = ap (λ f. id_of (f at)) a.goes_on ∙ ap id_of (upd_other old.task place _ at (eqb-false at place is))
 
 stays_apart : (scene : Scene) (old new : State) (event : Event) → TaskNamesDiffer scene old → Happens scene old event new → TaskNamesDiffer scene new
 stays_apart scene old new event apart (place, a) = λ i j here there is.

@@ -3,6 +3,7 @@ use Rattle.std.proofs.Common.{◌≡◌, ◌⊎◌, ◌+◌, ◌<◌, ◌≤◌,
 use Rattle.std.specs.Prelude.{slice_get}
 use Rattle.std.proofs.lemmas.List.{append_assoc, append-nil, drop_all, drop_more, length-append, length-map, map-append}
 use Rattle.std.proofs.lemmas.Option.{slice_get_cases}
+use Rattle.std.proofs.lemmas.Bool.{cases_lt}
 use Rattle.stack_base.specs.declared.stack.Device.{Device}
 use Rattle.stack_base.specs.declared.stack.Kind.{Kind}
 use Rattle.stack_base.specs.declared.stack.Kind.TheVariants as kind
@@ -64,7 +65,7 @@ module _ (stack : Stack) (good : IsStack stack) where
   -- there are never more than from the first on
   pub fewer : (n : ℕ) → length (falling_pools_from n stack) ≤ length (falling_pools_from 0 stack)
   fewer zero = omega arith
-  fewer (suc n) = elim (below_or n (length stack.devices.items)) [
+  fewer (suc n) = elim (cases_lt n (length stack.devices.items)) [
     | inl lt ↦
         let next : suc n ≡ n + 1 = omega arith in
         omega (
@@ -78,9 +79,6 @@ module _ (stack : Stack) (good : IsStack stack) where
         let none : falling_pools_from (suc n) stack ≡ [] = ap (falling_from (suc n)) (drop_all (suc n) stack.devices.items (omega (arith, ge))) ∙ none_fell (suc n) in
         omega (arith, ap length none)
   ]
-    where
-      below_or : (a b : ℕ) → (a < b) ⊎ (b ≤ a)
-      below_or a b = grind arith
 
 -- the facts of these pools, behind some others
 module _ (objects : Objects) (stack : Stack) (good : IsStack stack) (before : List (PoolId × Facts)) where

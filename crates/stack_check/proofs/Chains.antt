@@ -1,6 +1,7 @@
 -- The checks of each kind of line, without those that find nothing wrong with it.
-use Rattle.std.proofs.Common.{◌≡◌, ◌||◌, ◌&&◌, ℕ, Bool, true, false, List, length, Result, Ok, Err, true≢false, refl, sym, subst, ◌∙◌}
+use Rattle.std.proofs.Common.{◌≡◌, ◌||◌, ℕ, Bool, true, false, List, length, Result, Ok, Err, true≢false, refl, sym, subst, ◌∙◌}
 use Rattle.std.specs.Prelude.{nat_le}
+use Rattle.std.proofs.lemmas.Bool.{and_right}
 use Rattle.decl_text.specs.Known.{Known}
 use Rattle.decl_text.specs.Refusals.{first_found, item_checks}
 use Rattle.decl_text.specs.Accepting.{checks_for, loose_checks}
@@ -12,11 +13,6 @@ use Rattle.stack_check.specs.declared.fault.AddFault.{AddFault}
 use Rattle.stack_check.specs.declared.fault.AddFault.TheVariants.{Wrong, Memory}
 use Rattle.stack_check.specs.Adding.{Adds}
 use Rattle.stack_check.specs.Rows.{device_reason}
-
--- a mirror of which no rescuer is asked lacks none
-never : (many : Bool) → (many && false) ≡ false
-never true = refl
-never false = refl
 
 pub device_chain :
     (loose : Bool) (known : Known) (name : List ℕ) (does : What) (members : List (List ℕ)) (reserve : ℕ) (rescuer : Bool)
@@ -33,7 +29,7 @@ device_chain true known name what.Linear members reserve rescuer = refl
 device_chain true known name (what.Stripe chunk) members reserve rescuer = refl
 device_chain true known name (what.Zoned chunk) members reserve rescuer = refl
 device_chain true known name (what.Limit longest chunk) members reserve rescuer = refl
-device_chain true known name (what.Mirror records) members reserve rescuer = rw (never (nat_le 2 (length members))) refl
+device_chain true known name (what.Mirror records) members reserve rescuer = rw (and_right (nat_le 2 (length members)) false refl) refl
 
 -- of nothing else are rescuers asked
 abbrev pub is_device : Item → Bool

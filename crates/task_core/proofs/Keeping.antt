@@ -36,7 +36,6 @@ use Rattle.run_machine.specs.Opened.{at}
 use Rattle.task_steps.specs.Stage.{Stage, has_mirror, is_set, is_bios, is_vecs, is_slips, IsHomeInPool, IsServed, AreServed, RequestFits, Owes}
 use Rattle.task_core.specs.ObjectsOf.{IsDiskOf, IsBookOf, IsTallyOf, AreObjectsOf, AreNumbered}
 use Rattle.run_machine.proofs.Frames.{upd_keeps}
-pub use Rattle.task_core.proofs.NumberTests.{apart_by}
 use Rattle.task_core.proofs.StageBooks.{node_is, links_is, drops_is}
 
 -- the numbers of pools by their kinds

@@ -1,4 +1,3 @@
-pub mod NumberTests
 pub mod TableLemmas
 pub mod PoolLemmas
 pub mod StageBooks

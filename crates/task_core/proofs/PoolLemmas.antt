@@ -2,6 +2,7 @@
 use Rattle.std.proofs.Common.{◌≡◌, ◌≢◌, ◌%◌, ◌==◌, ◌&&◌, ◌||◌, if◌then◌else◌, ℕ, Bool, true, false, refl, sym, ap, subst, ◌∙◌, arith}
 use Rattle.std.specs.Prelude.{IsTrue}
 use Rattle.std.proofs.lemmas.Bool.Decides.{nat_tests}
+use Rattle.std.proofs.lemmas.Bool.{eqb-true}
 use Rattle.elem_ledger.specs.Ledger.{LedgerId}
 use Rattle.mempool_core.specs.Move.{PoolState, PoolMove}
 use Rattle.mempool_core.specs.Pool.{LedgerPool}
@@ -11,7 +12,6 @@ use Rattle.task_core.specs.declared.plain.Plain.{Plain}
 use Rattle.run_machine.specs.Maps.{upd}
 use Rattle.run_machine.specs.Objects.{MovesPool}
 use Rattle.task_core.specs.Plains.{Holds, is_bios_number, pool_at, objects_of, stage_of}
-use Rattle.task_core.proofs.NumberTests.{same_by}
 
 not_64 : (m n : ℕ) → m ≡ n → n ≢ 64 → (m == 64) ≡ false
 not_64 m n e apart = grind (arith, nat_tests)
@@ -31,8 +31,8 @@ module _ {X : Type 0} (vecs : X) (bios records : ℕ → X) (n : ℕ) (x : X) wh
   bios_at : n ≢ 64 → is_bios_number n ≡ true → (m : ℕ) (b : Bool) → (m == n) ≡ b → by_number vecs (upd bios n x) records m ≡ upd (by_number vecs bios records) n x m
   unfolding upd
   bios_at apart kind m true q =
-      let other : (m == 64) ≡ false = not_64 m n (same_by m n q) apart in
-      let of_set : is_bios_number m ≡ true = ap is_bios_number (same_by m n q) ∙ kind in
+      let other : (m == 64) ≡ false = not_64 m n (eqb-true m n q) apart in
+      let of_set : is_bios_number m ≡ true = ap is_bios_number (eqb-true m n q) ∙ kind in
       rw (q, other, of_set) refl
   bios_at apart kind m false q = rw (q) refl
 
@@ -43,8 +43,8 @@ module _ {X : Type 0} (vecs : X) (bios records : ℕ → X) (n : ℕ) (x : X) wh
       → by_number vecs bios (upd records n x) m ≡ upd (by_number vecs bios records) n x m
   unfolding upd
   records_at apart kind m true q =
-      let other : (m == 64) ≡ false = not_64 m n (same_by m n q) apart in
-      let of_set : is_bios_number m ≡ false = ap is_bios_number (same_by m n q) ∙ kind in
+      let other : (m == 64) ≡ false = not_64 m n (eqb-true m n q) apart in
+      let of_set : is_bios_number m ≡ false = ap is_bios_number (eqb-true m n q) ∙ kind in
       rw (q, other, of_set) refl
   records_at apart kind m false q = rw (q) refl
 
@@ -116,12 +116,12 @@ module _ (old new : Plain) (n : ℕ) (x : LedgerPool) (is : pool_at new ≡ upd 
 
   ledger_at : x.ledger ≡ (pool_at old n).ledger → (m : ℕ) (b : Bool) → (m == n) ≡ b → (upd (pool_at old) n x m).ledger ≡ (pool_at old m).ledger
   unfolding upd
-  ledger_at e m true q = let same : m ≡ n = same_by m n q in rw (q) (e ∙ ap (λ j. (pool_at old j).ledger) (sym same))
+  ledger_at e m true q = let same : m ≡ n = eqb-true m n q in rw (q) (e ∙ ap (λ j. (pool_at old j).ledger) (sym same))
   ledger_at e m false q = rw (q) refl
 
   most_at : x.most ≡ (pool_at old n).most → (m : ℕ) (b : Bool) → (m == n) ≡ b → (upd (pool_at old) n x m).most ≡ (pool_at old m).most
   unfolding upd
-  most_at e m true q = let same : m ≡ n = same_by m n q in rw (q) (e ∙ ap (λ j. (pool_at old j).most) (sym same))
+  most_at e m true q = let same : m ≡ n = eqb-true m n q in rw (q) (e ∙ ap (λ j. (pool_at old j).most) (sym same))
   most_at e m false q = rw (q) refl
 
   module _ (move : PoolMove) (moves : pool.PoolMoves (pool_at old n) move x) where

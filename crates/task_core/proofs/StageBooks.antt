@@ -3,6 +3,7 @@ use Rattle.std.proofs.Common.{◌⊎◌, inl, inr, ◌<◌, ◌≤◌, ℕ, leng
 use Rattle.std.specs.Prelude.{IfSome}
 use Rattle.std.proofs.lemmas.List.{get_or_past}
 use Rattle.std.proofs.lemmas.List.Elements.{All-set}
+use Rattle.std.proofs.lemmas.Bool.{cases_lt}
 use Rattle.stack_base.specs.declared.ids.Status.{Status}
 use Rattle.bio_records.specs.declared.bio.Pad.{Pad}
 use Rattle.bio_records.specs.Items.{Item}
@@ -14,14 +15,13 @@ use Rattle.run_machine.specs.Requests.{Opening, Write, Chain, Master, Leg}
 use Rattle.run_machine.specs.Objects.{Opened}
 use Rattle.task_steps.specs.Stage.{Stage, is_bios, is_slips, IsHome, IsBioHome, IsVecHome, HoldsHome, OpeningFits, LinkFits, TopFits, ClosedFits, DropFits}
 use Rattle.task_core.specs.ObjectsOf.{IsNodeOf, IsBookOf}
-use Rattle.task_core.proofs.NumberTests.{lt_or}
 
 module _ (stage : Stage) where
   abbrev pub IsOpenOf : Option Node → Type 0
   IsOpenOf node = IfSome node (IsNodeOf stage)
 
   pub node_is : (writer place : ℕ) (book : BookState) → IsBookOf stage writer book → IsOpenOf (node_at book place)
-  node_is writer place book is = by_case (lt_or place (length book.nodes))
+  node_is writer place book is = by_case (cases_lt place (length book.nodes))
     where
       by_case : (place < length book.nodes) ⊎ (length book.nodes ≤ place) → IsOpenOf (node_at book place)
       by_case (inl lt) = is.nodes place None lt

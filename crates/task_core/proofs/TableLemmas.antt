@@ -7,10 +7,10 @@ use Rattle.std.proofs.lemmas.List.Folds.{find_at, find-set, find_past, position_
 use Rattle.std.proofs.lemmas.List.Sums.{passes_at_first}
 use Rattle.std.proofs.lemmas.Option.{slice_get-get_or}
 use Rattle.std.proofs.lemmas.Bool.Decides.{nat_tests}
+use Rattle.std.proofs.lemmas.Bool.{eqb-true, eqb-false, eq-eqb}
 use Rattle.run_machine.specs.Maps.{upd}
 use Rattle.task_core.specs.Tables.{is_entry_of, look_up, IsEntryAt, AreAt}
 use Rattle.run_machine.proofs.Frames.{upd_same, upd_other}
-use Rattle.task_core.proofs.NumberTests.{same_by, apart_by, is_itself}
 
 not_other : (a b c : ℕ) → a ≡ b → (c == b) ≡ false → (a == c) ≡ false
 not_other a b c e q = grind (arith, nat_tests)
@@ -28,7 +28,7 @@ module _ {E : Type 0} (key : E → ℕ) (table : List ℕ) (entries : List E) (n
   key_is =
       let first : (key (get_or entries (position_or_len (is_entry_of key n) entries) entry) == n) ≡ true =
       passes_at_first (is_entry_of key n) entries entry (subst (λ k. k < length entries) placed inside) in
-      same_by (key entry) n (ap (λ e. key e == n) (is ∙ ap (λ k. get_or entries k entry) placed) ∙ first)
+      eqb-true (key entry) n (ap (λ e. key e == n) (is ∙ ap (λ k. get_or entries k entry) placed) ∙ first)
 
   found : find (is_entry_of key n) entries ≡ Some entry
   found =
@@ -41,9 +41,9 @@ module _ {E : Type 0} (key : E → ℕ) (table : List ℕ) (entries : List E) (n
     changed_at : {X : Type 0} (value : E → X) (none : ℕ → X) (m : ℕ) (b : Bool) → (m == n) ≡ b
         → look_up key value none (set entries i new) m ≡ upd (look_up key value none entries) n (value new) m
     changed_at value none m true q =
-        let same : m ≡ n = same_by m n q in
+        let same : m ≡ n = eqb-true m n q in
         let here : find (is_entry_of key n) (set entries i new) ≡ Some new =
-        find-set (is_entry_of key n) entries i new placed inside (is_itself (key new) n (keyed ∙ key_is)) in
+        find-set (is_entry_of key n) entries i new placed inside (eq-eqb (key new) n (keyed ∙ key_is)) in
         ap (look_up key value none (set entries i new)) same
         ∙ ap (λ o. option_map_or value o (none n)) here
         ∙ sym (ap (upd (look_up key value none entries) n (value new)) same ∙ upd_same (look_up key value none entries) n (value new))
@@ -52,7 +52,7 @@ module _ {E : Type 0} (key : E → ℕ) (table : List ℕ) (entries : List E) (n
         let past : find (is_entry_of key m) (set entries i new) ≡ find (is_entry_of key m) entries =
         find_past (is_entry_of key m) entries i new entry old (not_other (key new) n m (keyed ∙ key_is) q) in
         ap (λ o. option_map_or value o (none m)) past
-        ∙ sym (upd_other (look_up key value none entries) n (value new) m (apart_by m n q))
+        ∙ sym (upd_other (look_up key value none entries) n (value new) m (eqb-false m n q))
 
     pub changed : {X : Type 0} (value : E → X) (none : ℕ → X)
         → look_up key value none (set entries i new) ≡ upd (look_up key value none entries) n (value new)

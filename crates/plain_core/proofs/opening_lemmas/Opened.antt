@@ -8,6 +8,7 @@ use Rattle.std.proofs.lemmas.List.{get_or-replicate, get_or_past, length-replica
 use Rattle.std.proofs.lemmas.List.Elements.{All-append, All-cons, All-head, All-map, All-nil, All-tail, All-weaker}
 use Rattle.std.proofs.lemmas.List.FromFn.{get_or-map-range_with_len, length-map-range_with_len}
 use Rattle.std.proofs.lemmas.Option.{slice_get_past}
+use Rattle.std.proofs.lemmas.Bool.{cases_lt}
 use Rattle.fail_script.specs.Script.{Answers, only_tail}
 use Rattle.stack_base.specs.declared.ids.PoolId.{PoolId}
 use Rattle.stack_base.specs.declared.ids.Status.TheVariants as status
@@ -39,7 +40,6 @@ use Rattle.task_core.specs.opened.NewTasks.{AreServableWrites}
 use Rattle.task_core.proofs.opened.Behind.{sum_le}
 use Rattle.task_core.proofs.opened.Setups.{no_writer}
 use Rattle.task_core.proofs.opened.Sharing.{share_served}
-use Rattle.task_core.proofs.NumberTests.{lt_or}
 
 abbrev no_bios : List (Item Pad)
 no_bios = []
@@ -78,7 +78,7 @@ no_reserve stack number few great = by_test (number % 2 == 0) refl
 
 module _ (stack : Stack) (scripts : List (PoolId × Answers)) where
   rescue_is : (dev : ℕ) → slice_index_or (replicate (length stack.devices.items) []) dev [] ≡ no_bios
-  rescue_is dev = elim (lt_or dev (length stack.devices.items)) [
+  rescue_is dev = elim (cases_lt dev (length stack.devices.items)) [
     | inl lt ↦ get_or-replicate (length stack.devices.items) dev [] [] lt
     | inr le ↦ get_or_past (replicate (length stack.devices.items) []) dev [] (omega (arith, le, length-replicate {A = List (Item Pad)} (length stack.devices.items) []))
   ]
@@ -88,7 +88,7 @@ module _ (stack : Stack) (scripts : List (PoolId × Answers)) where
   either_disk false d = refl
 
   disk_is : (dev : ℕ) → disk_or (slice_index_or (new_disks stack (length stack.devices.items)) dev None) (opened_disk stack dev) ≡ opened_disk stack dev
-  disk_is dev = elim (lt_or dev (length stack.devices.items)) [
+  disk_is dev = elim (cases_lt dev (length stack.devices.items)) [
     | inl lt ↦
         ap (λ o. disk_or o (opened_disk stack dev)) (get_or-map-range_with_len (new_disk stack) 0 (length stack.devices.items) dev dev None lt (from_none dev))
         ∙ either_disk (keeps_data (tree stack dev)) (opened_disk stack dev)
@@ -140,7 +140,7 @@ module _ (stack : Stack) (scripts : List (PoolId × Answers)) (work : Work) (can
       }
 
   pool_is : (number : ℕ) → slice_index_or (new_pools stack scripts 66) number no_core_pool ≡ new_pool stack scripts number
-  pool_is number = elim (lt_or number 66) [
+  pool_is number = elim (cases_lt number 66) [
     | inl lt ↦ get_or-map-range_with_len (new_pool stack scripts) 0 66 number number no_core_pool lt (from_none number)
     | inr le ↦
         get_or_past (new_pools stack scripts 66) number no_core_pool (omega (arith, le, length-map-range_with_len (new_pool stack scripts) 0 66))
@@ -151,7 +151,7 @@ module _ (stack : Stack) (scripts : List (PoolId × Answers)) (work : Work) (can
   module _ (places : List ℕ) (placed : (writer : ℕ) → places_at places writer ≡ places_of s writer) where
     book_is : (writer : ℕ) → slice_index_or (new_books places 8) writer (record { writer = writer; nodes = [] })
         ≡ record { writer = writer; nodes = replicate (places_of s writer) None }
-    book_is writer = elim (lt_or writer 8) [
+    book_is writer = elim (cases_lt writer 8) [
       | inl lt ↦
           get_or-map-range_with_len (new_book places) 0 8 writer writer (record { writer = writer; nodes = [] }) lt (from_none writer)
           ∙ ap (λ n. record { writer = writer; nodes = replicate n None }) (placed writer)

@@ -1,6 +1,7 @@
 -- Opened objects are those of their text.
 use Rattle.std.proofs.Common.{◌≡◌, ◌/◌, ◌%◌, ◌≤◌, ◌==◌, ◌&&◌, ◌||◌, ℕ, Bool, true, false, true≢false, cond, refl, sym, ap, ◌∙◌, subst, arith}
 use Rattle.std.proofs.lemmas.Bool.Decides.{nat_tests}
+use Rattle.std.proofs.lemmas.Bool.{eqb-true}
 use Rattle.fail_script.specs.Script.{Answers, only_tail}
 use Rattle.stack_base.specs.declared.ids.PoolId.{PoolId}
 use Rattle.stack_base.specs.declared.ids.PoolId.TheVariants.{FsBios, FsVecs, Bios, Records}
@@ -28,18 +29,9 @@ abbrev pool_by : ℕ → Bool → Bool → Bool → PoolId
 pool_by number a b c = cond a FsBios (cond b FsVecs (cond c (Bios (at (number / 2))) (Records (at (number / 2)))))
 
 by_number : (number : ℕ) (a b c : Bool) → (number == 65) ≡ a → (number == 64) ≡ b → (number % 2 == 0) ≡ c → pool_number (pool_by number a b c) ≡ number
-by_number number true b c ea eb ec = let e = is_same number 65 ea in omega (arith, e)
-  where
-    is_same : (m n : ℕ) → (m == n) ≡ true → m ≡ n
-    is_same m n e = grind (e, arith, nat_tests)
-by_number number false true c ea eb ec = let e = is_same number 64 eb in omega (arith, e)
-  where
-    is_same : (m n : ℕ) → (m == n) ≡ true → m ≡ n
-    is_same m n e = grind (e, arith, nat_tests)
-by_number number false false true ea eb ec = let e = is_same (number % 2) 0 ec in omega (arith, e)
-  where
-    is_same : (m n : ℕ) → (m == n) ≡ true → m ≡ n
-    is_same m n e = grind (e, arith, nat_tests)
+by_number number true b c ea eb ec = let e = eqb-true number 65 ea in omega (arith, e)
+by_number number false true c ea eb ec = let e = eqb-true number 64 eb in omega (arith, e)
+by_number number false false true ea eb ec = let e = eqb-true (number % 2) 0 ec in omega (arith, e)
 by_number number false false false ea eb ec = let e = no_zero (number % 2) ec in omega (arith, e)
   where
     no_zero : (m : ℕ) → (m == 0) ≡ false → 1 ≤ m

@@ -1,5 +1,5 @@
 -- Each write of a scenario is in stage once at the start, and no other: it is to be begun.
-use Rattle.std.proofs.Common.{◌≡◌, ◌≢◌, ◌+◌, ◌*◌, ◌<◌, ◌≤◌, ◌⊎◌, ℕ, zero, suc, List, [], ◌∷◌, length, map, inl, inr, refl, ◌∙◌, ap, arith}
+use Rattle.std.proofs.Common.{◌≡◌, ◌≢◌, ◌+◌, ◌*◌, ◌<◌, ◌≤◌, ◌⊎◌, ℕ, zero, suc, List, [], ◌∷◌, length, map, inl, inr, refl, ◌∙◌, ap, arith, mul-le-mul_left}
 use Rattle.std.specs.Prelude.{zip}
 use Rattle.std.specs.List.{range_with_len}
 use Rattle.stack_base.proofs.NumberLemmas.{zero_or}
@@ -56,10 +56,6 @@ module _ (s : Scenario) (good : IsScenario s) (ledger : ℕ → LedgerId) where
       ∙ none_numbered w 0 (length s.writes) s.rounds s.writes (omega (arith, le))
 
 -- A write in stage is worth no more than all unfinished ones, where it is worth one or more;
-scaled : (a b c : ℕ) → b ≤ c → a * b ≤ a * c
-scaled zero b c le = omega arith
-scaled (suc a) b c le = omega (arith, le, scaled a b c le)
-
 todos_within : (g h : ℕ → ℕ) → ((n : ℕ) → g n ≤ h n) → (ts : List Todo) → all_worth g ts ≤ all_worth h ts
 todos_within g h le [] = omega arith
 todos_within g h le (todo ∷ ts) = omega (arith, le todo.number, todos_within g h le ts)
@@ -77,8 +73,8 @@ stage_within scene s i f w le =
         hand = λ item. omega arith;
         vector = λ vector. omega arith;
         slip = λ slip. omega arith;
-        node = λ writer place node at part. scaled (tops node.role) (one node.write w) (f node.write) (le node.write);
-        closed = λ task writer closed part. scaled (tops_left closed.parent) (one closed.write w) (f closed.write) (le closed.write);
+        node = λ writer place node at part. mul-le-mul_left (tops node.role) (le node.write);
+        closed = λ task writer closed part. mul-le-mul_left (tops_left closed.parent) (le closed.write);
       }),
     )
 

@@ -4,12 +4,12 @@ use Rattle.std.specs.Prelude.{IsTrue, slice_index_or}
 use Rattle.std.specs.List.{position_or_len}
 use Rattle.std.proofs.lemmas.List.{length-set, get_or-set_same, get_or-set_other}
 use Rattle.std.proofs.lemmas.Option.{slice_get-get_or, get_or_from_slice_get}
+use Rattle.std.proofs.lemmas.Bool.{eqb-true, eqb-false}
 use Rattle.seat_lock.specs.Seats.{LockId, SeatState, own}
 use Rattle.run_machine.specs.Laws.{Object}
 use Rattle.run_machine.specs.Maps.{upd}
 use Rattle.run_machine.specs.Requests.{Request}
 use Rattle.task_core.specs.Tables.{is_entry_of, IsEntryAt}
-use Rattle.task_core.proofs.NumberTests.{same_by, apart_by}
 use Rattle.task_core.proofs.TableLemmas.{key_is, looked, changed}
 use Rattle.object_things.specs.Histories.{Call}
 use Rattle.object_things.specs.Stamps.{CommonState, MarkState, Told}
@@ -90,11 +90,11 @@ module _ {K T : Type 0} {key : K → ℕ} {mark : T → MarkState} {name : ℕ �
         each_at : (j : ℕ) (l : K × LockId T) (s : K × SeatState T Request Told) (b : Bool) → (j == i) ≡ b → j < length locks
             → Sits (get_or locks j l) (get_or (set seats i (seat.0, now)) j s)
         each_at j l s true e lt =
-            subst (λ k. Sits (get_or locks k l) (get_or (set seats i (seat.0, now)) k s)) (sym (same_by j i e))
+            subst (λ k. Sits (get_or locks k l) (get_or (set seats i (seat.0, now)) k s)) (sym (eqb-true j i e))
             (subst (Sits (get_or locks i l)) (sym (get_or-set_same seats i (seat.0, now) s seat_there))
             (subst (λ (x : K × LockId T). Sits x (seat.0, now)) (lock_is ∙ default_to locks i lock l there) (keyed, of)))
         each_at j l s false e lt =
-            subst (Sits (get_or locks j l)) (sym (get_or-set_other seats i j (seat.0, now) s (apart_by j i e))) (seated.each j l s lt)
+            subst (Sits (get_or locks j l)) (sym (get_or-set_other seats i j (seat.0, now) s (eqb-false j i e))) (seated.each j l s lt)
 
         pub seats_now : AreSeatsOf task locks new
         seats_now = subst (AreSeatsOf task locks) (sym set_is) (record {

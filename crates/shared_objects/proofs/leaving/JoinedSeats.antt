@@ -1,11 +1,11 @@
 -- A task's seats that are joined into the first ones.
-use Rattle.std.proofs.Common.{◌≡◌, ◌+◌, ◌≤◌, ◌<◌, ℕ, List, [], ◌∷◌, ◌++◌, All, arith, refl, sym, ◌∙◌, ap, subst, length, map, get_or, append-nil, suc, zero, Option, None, Some}
+use Rattle.std.proofs.Common.{◌≡◌, ◌+◌, ◌≤◌, ◌<◌, ℕ, List, [], ◌∷◌, ◌++◌, All, arith, refl, sym, ◌∙◌, ap, subst, length, map, get_or, append-nil, Option, None, Some}
 use Rattle.std.specs.List.{flat_map}
 use Rattle.std.proofs.Math.Decide.{ℕ_discrete}
 use Rattle.std.proofs.Math.Logic.{dite}
 use Rattle.std.proofs.lemmas.Grind.{flat_map-append}
 use Rattle.std.proofs.lemmas.List.{length-append, length-map, map-append}
-use Rattle.std.proofs.lemmas.List.Elements.{All-append}
+use Rattle.std.proofs.lemmas.List.Elements.{All-append, All-cons, All-nil}
 use Rattle.seat_lock.specs.declared.view.Known.{Known}
 use Rattle.seat_lock.specs.declared.view.Rank.TheVariants.{First}
 use Rattle.seat_lock.specs.Seats.{LockId, SeatState, is_first}
@@ -60,13 +60,9 @@ one_can_close others first taken = taken.rank ∙ ap First (sym taken.joined)
 pub of_row : {L X Y : Type 0} {P : L → X → Y → X → Type 0} {row locks : List L} {olds news : List X} {others : List Y} → row ≡ locks → AreChanged P row olds others news → AreChanged P locks olds others news
 of_row {P = P} {olds = olds} {news = news} {others = others} same changed = subst (λ row. AreChanged P row olds others news) same changed
 
-all_one : {X : Type 0} (Q : X → Type 0) (x : X) → Q x → All Q (x ∷ [])
-all_one Q x is zero d lt = is
-all_one Q x is (suc k) d lt = absurd (omega (arith, lt))
-
 -- what holds of each of a list, and of one more
 pub all_and : {X : Type 0} (Q : X → Type 0) (xs : List X) (x : X) → All Q xs → Q x → All Q (xs ++ x ∷ [])
-all_and Q xs x are is = All-append Q xs (x ∷ []) are (all_one Q x is)
+all_and Q xs x are is = All-append Q xs (x ∷ []) are (All-cons Q x [] is (All-nil Q))
 
 -- two rows grow by an entry
 pub two_more : {X Y : Type 0} (P : X → Y → Type 0) (xs : List X) (ys : List Y) (x : X) (y : Y) → Abreast P xs ys → P x y → Abreast P (xs ++ x ∷ []) (ys ++ y ∷ [])

@@ -2,7 +2,7 @@
 use Rattle.std.proofs.Common.{◌≡◌, ℕ, ◌==◌, ◌<◌, ◌≤◌, ◌⊎◌, inl, inr, Bool, true, false, cond, List, [], ◌∷◌, ◌++◌, Option, Some, None, arith, refl, sym, ◌∙◌, ap, subst}
 use Rattle.std.specs.Prelude.{All, Contains, IfSome, IsTrue, max, ◌-◌, ◌^◌, map}
 use Rattle.std.specs.List.{cons_option}
-use Rattle.std.proofs.lemmas.Bool.{cases_lt}
+use Rattle.std.proofs.lemmas.Bool.{cases_lt, eqb-true}
 use Rattle.std.proofs.lemmas.List.{append-nil, append_assoc, map-append}
 use Rattle.std.proofs.lemmas.List.Elements.{All-push, All-weaker, filter-append, filter_map-append, Contains-push, Contains-append_left}
 use Rattle.tick_clock.specs.Tickets.{PassState, drawn_with}
@@ -17,13 +17,12 @@ use Rattle.object_things.specs.Histories.{Call, TicketsRise, IsNextTicket, or_la
 use Rattle.shared_objects.specs.Calls.{CallsAt, with_call, is_same_object, calls_at, calls_to, struck}
 use Rattle.shared_objects.specs.Desks.{DeskState, HasCalled, PassOn}
 use Rattle.shared_objects.specs.Logs.{is_glance, tickets_in, Looked, LogLeads, IsMet, IsSeenIn, KnowsLast, WentThrough, HasPass, IsMade, IsLogged}
-use Rattle.task_core.proofs.NumberTests.{same_by}
 
 abbrev here : Bool → Call → List Call
 here b call = cond b (call ∷ []) []
 
 more_by : (f : ℕ → List Call) (n m : ℕ) (call : Call) (b : Bool) → (m == n) ≡ b → cond b (f n ++ call ∷ []) (f m) ≡ f m ++ here b call
-more_by f n m call true e = ap (λ k. f k ++ call ∷ []) (sym (same_by m n e))
+more_by f n m call true e = ap (λ k. f k ++ call ∷ []) (sym (eqb-true m n e))
 more_by f n m call false e = sym (append-nil (f m))
 
 upd_more : (f : ℕ → List Call) (n m : ℕ) (call : Call) → upd f n (f n ++ call ∷ []) m ≡ f m ++ here (m == n) call

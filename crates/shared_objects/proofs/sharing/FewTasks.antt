@@ -23,8 +23,7 @@ use Rattle.task_steps.specs.TaskViews.{TaskOf}
 use Rattle.task_core.specs.declared.opening.Opened.{Opened}
 use Rattle.task_core.specs.opened.OfOne.{IsOpened, scenario_in}
 use Rattle.shared_objects.specs.Rans.{most_tasks}
-use Rattle.std.proofs.lemmas.Bool.{and_parts}
-use Rattle.task_core.proofs.NumberTests.{clash}
+use Rattle.std.proofs.lemmas.Bool.{and_parts, both_ways}
 use Rattle.shared_objects.proofs.row_lemmas.SeatNumbers.{few_of}
 
 -- two tests that never both pass
@@ -43,12 +42,12 @@ few_of_both p q apart (x ∷ xs) = by_test (p x) (q x) refl refl (few_of_both p 
 module _ (stack : Stack) (good : IsStack stack) (fit : IsFitStack stack) (number : ℕ) where
   by_kind : (device : Device) → slice_get stack.devices.items number ≡ Some device → (kind : Kind) → device.kind ≡ kind → HasReserves (what_of_kind kind) device.reserve device.rescuer
       → device.rescuer ≡ true → keeps_data (tree stack number) ≡ true → ⊥
-  by_kind device found (Disk sectors bad) e has rescuer keeps = clash device.rescuer rescuer has.1
-  by_kind device found Linear e has rescuer keeps = clash (keeps_data (tree stack number)) keeps (ap keeps_data (cuts_is stack good number device found (ap shape_of e)))
-  by_kind device found (Stripe chunk) e has rescuer keeps = clash (keeps_data (tree stack number)) keeps (ap keeps_data (cuts_is stack good number device found (ap shape_of e)))
-  by_kind device found (Zoned chunk) e has rescuer keeps = clash (keeps_data (tree stack number)) keeps (ap keeps_data (cuts_is stack good number device found (ap shape_of e)))
-  by_kind device found (Limit longest chunk) e has rescuer keeps = clash (keeps_data (tree stack number)) keeps (ap keeps_data (cuts_is stack good number device found (ap shape_of e)))
-  by_kind device found (Mirror records) e has rescuer keeps = clash (keeps_data (tree stack number)) keeps (ap keeps_data (copies_is stack good number device found (ap shape_of e)))
+  by_kind device found (Disk sectors bad) e has rescuer keeps = both_ways device.rescuer has.1 rescuer
+  by_kind device found Linear e has rescuer keeps = both_ways (keeps_data (tree stack number)) (ap keeps_data (cuts_is stack good number device found (ap shape_of e))) keeps
+  by_kind device found (Stripe chunk) e has rescuer keeps = both_ways (keeps_data (tree stack number)) (ap keeps_data (cuts_is stack good number device found (ap shape_of e))) keeps
+  by_kind device found (Zoned chunk) e has rescuer keeps = both_ways (keeps_data (tree stack number)) (ap keeps_data (cuts_is stack good number device found (ap shape_of e))) keeps
+  by_kind device found (Limit longest chunk) e has rescuer keeps = both_ways (keeps_data (tree stack number)) (ap keeps_data (cuts_is stack good number device found (ap shape_of e))) keeps
+  by_kind device found (Mirror records) e has rescuer keeps = both_ways (keeps_data (tree stack number)) (ap keeps_data (copies_is stack good number device found (ap shape_of e))) keeps
 
   by_found : (o : Option Device) → slice_get stack.devices.items number ≡ o → rescuer_at o ≡ true → keeps_data (tree stack number) ≡ true → ⊥
   by_found None found rescuer keeps = true≢false (sym rescuer)

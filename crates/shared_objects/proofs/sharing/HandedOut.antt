@@ -2,13 +2,13 @@
 use Rattle.std.proofs.Common.{◌≡◌, ◌≢◌, ◌==◌, ◌+◌, ◌<◌, ◌≤◌, ℕ, Bool, true, false, [], length, slice_index_or, slice_set, Option, None, Some, arith, refl, sym, ◌∙◌, ap, subst}
 use Rattle.std.specs.Prelude.{IfSome}
 use Rattle.std.proofs.lemmas.List.{get_or-set_same, get_or-set_other, length-set}
+use Rattle.std.proofs.lemmas.Bool.{eqb-true, eqb-false}
 use Rattle.task_core.specs.opened.OfOne.{scenario_in}
 use Rattle.task_steps.specs.TaskViews.{TaskOf}
 use Rattle.shared_objects.specs.Rans.{RanState, most_tasks}
 use Rattle.shared_objects.specs.Shared.{HandsOut, HasRoomFor, IsOwnIfHere, IsUntaken, SameShared, SharedHolds, ran_key_at}
 use Rattle.shared_objects.specs.Taking.{TakenHold}
 use Rattle.shared_objects.specs.declared.shared.Shared.{Shared}
-use Rattle.task_core.proofs.NumberTests.{same_by, apart_by}
 
 -- The slot of a task that was handed out was set, and nothing else but which is the next one.
 module _ (old : Shared) (holds : SharedHolds old) (new : Shared) (same : record old { tasks = new.tasks; next = new.next } ≡ new)
@@ -27,10 +27,10 @@ module _ (old : Shared) (holds : SharedHolds old) (new : Shared) (same : record 
   own_each : (at : ℕ) (first : TaskOf) (other : Option RanState) (b : Bool) → (at == place) ≡ b → at < length new.tasks.items
       → IsOwnIfHere (ran_key_at old.locks at (slice_index_or old.told.value.tasks.items at first)) (slice_index_or new.tasks.items at other)
   own_each at first other true e lt =
-      subst (λ k. IsOwnIfHere (ran_key_at old.locks k (slice_index_or old.told.value.tasks.items k first)) (slice_index_or new.tasks.items k other)) (sym (same_by at place e))
+      subst (λ k. IsOwnIfHere (ran_key_at old.locks k (slice_index_or old.told.value.tasks.items k first)) (slice_index_or new.tasks.items k other)) (sym (eqb-true at place e))
       (subst (IsOwnIfHere (ran_key_at old.locks place (slice_index_or old.told.value.tasks.items place first))) (sym (here other)) (owns first))
   own_each at first other false e lt =
-      subst (IsOwnIfHere (ran_key_at old.locks at (slice_index_or old.told.value.tasks.items at first))) (sym (elsewhere at other (apart_by at place e)))
+      subst (IsOwnIfHere (ran_key_at old.locks at (slice_index_or old.told.value.tasks.items at first))) (sym (elsewhere at other (eqb-false at place e)))
       (holds.own at first other (subst (λ n. at < n) many lt))
 
   untaken_each : (at : ℕ) (other : Option RanState) → new.next ≤ at → at < length new.tasks.items → IsUntaken (slice_index_or new.tasks.items at other)

@@ -3,6 +3,7 @@ use Rattle.std.proofs.Common.{◌≡◌, ◌≢◌, ◌+◌, ◌*◌, ◌%◌, �
 use Rattle.std.specs.List.{range_with_len}
 use Rattle.std.specs.Option.{option_map_or}
 use Rattle.std.proofs.lemmas.Bool.Decides.{nat_tests}
+use Rattle.std.proofs.lemmas.Bool.{ne_eqb, eq-eqb}
 use Rattle.stack_base.specs.PoolId.{pool_number}
 use Rattle.stack_base.specs.declared.ids.DevId.{DevId}
 use Rattle.stack_base.specs.declared.ids.SetId.{SetId}
@@ -21,7 +22,6 @@ use Rattle.task_core.specs.ObjectsOf.{IsBookOf, IsDiskOf}
 use Rattle.task_core.specs.Plains.{bios_at, book_number, disk_number, is_bios_number, list_number, no_book, no_pool, objects_of, pool_at, records_at, records_number, set_number, stage_of}
 use Rattle.run_machine.specs.Opened.{opened_disk}
 use Rattle.task_core.specs.Tables.{is_entry_of, look_up}
-use Rattle.task_core.proofs.NumberTests.{is_apart, is_itself}
 use Rattle.task_core.proofs.PoolLemmas.{stands_for_bios, stands_for_records}
 use Rattle.task_core.proofs.opened.NewPools.{sets_apart, slips_apart}
 use Rattle.task_steps.specs.Stage.{AreServed, has_disk_in, has_rescuer_in, has_book_in, has_mirror_in}
@@ -47,7 +47,7 @@ module _ {E : Type 0} (key : E → ℕ) (number : ℕ → ℕ) (is_used : ℕ �
       by_entry : (x : E) (xs : List E) (is : is_used first ≡ true) → key x ≡ number first → (y : E) → IsIndexed (first + 1) count xs y → IsIndexed first (suc count) (x ∷ xs) y
       by_entry x xs is here y s =
           let lo = s.least in let hi = s.below in
-          let other : (key x == number s.index) ≡ false = is_apart (key x) (number s.index) (λ same. apart first s.index (omega (arith, lo)) (sym here ∙ same)) in
+          let other : (key x == number s.index) ≡ false = ne_eqb (key x) (number s.index) (λ same. apart first s.index (omega (arith, lo)) (sym here ∙ same)) in
           record { index = s.index; least = omega (arith, lo); below = omega (arith, hi); used = s.used; keyed = s.keyed; found = rw (other) s.found }
 
       by_case : (b : Bool) → is_used first ≡ b → (es : List E) → map key es ≡ map number (cond b (first ∷ filter is_used (range_with_len (first + 1) count)) (filter is_used (range_with_len (first + 1) count)))
@@ -57,7 +57,7 @@ module _ {E : Type 0} (key : E → ℕ) (number : ℕ → ℕ) (is_used : ℕ �
       by_case true is [] f later = λ k d lt. absurd (omega (arith, lt))
       by_case true is (x ∷ xs) f later =
           let here : key x ≡ number first = ap (first_or 0) f in
-          let same : (key x == number first) ≡ true = is_itself (key x) (number first) here in
+          let same : (key x == number first) ≡ true = eq-eqb (key x) (number first) here in
           all_more (IsIndexed first (suc count) (x ∷ xs)) x xs
           (record { index = first; least = omega arith; below = omega arith; used = is; keyed = here; found = rw (same) refl })
           (λ k d lt. by_entry x xs is here (get_or xs k d) (later xs (ap behind_first f) k d lt))

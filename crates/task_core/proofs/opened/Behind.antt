@@ -5,7 +5,7 @@ use Rattle.std.specs.Option.{option_map_or}
 use Rattle.std.proofs.lemmas.List.Elements.{All-contains_itself, All-map, All-nil, All-weaker}
 use Rattle.std.proofs.lemmas.List.Sums.{sum_by-cons}
 use Rattle.std.proofs.lemmas.Option.{slice_get_cases, slice_get_within}
-use Rattle.std.proofs.lemmas.Bool.{and_parts, not-true}
+use Rattle.std.proofs.lemmas.Bool.{and_parts, not-true, both_ways, lt-ltb, ltb-true}
 use Rattle.stack_base.specs.declared.ids.PoolId.{PoolId}
 use Rattle.stack_base.specs.declared.ids.PoolId.TheVariants.{Bios, Records}
 use Rattle.stack_base.specs.declared.stack.Device.{Device}
@@ -34,7 +34,6 @@ use Rattle.task_core.specs.opened.Openings.{has_set_at}
 use Rattle.task_steps.specs.Stage.{has_mirror_in}
 use Rattle.task_steps.specs.Routed.{Routing, copies_bios, keeps, routing_setup}
 use Rattle.run_machine.specs.Scene.{has_set, is_mirror, keeps_data}
-use Rattle.task_core.proofs.NumberTests.{clash, is_below, below_by}
 use Rattle.task_core.proofs.opened.Sharing.{few_rounds}
 use Rattle.task_core.proofs.opened.PoolsBehind.{bios_kept, slips_kept, disks_keep_none, others_have_none, data_by, mirror_by, bads_by, number_small}
 pub use Rattle.task_core.proofs.opened.PoolsBehind.{of_stack}
@@ -46,7 +45,7 @@ module _ (routing : Routing) (good : IsStack routing.stack) (fit : IsFitStack ro
       → (device : Device) × (slice_get routing.stack.devices.items dev ≡ Some device)
   device_at dev below = elim (slice_get_cases routing.stack.devices.items dev).1 [
     | inl there ↦ (there.0, there.2)
-    | inr past ↦ let lt = below_by dev (length routing.stack.devices.items) below in absurd (omega (arith, lt, past.0))
+    | inr past ↦ let lt = ltb-true dev (length routing.stack.devices.items) below in absurd (omega (arith, lt, past.0))
   ]
 
   pub sets_kept : (dev : ℕ) → has_set_at routing (suc dev) ≡ true → 1 ≤ reserve_of routing.stack (Bios (at dev))
@@ -72,9 +71,9 @@ module _ (routing : Routing) (good : IsStack routing.stack) (fit : IsFitStack ro
       keeps_it : (device : Device) → slice_get routing.stack.devices.items dev ≡ Some device → (b : Bool) → keeps (shape_of device.kind) ≡ b → b ≡ true
       keeps_it device q true e = refl
       keeps_it device q false e =
-          let below = is_below dev (length routing.stack.devices.items) (slice_get_within routing.stack.devices.items dev device q) in
+          let below = lt-ltb dev (length routing.stack.devices.items) (slice_get_within routing.stack.devices.items dev device q) in
           let keeps_none = data_by routing.stack good dev device q (shape_of device.kind) refl ∙ e in
-          absurd (clash (has_set (routing_setup routing) dev) (rw (below, keeps_none) refl) none)
+          absurd (both_ways (has_set (routing_setup routing) dev) none (rw (below, keeps_none) refl))
 
       by_found : (o : Option Device) → slice_get routing.stack.devices.items dev ≡ o → reserve_of routing.stack (Bios (at dev)) ≡ 0
       by_found None q = ap (λ o. option_map_or (λ (d : Device). d.reserve) o 0) q
@@ -88,9 +87,9 @@ module _ (routing : Routing) (good : IsStack routing.stack) (fit : IsFitStack ro
       copies_none : (device : Device) → slice_get routing.stack.devices.items dev ≡ Some device → (b : Bool) → copies_bios (shape_of device.kind) ≡ b → b ≡ false
       copies_none device q false e = refl
       copies_none device q true e =
-          let below = is_below dev (length routing.stack.devices.items) (slice_get_within routing.stack.devices.items dev device q) in
+          let below = lt-ltb dev (length routing.stack.devices.items) (slice_get_within routing.stack.devices.items dev device q) in
           let copies_all = mirror_by routing.stack good dev device q (shape_of device.kind) refl ∙ e in
-          absurd (clash (has_mirror_in routing dev) (rw (below, copies_all) refl) none)
+          absurd (both_ways (has_mirror_in routing dev) none (rw (below, copies_all) refl))
 
       by_found : (o : Option Device) → slice_get routing.stack.devices.items dev ≡ o → reserve_of routing.stack (Records (at dev)) ≡ 0
       by_found None q = ap (λ o. option_map_or (λ (d : Device). records_at d.kind) o 0) q

@@ -6,9 +6,9 @@ use Rattle.std.proofs.lemmas.List.{append-nil, get_or-set_same, get_or-set_other
 use Rattle.std.proofs.lemmas.List.Elements.{filter-append}
 use Rattle.std.proofs.lemmas.List.Folds.{find_at, find-append, position_or_len_push}
 use Rattle.std.proofs.lemmas.Option.{slice_get-get_or, none-some}
+use Rattle.std.proofs.lemmas.Bool.{eq-eqb, ne_eqb, cases_lt}
 use Rattle.task_core.specs.Tables.{is_entry_of, IsEntryAt}
 use Rattle.task_core.specs.opened.Filled.{AreMade, IsNext}
-use Rattle.task_core.proofs.NumberTests.{is_itself, is_apart, clash, lt_or}
 use Rattle.stack_base.proofs.ListLemmas.{range_more}
 use Rattle.stack_base.proofs.NumberLemmas.{below_or_last}
 
@@ -38,18 +38,18 @@ not_there p (x ∷ xs) lt none =
     (sym none ∙ find_at p (x ∷ xs) ∙ slice_get-get_or (x ∷ xs) (position_or_len p (x ∷ xs)) x lt)
 
 no_place : {E : Type 0} (p : E → Bool) (xs : List E) → find p xs ≡ None → position_or_len p xs ≡ length xs
-no_place p xs none = elim (lt_or (position_or_len p xs) (length xs)) [
+no_place p xs none = elim (cases_lt (position_or_len p xs) (length xs)) [
   | inl lt ↦ absurd (not_there p xs lt none)
   | inr le ↦ let bound = place_bound p xs in omega (arith, le, bound)
 ]
 
 place_stays : {E : Type 0} (p : E → Bool) (xs : List E) (x : E) → position_or_len p xs < length xs → position_or_len p (xs ++ x ∷ []) ≡ position_or_len p xs
-place_stays p xs x lt = let apart : (position_or_len p xs == length xs) ≡ false = is_apart _ _ (λ e. omega (arith, lt, e)) in position_or_len_push p xs x ∙ rw (apart) refl
+place_stays p xs x lt = let apart : (position_or_len p xs == length xs) ≡ false = ne_eqb _ _ (λ e. omega (arith, lt, e)) in position_or_len_push p xs x ∙ rw (apart) refl
 
 place_last : {E : Type 0} (p : E → Bool) (xs : List E) (x : E) → find p xs ≡ None → p x ≡ true → position_or_len p (xs ++ x ∷ []) ≡ length xs
 place_last p xs x none passes =
     let none_is = no_place p xs none in
-    let same : (position_or_len p xs == length xs) ≡ true = is_itself _ _ none_is in position_or_len_push p xs x ∙ rw (same, passes) (omega arith)
+    let same : (position_or_len p xs == length xs) ≡ true = eq-eqb _ _ none_is in position_or_len_push p xs x ∙ rw (same, passes) (omega arith)
 
 -- one more index
 pub filter_more : (p : ℕ → Bool) (n : ℕ) → filter p (range_with_len 0 (n + 1)) ≡ filter p (range_with_len 0 n) ++ filter p (n ∷ [])
@@ -91,7 +91,7 @@ module _ {E : Type 0} (key : E → ℕ) (number : ℕ → ℕ) (is_used : ℕ �
     nothing_yet = all.no_other (number n) (λ i lt used. apart i lt)
 
     now_found : find (is_entry_of key (number n)) (entries ++ entry ∷ []) ≡ Some entry
-    now_found = last_found (is_entry_of key (number n)) entries entry nothing_yet (is_itself (key entry) (number n) keyed)
+    now_found = last_found (is_entry_of key (number n)) entries entry nothing_yet (eq-eqb (key entry) (number n) keyed)
 
     made_at : (i : ℕ) → i < n + 1 → is_used i ≡ true
         → (e : E) × (find (is_entry_of key (number i)) (entries ++ entry ∷ []) ≡ Some e) × IsMade i e
@@ -121,7 +121,7 @@ module _ {E : Type 0} (key : E → ℕ) (number : ℕ → ℕ) (is_used : ℕ �
         let long : length (entries ++ entry ∷ []) ≡ length entries + 1 = length-append entries (entry ∷ []) in
         record {
           there = omega (arith, now, long);
-          first = now ∙ sym (place_last (is_entry_of key (number n)) entries entry nothing_yet (is_itself (key entry) (number n) keyed));
+          first = now ∙ sym (place_last (is_entry_of key (number n)) entries entry nothing_yet (eq-eqb (key entry) (number n) keyed));
         }
 
     added : AreMade key number is_used IsMade (n + 1) (entries ++ entry ∷ []) (set table (number n) (length entries))
@@ -137,7 +137,7 @@ module _ {E : Type 0} (key : E → ℕ) (number : ℕ → ℕ) (is_used : ℕ �
           ];
           no_other = λ k none.
               not_found (is_entry_of key k) entries entry (all.no_other k (λ i lt is. none i (omega (arith, lt)) is))
-              (is_apart (key entry) k (λ e. none n (omega arith) used (sym keyed ∙ e)));
+              (ne_eqb (key entry) k (λ e. none n (omega arith) used (sym keyed ∙ e)));
           order = ordered_more (entries ++ entry ∷ []) (rw (used) (map-append key entries (entry ∷ []) ∙ ap (λ k. map key entries ++ k ∷ []) keyed));
         }
 

@@ -3,7 +3,7 @@ use Rattle.std.proofs.Common.{◌≡◌, ◌≢◌, ◌⊎◌, inl, inr, ◌+◌
 use Rattle.std.specs.Prelude.{IfSome, nat_lt, sum}
 use Rattle.std.specs.List.{range_with_len}
 use Rattle.std.specs.Option.{option_map_or}
-use Rattle.std.proofs.lemmas.Bool.{and_parts}
+use Rattle.std.proofs.lemmas.Bool.{and_parts, cases_lt, ltb-true, eqb-true, eqb-false, both_ways}
 use Rattle.std.proofs.lemmas.Bool.Decides.{nat_tests}
 use Rattle.std.proofs.lemmas.List.{length-replicate, map-id}
 use Rattle.std.proofs.lemmas.List.Elements.{All-nil, All-replicate}
@@ -39,7 +39,6 @@ use Rattle.run_machine.specs.Scene.{has_set}
 use Rattle.task_steps.specs.Stage.{Stage, IsServed, has_disk_in, has_rescuer_in, has_book_in, has_mirror_in}
 use Rattle.task_core.specs.Tables.{look_up, IsEntryAt, AreAt}
 use Rattle.run_machine.proofs.Frames.{pools_are_numbered}
-use Rattle.task_core.proofs.NumberTests.{lt_or, below_by, same_by, apart_by}
 
 module _ {E : Type 0} (key : E → ℕ) (number : ℕ → ℕ) (is_used : ℕ → Bool) (IsMade : ℕ → E → Type 0) (bound : ℕ) (entries : List E) (table : List ℕ)
     (all : AreMade key number is_used IsMade bound entries table) where
@@ -78,10 +77,10 @@ module _ {E : Type 0} (key : E → ℕ) (is_used : ℕ → Bool) (IsMade : ℕ �
 
 module _ (routing : Routing) where
   disk_below : (n : ℕ) → has_disk_in routing n ≡ true → n < length routing.stack.devices.items
-  disk_below n used = below_by n (length routing.stack.devices.items) (and_parts (nat_lt n (length routing.stack.devices.items)) _ used).0
+  disk_below n used = ltb-true n (length routing.stack.devices.items) (and_parts (nat_lt n (length routing.stack.devices.items)) _ used).0
 
   list_below : (n : ℕ) → has_rescuer_in routing n ≡ true → n < length routing.stack.devices.items
-  list_below n used = below_by n (length routing.stack.devices.items) (and_parts (nat_lt n (length routing.stack.devices.items)) _ used).0
+  list_below n used = ltb-true n (length routing.stack.devices.items) (and_parts (nat_lt n (length routing.stack.devices.items)) _ used).0
 
   disks_are : (disks : List DiskState) (table : List ℕ) → AreDisks routing (length routing.stack.devices.items) disks table
       → look_up disk_number (λ disk. disk) (opened_disk routing.stack) disks ≡ opened_disk routing.stack
@@ -131,17 +130,14 @@ module _ (routing : Routing) (good : IsStack routing.stack) (scripts : List (Poo
   none_is number none = record {
     numbered = refl;
     state = ap (opened (reserve_of routing.stack (pool_of number))) (sym (no_other number none));
-    most = λ has. absurd (clash (has_pool routing number) has none);
+    most = λ has. absurd (both_ways (has_pool routing number) none has);
   }
-    where
-      clash : (b : Bool) → b ≡ true → b ≡ false → ⊥
-      clash b p q = cc
 
   set_below : (dev : ℕ) → has_set (routing_setup routing) dev ≡ true → dev < length routing.stack.devices.items
-  set_below dev used = below_by dev (length routing.stack.devices.items) (and_parts (nat_lt dev (length routing.stack.devices.items)) _ used).0
+  set_below dev used = ltb-true dev (length routing.stack.devices.items) (and_parts (nat_lt dev (length routing.stack.devices.items)) _ used).0
 
   slips_below : (dev : ℕ) → has_mirror_in routing dev ≡ true → dev < length routing.stack.devices.items
-  slips_below dev used = below_by dev (length routing.stack.devices.items) (and_parts (nat_lt dev (length routing.stack.devices.items)) _ used).0
+  slips_below dev used = ltb-true dev (length routing.stack.devices.items) (and_parts (nat_lt dev (length routing.stack.devices.items)) _ used).0
 
   abbrev bios_found : List (SetId × LedgerPool) → ℕ → LedgerPool
   bios_found bios = look_up set_number (λ entry. entry.1) (no_pool routing.stack some) bios
@@ -178,9 +174,9 @@ module _ (routing : Routing) (good : IsStack routing.stack) (scripts : List (Poo
 
     sets_entered : (number : ℕ) (fs even : Bool) → (number == 65) ≡ fs → (number % 2 == 0) ≡ even
         → (fs || even && has_set (routing_setup routing) (number / 2)) ≡ true → IsEntryAt set_number table bios number
-    sets_entered number true even q r is = subst (IsEntryAt set_number table bios) (sym (same_by number 65 q)) (all.entered 0 (omega arith) refl)
+    sets_entered number true even q r is = subst (IsEntryAt set_number table bios) (sym (eqb-true number 65 q)) (all.entered 0 (omega arith) refl)
     sets_entered number false true q r is =
-        let zero_left = same_by (number % 2) 0 r in
+        let zero_left = eqb-true (number % 2) 0 r in
         let lt = set_below (number / 2) is in
         let whole : 2 * (number / 2) ≡ number = omega (arith, zero_left) in
         subst (IsEntryAt set_number table bios) whole (all.entered (suc (number / 2)) (omega (arith, lt)) is)
@@ -214,7 +210,7 @@ module _ (routing : Routing) (good : IsStack routing.stack) (scripts : List (Poo
     slips_entered : (number : ℕ) (odd : Bool) → (number % 2 == 1) ≡ odd → (odd && has_mirror_in routing (number / 2)) ≡ true
         → IsEntryAt records_number table records number
     slips_entered number true r is =
-        let one_left = same_by (number % 2) 1 r in
+        let one_left = eqb-true (number % 2) 1 r in
         let whole : 2 * (number / 2) + 1 ≡ number = omega (arith, one_left) in
         subst (IsEntryAt records_number table records) whole (all.entered (number / 2) (slips_below (number / 2) is) is)
     slips_entered number false r is = absurd (cc_false is)
@@ -232,7 +228,7 @@ module _ (routing : Routing) (good : IsStack routing.stack) (scripts : List (Poo
 
     odd_then : (number : ℕ) → (number % 2 == 0) ≡ false → (number % 2 == 1) ≡ true
     odd_then number not_even =
-        let apart = apart_by (number % 2) 0 not_even in
+        let apart = eqb-false (number % 2) 0 not_even in
         let one : number % 2 ≡ 1 = search (apart, arith) in is_one (number % 2) one
       where
         is_one : (n : ℕ) → n ≡ 1 → (n == 1) ≡ true
@@ -242,17 +238,17 @@ module _ (routing : Routing) (good : IsStack routing.stack) (scripts : List (Poo
         → has_set (routing_setup routing) (number / 2) ≡ set → has_mirror_in routing (number / 2) ≡ slips
         → IsPoolOf routing scripts reserves number (if vec then vecs else if fs || even then bios_found bios number else records_found records number)
     pool_by number true fs even set slips q r s t u =
-        subst (λ n. IsPoolOf routing scripts reserves n vecs) (sym (same_by number 64 q)) (made_is FsVecs vecs tt vecs_made)
+        subst (λ n. IsPoolOf routing scripts reserves n vecs) (sym (eqb-true number 64 q)) (made_is FsVecs vecs tt vecs_made)
     pool_by number false true even set slips q r s t u =
-        subst (λ n. IsPoolOf routing scripts reserves n (bios_found bios n)) (sym (same_by number 65 r)) (set_is bios bios_table bios_made 0 (omega arith) refl tt)
+        subst (λ n. IsPoolOf routing scripts reserves n (bios_found bios n)) (sym (eqb-true number 65 r)) (set_is bios bios_table bios_made 0 (omega arith) refl tt)
     pool_by number false false true true slips q r s t u =
-        let zero_left = same_by (number % 2) 0 s in
+        let zero_left = eqb-true (number % 2) 0 s in
         device_set bios bios_table bios_made number (number / 2) (omega (arith, zero_left)) t
     pool_by number false false true false slips q r s t u =
         let odd = not_odd number s in
-        unused_set bios bios_table bios_made number (apart_by number 65 r) t (rw (q, r, s, t, odd) refl)
+        unused_set bios bios_table bios_made number (eqb-false number 65 r) t (rw (q, r, s, t, odd) refl)
     pool_by number false false false set true q r s t u =
-        let one_left = same_by (number % 2) 1 (odd_then number s) in
+        let one_left = eqb-true (number % 2) 1 (odd_then number s) in
         device_slips records records_table records_made number (number / 2) (omega (arith, one_left)) u
     pool_by number false false false set false q r s t u =
         let odd = odd_then number s in
@@ -287,7 +283,7 @@ module _ (plain : Plain) (good : IsStack plain.stage.value.stack) (scripts : Lis
       plain.index.records records
 
   book_below : (n : ℕ) → has_book_in routing n ≡ true → n < 8
-  book_below n used = by_length (lt_or n 8)
+  book_below n used = by_length (cases_lt n 8)
     where
       past : (places : List ℕ) (n : ℕ) → length places ≤ n → get_or places n 0 ≡ 0
       past [] n le = refl
@@ -298,7 +294,7 @@ module _ (plain : Plain) (good : IsStack plain.stage.value.stack) (scripts : Lis
       by_length (inl lt) = lt
       by_length (inr le) =
           let none : get_or routing.places n 0 ≡ 0 = past routing.places n (omega (arith, le, eight)) in
-          let some = below_by 0 (places_at routing.places n) used in
+          let some = ltb-true 0 (places_at routing.places n) used in
           absurd (omega (arith, none, some))
 
   pub objects_are : objects_of plain ≡ opened_objects routing.stack scripts (places_at routing.places) (tally_of plain.tally)

@@ -2,6 +2,7 @@
 use Rattle.std.proofs.Common.{◌≡◌, ◌≢◌, ◌<◌, ◌≤◌, ◌==◌, ℕ, zero, suc, Bool, true, false, List, [], ◌∷◌, length, max, Some, refl, sym, ap, arith}
 use Rattle.std.specs.Prelude.{slice_get}
 use Rattle.std.specs.Option.{option_map_or}
+use Rattle.std.proofs.lemmas.Bool.{lt-ltb}
 use Rattle.stack_base.specs.declared.ids.DevId.{DevId}
 use Rattle.stack_base.specs.declared.ids.PoolId.{PoolId}
 use Rattle.stack_base.specs.declared.ids.PoolId.TheVariants.{Bios}
@@ -13,7 +14,6 @@ use Rattle.task_core.specs.opened.Openings.{widest, set_index, slip_index, has_s
 use Rattle.task_steps.specs.Stage.{has_mirror_in}
 use Rattle.task_steps.specs.Routed.{Routing, routing_setup}
 use Rattle.run_machine.specs.Scene.{keeps_data, is_mirror}
-use Rattle.task_core.proofs.NumberTests.{is_below}
 
 -- a pool is never narrower than it begins
 pub widest_least : (reserves : List (PoolId × ℕ)) (number most : ℕ) → most ≤ widest reserves number most
@@ -27,11 +27,11 @@ widest_least (reserve ∷ reserves) number most = by_case (widest_least reserves
 
 pub set_used : (routing : Routing) (dev : ℕ) → dev < length routing.stack.devices.items → keeps_data ((routing_setup routing).tree dev) ≡ false
     → has_set_at routing (suc dev) ≡ true
-set_used routing dev lt keeps = rw (is_below dev (length routing.stack.devices.items) lt, keeps) refl
+set_used routing dev lt keeps = rw (lt-ltb dev (length routing.stack.devices.items) lt, keeps) refl
 
 pub slips_used : (routing : Routing) (dev : ℕ) → dev < length routing.stack.devices.items → is_mirror ((routing_setup routing).tree dev) ≡ true
     → has_mirror_in routing dev ≡ true
-slips_used routing dev lt mirror = rw (is_below dev (length routing.stack.devices.items) lt, mirror) refl
+slips_used routing dev lt mirror = rw (lt-ltb dev (length routing.stack.devices.items) lt, mirror) refl
 
 pub reserve_is : (stack : Stack) (dev : DevId) (device : Device) → slice_get stack.devices.items dev.0 ≡ Some device
     → device.reserve ≡ reserve_of stack (Bios dev)

@@ -5,6 +5,7 @@ use Rattle.std.specs.List.{list_any, range_with_len}
 use Rattle.std.proofs.lemmas.List.{length-replicate}
 use Rattle.std.proofs.lemmas.List.Elements.{All-append, All-cons, All-filter, All-map, All-nil, All-weaker}
 use Rattle.std.proofs.lemmas.List.Sums.{sum_by-cons}
+use Rattle.std.proofs.lemmas.Bool.{eq-eqb, lt-ltb}
 use Rattle.fail_script.specs.Script.{Answers}
 use Rattle.stack_base.specs.declared.ids.PoolId.{PoolId}
 use Rattle.stack_base.specs.declared.stack.Stack.{Stack}
@@ -45,7 +46,6 @@ use Rattle.task_steps.specs.TaskViews.{TaskOf}
 use Rattle.run_machine.specs.Tasks.{Todo, NoBio, Empty, Duty, Resizes, Starts, TaskState, Writer, Rescuer, Completer, Keeper, Keeps}
 use Rattle.run_machine.proofs.Passing.{below_all}
 use Rattle.task_steps.specs.Within.{IsItemWithin}
-use Rattle.task_core.proofs.NumberTests.{is_itself, is_below}
 use Rattle.task_core.proofs.opened.Behind.{fit_work, shared}
 use Rattle.task_core.proofs.opened.ScriptsBehind.{all_flat}
 use Rattle.task_core.proofs.opened.PoolsBehind.{pool_known, pool_there}
@@ -67,7 +67,7 @@ widest_has (reserve ∷ reserves) number most =
   where
     first : IsNarrower (reserve ∷ reserves) number most reserve
     first e =
-        let same = is_itself (pool_number reserve.0) number e in
+        let same = eq-eqb (pool_number reserve.0) number e in
         let least = widest_least reserves number (max most reserve.1) in
         let grows : max most reserve.1 ≤ widest reserves number (grown reserve number most) = rw (same) least in omega (arith, grows)
 
@@ -108,7 +108,7 @@ module _ (s : Scenario) (stage : Stage) (stacks : stage.routing.stack ≡ s.stac
       let whole : places_of s writer ≡ sum_by (λ (todo : Todo). nodes s.stack todo.write) (found.first ∷ found.more) =
       ap (sum_by (λ (todo : Todo). nodes s.stack todo.write)) found.is in
       let places : places_at stage.routing.places writer ≡ places_of s writer = ap (λ (su : Setup). su.places writer) setups in
-      is_below 0 (places_at stage.routing.places writer) (omega (arith, first, whole, places))
+      lt-ltb 0 (places_at stage.routing.places writer) (omega (arith, first, whole, places))
 
   writers_home : All (IsTaskOf stage) (map (λ writer. Writer writer (todos_of s writer) NoBio rests) (writers s))
   writers_home =
@@ -125,7 +125,7 @@ module _ (s : Scenario) (stage : Stage) (stacks : stage.routing.stack ≡ s.stac
       let has : (opened.setup s).rescuer (get_or devices k d) ≡ true = all_passing (opened.setup s).rescuer (range_with_len 0 (opened.setup s).count) k d lt in
       let below = All-filter (opened.setup s).rescuer (λ dev. dev < (opened.setup s).count) (range_with_len 0 (opened.setup s).count)
       (below_all (opened.setup s).count) k d lt in
-      let known = is_below (get_or devices k d) (opened.setup s).count below in
+      let known = lt-ltb (get_or devices k d) (opened.setup s).count below in
       let both : (nat_lt (get_or devices k d) (opened.setup s).count && (opened.setup s).rescuer (get_or devices k d)) ≡ true =
       ap (λ b. b && (opened.setup s).rescuer (get_or devices k d)) known ∙ has in
       (ap (λ (su : Setup). nat_lt (get_or devices k d) su.count && su.rescuer (get_or devices k d)) setups ∙ both, new_submission))

@@ -5,6 +5,7 @@ use Rattle.std.specs.Option.{option_and_then, option_map}
 use Rattle.std.proofs.lemmas.Bool.Decides.{nat_tests}
 use Rattle.std.proofs.lemmas.List.Elements.{All-nil, All-weaker}
 use Rattle.std.proofs.lemmas.Option.{none-some, slice_get-map, slice_get_within}
+use Rattle.std.proofs.lemmas.Bool.{lt-ltb, or_right}
 use Rattle.stack_base.specs.declared.ids.DevId.{DevId}
 use Rattle.stack_base.specs.declared.ids.PoolId.{PoolId}
 use Rattle.stack_base.specs.declared.ids.PoolId.TheVariants.{FsBios, FsVecs, Bios, Records}
@@ -28,7 +29,6 @@ use Rattle.task_core.specs.opened.Openings.{has_pool}
 use Rattle.task_steps.specs.Routed.{Routing, copies_bios, keeps, routing_setup}
 use Rattle.run_machine.specs.Scene.{has_set, is_mirror, keeps_data}
 use Rattle.task_steps.specs.Stage.{Stage, is_pool, has_mirror_in}
-use Rattle.task_core.proofs.NumberTests.{is_below}
 
 -- kinds
 pub kind_sets : (kind : Kind) (number : ℕ) (pool : PoolId) → bios_pool_of number (what_of_kind kind) ≡ Some pool → keeps (shape_of kind) ≡ false
@@ -123,24 +123,20 @@ module _ (routing : Routing) (good : IsStack routing.stack) where
       let told = told_device bios_pool_of routing.stack dev.0 (Bios dev) is in
       let lt = slice_get_within routing.stack.devices.items dev.0 told.0 told.1 in
       let keeps_none = data_by routing.stack good dev.0 told.0 told.1 (shape_of told.0.kind) refl ∙ kind_sets told.0.kind dev.0 (Bios dev) told.2 in
-      rw (is_below dev.0 (length routing.stack.devices.items) lt, keeps_none) refl
+      rw (lt-ltb dev.0 (length routing.stack.devices.items) lt, keeps_none) refl
 
   slips_in : (dev : DevId) → IsPoolIn (shown_devices routing.stack) (Records dev) → has_mirror_in routing dev.0 ≡ true
   slips_in dev is =
       let told = told_device records_pool_of routing.stack dev.0 (Records dev) is in
       let lt = slice_get_within routing.stack.devices.items dev.0 told.0 told.1 in
       let copies_all = mirror_by routing.stack good dev.0 told.0 told.1 (shape_of told.0.kind) refl ∙ kind_slips told.0.kind dev.0 (Records dev) told.2 in
-      rw (is_below dev.0 (length routing.stack.devices.items) lt, copies_all) refl
+      rw (lt-ltb dev.0 (length routing.stack.devices.items) lt, copies_all) refl
 
   or_middle : (a b c d : Bool) → c ≡ true → (a || (b || c) || d) ≡ true
   or_middle true b c d e = refl
   or_middle false true c d e = refl
   or_middle false false true d e = refl
   or_middle false false false d e = absurd (true≢false (sym e))
-
-  or_last : (a b : Bool) → b ≡ true → (a || b) ≡ true
-  or_last true b e = refl
-  or_last false b e = e
 
   even_is : (n : ℕ) → (2 * n % 2 == 0) ≡ true
   even_is n = let e : 2 * n % 2 ≡ 0 = omega arith in by_number (2 * n % 2) e
@@ -170,7 +166,7 @@ module _ (routing : Routing) (good : IsStack routing.stack) where
       let slips : has_mirror_in routing ((2 * dev.0 + 1) / 2) ≡ true = ap (has_mirror_in routing) half ∙ slips_in dev is in
       let odd = odd_is dev.0 in
       let both : ((2 * dev.0 + 1) % 2 == 1 && has_mirror_in routing ((2 * dev.0 + 1) / 2)) ≡ true = rw (odd, slips) refl in
-      or_last (2 * dev.0 + 1 == 64 || (2 * dev.0 + 1 == 65 || (2 * dev.0 + 1) % 2 == 0 && has_set (routing_setup routing) ((2 * dev.0 + 1) / 2)))
+      or_right (2 * dev.0 + 1 == 64 || (2 * dev.0 + 1 == 65 || (2 * dev.0 + 1) % 2 == 0 && has_set (routing_setup routing) ((2 * dev.0 + 1) / 2)))
       ((2 * dev.0 + 1) % 2 == 1 && has_mirror_in routing ((2 * dev.0 + 1) / 2)) both
 
 -- one that objects of the stack have

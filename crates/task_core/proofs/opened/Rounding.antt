@@ -8,9 +8,9 @@ use Rattle.std.proofs.lemmas.List.{append-nil, map-id}
 use Rattle.std.proofs.lemmas.List.Filters.{length-filter_more}
 use Rattle.std.proofs.lemmas.List.FromFn.{get_or-map-range_with_len, map-range_with_len_more}
 use Rattle.std.proofs.lemmas.List.Sums.{get_or-le-sum_by, sum_by-set}
+use Rattle.std.proofs.lemmas.Bool.{eq-eqb, ne_eqb}
 use Rattle.stack_base.proofs.Zones.{fold_max_start}
 use Rattle.run_machine.specs.Opened.{in_round, from_round, rounds_in, left_in, starts_at, duties_in, Change}
-use Rattle.task_core.proofs.NumberTests.{is_itself, is_apart}
 
 -- nothing is counted yet
 pub none_counted : (a n : ℕ) → replicate n 0 ≡ map (in_round []) (range_with_len a n)
@@ -49,7 +49,7 @@ counted_more rounds i n round old d lt is inside had =
     more k = length-filter_more (λ r. r == k) rounds i d lt ∙ ap (λ r. in_round (take i rounds) k + cond (r == k) 1 0) (sym is)
 
     itself : in_round (take (i + 1) rounds) round ≡ old + 1
-    itself = let same = is_itself round round refl in more round ∙ ap (λ b. in_round (take i rounds) round + cond b 1 0) same ∙ ap (λ n. n + 1) (sym had)
+    itself = let same = eq-eqb round round refl in more round ∙ ap (λ b. in_round (take i rounds) round + cond b 1 0) same ∙ ap (λ n. n + 1) (sym had)
 
     own : in_round (take (i + 1) rounds) (0 + round) ≡ old + 1
     own = let none : 0 + round ≡ round = omega arith in ap (in_round (take (i + 1) rounds)) none ∙ itself
@@ -57,7 +57,7 @@ counted_more rounds i n round old d lt is inside had =
     other : (k : ℕ) → k ≢ 0 + round → in_round (take i rounds) k ≡ in_round (take (i + 1) rounds) k
     other k apart =
         let away : round ≢ k = λ e. apart (omega (arith, e)) in
-        let differs = is_apart round k away in
+        let differs = ne_eqb round k away in
         let none : in_round (take i rounds) k + 0 ≡ in_round (take i rounds) k = omega arith in
         sym (more k ∙ ap (λ b. in_round (take i rounds) k + cond b 1 0) differs ∙ none)
 

@@ -9,6 +9,7 @@ use Rattle.std.proofs.lemmas.List.Elements.{All-append, All-cons, All-head, All-
 use Rattle.std.proofs.lemmas.List.FromFn.{get_or-range_with_len, length-range_with_len}
 use Rattle.std.proofs.lemmas.Option.{none-some, slice_get-get_or}
 use Rattle.std.proofs.lemmas.Slice.Zip.{get_or-zip, length-zip}
+use Rattle.std.proofs.lemmas.Bool.{cases_lt, eqb-true, both_ways}
 use Rattle.fail_script.specs.Script.{Answers, only_tail}
 use Rattle.stack_base.specs.declared.ids.PoolId.{PoolId}
 use Rattle.stack_base.specs.declared.ids.PoolId.TheVariants.{FsBios, FsVecs, Bios, Records}
@@ -24,7 +25,6 @@ use Rattle.work_text.specs.Fit.{IsPoolIn}
 use Rattle.run_machine.specs.Opened.{at, is_numbered, script_at}
 use Rattle.task_core.specs.opened.Openings.{has_pool}
 use Rattle.task_steps.specs.Routed.{Routing}
-use Rattle.task_core.proofs.NumberTests.{lt_or, same_by, clash}
 use Rattle.task_core.proofs.opened.PoolsBehind.{pool_there, number_small, of_stack}
 
 -- the scripts of declarations are of their pools
@@ -97,7 +97,7 @@ scripts_in stack scripts declared =
 
 pub scripts_small : (stack : Stack) (scripts : Scripts) → IsStack stack → ∥ IsDeclaredSo stack scripts ∥₁
     → All (λ (script : PoolId × Answers). pool_number script.0 < 2 ^ 32) scripts
-scripts_small stack scripts good so = λ k d lt. elim (lt_or (pool_number (get_or scripts k d).0) (2 ^ 32)) [
+scripts_small stack scripts good so = λ k d lt. elim (cases_lt (pool_number (get_or scripts k d).0) (2 ^ 32)) [
   | inl small ↦ small
   | inr large ↦ absurd (not_there so (λ declared.
       let small = number_small stack good (get_or scripts k d).0 (scripts_in stack scripts declared k d lt) in omega (arith, small, large)))
@@ -110,11 +110,11 @@ scripts_of_stack stack scripts good so = λ k d lt. by_pool (get_or scripts k d)
     by_pool : (pool : PoolId) → (IsDeclaredSo stack scripts → IsOfStack pool) → IsOfStack pool
     by_pool FsBios is = tt
     by_pool FsVecs is = tt
-    by_pool (Bios dev) is = elim (lt_or dev.0 32) [
+    by_pool (Bios dev) is = elim (cases_lt dev.0 32) [
       | inl small ↦ small
       | inr large ↦ absurd (not_there so (λ declared. let small = is declared in omega (arith, small, large)))
     ]
-    by_pool (Records dev) is = elim (lt_or dev.0 32) [
+    by_pool (Records dev) is = elim (cases_lt dev.0 32) [
       | inl small ↦ small
       | inr large ↦ absurd (not_there so (λ declared. let small = is declared in omega (arith, small, large)))
     ]
@@ -130,7 +130,7 @@ scripts_alone routing scripts good so number none = by_found (find (is_numbered 
     other : (script : PoolId × Answers) → IsPoolIn (shown_devices routing.stack) script.0 → (b : Bool) → is_numbered number script ≡ b → b ≡ false
     other script is false q = refl
     other script is true q =
-        absurd (clash (has_pool routing number) (ap (has_pool routing) (sym (same_by (pool_number script.0) number q)) ∙ pool_there routing good script.0 is) none)
+        absurd (both_ways (has_pool routing number) none (ap (has_pool routing) (sym (eqb-true (pool_number script.0) number q)) ∙ pool_there routing good script.0 is))
 
     by_found : (o : Option (PoolId × Answers)) → find (is_numbered number) scripts ≡ o → script_at scripts number ≡ only_tail true
     by_found None q = ap (λ o. option_map_or (λ (script : PoolId × Answers). script.1) o (only_tail true)) q

@@ -4,6 +4,7 @@ use Rattle.std.specs.Prelude.{sum_by}
 use Rattle.std.specs.List.{range_with_len}
 use Rattle.std.proofs.lemmas.Bool.Decides.{nat_tests}
 use Rattle.std.proofs.lemmas.List.{get_or_past}
+use Rattle.std.proofs.lemmas.Bool.{cases_lt}
 use Rattle.fail_script.specs.Script.{Answers}
 use Rattle.stack_base.specs.declared.ids.PoolId.{PoolId}
 use Rattle.stack_base.specs.declared.stack.Stack.{Stack}
@@ -21,7 +22,6 @@ use Rattle.task_steps.specs.TaskViews.{TaskOf}
 use Rattle.task_core.specs.opened.NewTasks.{AreServableWrites, others_in, with_routing}
 use Rattle.task_core.specs.opened.OfOne.{states}
 use Rattle.task_core.specs.opened.OpenTasks.{AreTasksOf}
-use Rattle.task_core.proofs.NumberTests.{lt_or}
 use Rattle.task_core.proofs.opened.Sharing.{numbered_all}
 
 is_other : (a b : ℕ) → a < b → (a == b) ≡ false
@@ -45,7 +45,7 @@ module _ (stack : Stack) (scripts : List (PoolId × Answers)) (work : Work) (sha
 
   module _ (routing : Routing) (all : List TaskOf) (counts : List ℕ) (are : AreTasksOf stack work routing all counts) where
     pub places_are : (writer : ℕ) → places_at routing.places writer ≡ places_of s writer
-    places_are writer = elim (lt_or writer 8) [
+    places_are writer = elim (cases_lt writer 8) [
       | inl lt ↦ are.placed.each writer lt
       | inr le ↦
           let eight = are.placed.eight in

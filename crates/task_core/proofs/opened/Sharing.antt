@@ -7,6 +7,7 @@ use Rattle.std.proofs.lemmas.List.Elements.{All-cons, All-filter, All-head, All-
 use Rattle.std.proofs.lemmas.List.FromFn.{get_or-range_with_len, length-range_with_len}
 use Rattle.std.proofs.lemmas.List.Sums.{sum_by-cons}
 use Rattle.std.proofs.lemmas.Slice.Zip.{get_or-zip, length-zip}
+use Rattle.std.proofs.lemmas.Bool.{both_ways}
 use Rattle.stack_base.specs.declared.stack.Stack.{Stack}
 use Rattle.layout_model.specs.declared.write.Write.{Write}
 use Rattle.layout_model.specs.NeedCounts.{nodes}
@@ -21,7 +22,6 @@ use Rattle.run_machine.specs.Opened.{at, is_by, numbered, numbered_from, share_o
 use Rattle.run_machine.specs.Tasks.{Todo, TaskState, NoBio, Empty, Writer, Rescuer, Completer}
 use Rattle.run_machine.proofs.Passing.{filter_sum, none_passes}
 use Rattle.stack_base.proofs.NumberLemmas.{below_or_last}
-use Rattle.task_core.proofs.NumberTests.{clash}
 use Rattle.task_core.proofs.opened.Filling as fill
 
 -- how many there are, and which stands at a place
@@ -165,7 +165,7 @@ pub record IsSome {X : Type 0} (xs : List X) : Type 0 where
   pub is : xs ≡ first ∷ more
 
 pub any_some : {X : Type 0} (p : X → Bool) (xs : List X) → list_any p xs ≡ true → IsSome (filter p xs)
-any_some p [] some = absurd (clash false some refl)
+any_some p [] some = absurd (both_ways false refl some)
 any_some p (x ∷ xs) some = by_test (any_some p xs) (p x) refl some
   where
     by_test : (list_any p xs ≡ true → IsSome (filter p xs)) → (b : Bool) → p x ≡ b → list_any p (x ∷ xs) ≡ true → IsSome (filter p (x ∷ xs))

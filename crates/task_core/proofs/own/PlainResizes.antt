@@ -2,6 +2,7 @@
 use Rattle.std.proofs.Common.{◌≡◌, ◌⊎◌, inl, inr, ◌<◌, ◌≤◌, ◌==◌, if◌then◌else◌, ℕ, List, get_or, set, refl, sym, ap, subst, ◌∙◌}
 use Rattle.std.specs.Prelude.{IsTrue, slice_index_or}
 use Rattle.std.proofs.lemmas.List.{set-get_or}
+use Rattle.std.proofs.lemmas.Bool.{eq-eqb}
 use Rattle.stack_base.specs.declared.ids.DevId.{DevId}
 use Rattle.stack_base.specs.declared.ids.SetId.{SetId}
 use Rattle.stack_base.specs.declared.ids.PoolId.{PoolId}
@@ -23,12 +24,11 @@ use Rattle.task_core.specs.Plains.{set_number, records_number, no_pool, by_kind,
 use Rattle.task_core.proofs.Keeping.{set_is_bios, mirror_is_slips}
 use Rattle.task_core.proofs.own.PlainLemmas.{kept_by, with_bios, with_records, with_vecs, bios_there, bios_entered, bios_move, bios_stage, records_there, records_entered, records_move, records_stage, vecs_entered, vecs_move, vecs_stage}
 use Rattle.task_core.proofs.own.PlainFacts.{set_is}
-use Rattle.task_core.proofs.NumberTests.{is_itself}
 
 -- a resize that was a move, or changed nothing, as what is served
 moved_so : (old new : Objects) (n min out : ℕ) → out ≡ 0 → MovesPool old n (resizes min) new
     → new ≡ (if out == 0 then record old { pool = upd old.pool n (after_move (old.pool n) (resizes min)) } else old)
-moved_so old new n min out zero move = rw (is_itself out 0 zero) (move.1)
+moved_so old new n min out zero move = rw (eq-eqb out 0 zero) (move.1)
 
 stayed_so : (old new : Objects) (n min out : ℕ) → 0 < out → new ≡ old
     → new ≡ (if out == 0 then record old { pool = upd old.pool n (after_move (old.pool n) (resizes min)) } else old)
