@@ -22,15 +22,18 @@ told_so false used e h = absurd (cc h)
 module _ {P : Type 0} (is_clear : P → Type 0) where
   pub took_served : (name : PoolId) (waits : Bool) (old new : LedgerPool) (taken : Taken P) → WaitsAt name waits → is_look waits taken ≡ false → TakeOf is_clear old taken new
       → PoolServes old (take_request name waits) (took name (Ok taken)) new
+  -- bios, of the file system and of devices
   took_served FsBios waits old new (Ordinary el) w told takes = (takes.0, ap clear_bio takes.1.share)
   took_served FsBios waits old new (Spare el) w told takes = (takes.0, ap clear_bio takes.1.share)
   took_served FsBios waits old new (Miss used) w told takes = (takes, told_so waits used told)
   took_served (Bios dev) waits old new (Ordinary el) w told takes = (takes.0, ap clear_bio takes.1.share)
   took_served (Bios dev) waits old new (Spare el) w told takes = (takes.0, ap clear_bio takes.1.share)
   took_served (Bios dev) waits old new (Miss used) w told takes = (takes, told_so waits used told)
+  -- vectors
   took_served FsVecs waits old new (Ordinary el) w told takes = (takes.0, ap clear_vector takes.1.share)
   took_served FsVecs waits old new (Spare el) w told takes = (takes.0, ap clear_vector takes.1.share)
   took_served FsVecs waits old new (Miss used) w told takes = (takes, λ h. told_so waits used told w)
+  -- records
   took_served (Records dev) waits old new (Ordinary el) w told takes = (takes.0, ap clear_slip takes.1.share)
   took_served (Records dev) waits old new (Spare el) w told takes = (takes.0, ap clear_slip takes.1.share)
   took_served (Records dev) waits old new (Miss used) w told takes = (takes, λ h. told_so waits used told w)

@@ -57,8 +57,10 @@ same_pool objects new number none is = is ∙ ap (λ (pools : ℕ → PoolState)
 module _ (setup : Setup) where
   submission_stays : (doing : Doing) (lists : TaskLists) (reply : Reply) → IsIdle (submission_request setup doing lists) reply
       → submission_answered setup doing lists reply ≡ record { doing = doing; lists = lists }
+  -- at rest, or broken off: it asks nothing
   submission_stays Rests lists reply idle = absurd idle
   submission_stays (Breaks breach kept) lists reply idle = absurd idle
+  -- of what a bio wants, only a take that waits, and that of a record, may find nothing
   submission_stays (Drives bio ToPush) lists reply idle = absurd idle
   submission_stays (Drives bio (ToCut (Takes true))) lists (requests.Missed used) idle = refl
   submission_stays (Drives bio (ToCut (Takes true))) lists _ idle = absurd idle
@@ -69,6 +71,7 @@ module _ (setup : Setup) where
   submission_stays (Drives bio ToRecord) lists (requests.Missed used) idle = refl
   submission_stays (Drives bio ToRecord) lists _ idle = absurd idle
   submission_stays (Drives bio (ToMaster slip)) lists reply idle = absurd idle
+  -- of what a leg wants, only a take that waits
   submission_stays (Copies bio master leg (Takes true)) lists (requests.Missed used) idle = refl
   submission_stays (Copies bio master leg (Takes true)) lists _ idle = absurd idle
   submission_stays (Copies bio master leg (Takes false)) lists (requests.Missed used) idle = absurd idle

@@ -178,6 +178,7 @@ look_of (Completer disk carried) = None
 look_of (Keeper (Keeps (duty ∷ duties))) = Some LookLeft
 look_of (Keeper keeping) = None
 
+-- how many writes are left when a duty may be done
 abbrev pub later_of : Duty → ℕ
 later_of (Resizes pool min later) = later
 later_of (Starts round later) = later

@@ -74,7 +74,9 @@ abbrev pub Chooses : Lcg → ℕ → ℕ → Lcg → Type 0
 Chooses old pending index new = (index ≡ word old % min pending 64) × (new ≡ behind old)
 
 picks_none : (state : State) (event : What) (stream after : Lcg) → is_complete event ≡ false → after ≡ stream → PicksByWord state event stream after
+-- a completion picks
 picks_none state (what.Complete disk index status) stream after none same = absurd (true≢false none)
+-- nothing else does
 picks_none state (what.Take pool got) stream after none same = same
 picks_none state (what.Try pool got) stream after none same = same
 picks_none state (what.Give pool) stream after none same = same

@@ -53,7 +53,9 @@ reached w n p lt = by_order (w % n) refl (order p (w % n))
 
 -- a free event needs no ordinary memory
 free_is_other : (w : What) → IsTrue (is_free w) → IsTrue (is_ordinary w) → ⊥
+-- a take of ordinary memory is not free
 free_is_other (what.Take pool got.Ordinary) free ordinary = true≢false (sym free)
+-- nothing else needs such memory
 free_is_other (what.Take pool got.Spare) free ordinary = true≢false (sym ordinary)
 free_is_other (what.Take pool got.Missed) free ordinary = true≢false (sym ordinary)
 free_is_other (what.Try pool got) free ordinary = true≢false (sym ordinary)

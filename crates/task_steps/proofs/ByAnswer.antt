@@ -50,35 +50,43 @@ module _ (stage : Stage) (setup : Setup) where
       → Owes stage (submission_request setup doing lists) reply
       → Comes setup (submission_request setup doing lists) reply (doing_breach (submission_answered setup doing lists reply).doing)
       (submission_answered setup doing lists reply ≡ record { doing = doing; lists = lists })
+  -- at rest, or broken off: it asks nothing
   submission_comes Rests lists reply any owed = absurd (true≢false (sym any))
   submission_comes (Breaks b kept) lists reply any owed = absurd (true≢false (sym any))
+  -- a push
   submission_comes (Drives bio ToPush) lists Did any owed = Tells _ refl
   submission_comes (Drives bio ToPush) lists Spent any owed = Refuses breach.Spent refl refl refl
   submission_comes (Drives bio ToPush) lists reply any owed = absurd owed
+  -- a take for a cut: where it waits, and the miss used up no entry, all is the same
   submission_comes (Drives bio (ToCut (Takes waits))) lists (HadBio got hand) any owed = Tells _ refl
   submission_comes (Drives bio (ToCut (Takes true))) lists (Missed true) any owed = Tells _ refl
   submission_comes (Drives bio (ToCut (Takes true))) lists (Missed false) any owed = Misses _ refl refl refl refl refl
   submission_comes (Drives bio (ToCut (Takes false))) lists (Missed used) any owed = Tells _ refl
   submission_comes (Drives bio (ToCut (Takes waits))) lists Spent any owed = Refuses breach.Spent refl refl refl
   submission_comes (Drives bio (ToCut (Takes waits))) lists reply any owed = absurd owed
+  -- a punt
   submission_comes (Drives bio (ToCut Punts)) lists Did any owed = Tells _ refl
   submission_comes (Drives bio (ToCut Punts)) lists Spent any owed = Refuses breach.Spent refl refl refl
   submission_comes (Drives bio (ToCut Punts)) lists reply any owed = absurd owed
+  -- a node for the cut, which the book may refuse
   submission_comes (Drives bio (ToCut (Links hand))) lists (LinkedTo (Made node)) any owed = Tells _ refl
   submission_comes (Drives bio (ToCut (Links hand))) lists (LinkedTo (NoRoom back)) any owed = Refuses _ refl refl refl
   submission_comes (Drives bio (ToCut (Links hand))) lists (LinkedTo (Stray back)) any owed = Refuses _ refl refl refl
   submission_comes (Drives bio (ToCut (Links hand))) lists Spent any owed = Refuses breach.Spent refl refl refl
   submission_comes (Drives bio (ToCut (Links hand))) lists reply any owed = absurd owed
+  -- a take of a record for a mirror
   submission_comes (Drives bio ToRecord) lists (HadSlip got slip) any owed = Tells _ refl
   submission_comes (Drives bio ToRecord) lists (Missed true) any owed = Tells _ refl
   submission_comes (Drives bio ToRecord) lists (Missed false) any owed = Misses _ refl refl refl refl refl
   submission_comes (Drives bio ToRecord) lists Spent any owed = Refuses breach.Spent refl refl refl
   submission_comes (Drives bio ToRecord) lists reply any owed = absurd owed
+  -- a node for its master
   submission_comes (Drives bio (ToMaster slip)) lists (LinkedTo (Made node)) any owed = Tells _ refl
   submission_comes (Drives bio (ToMaster slip)) lists (LinkedTo (NoRoom back)) any owed = Refuses _ refl refl refl
   submission_comes (Drives bio (ToMaster slip)) lists (LinkedTo (Stray back)) any owed = Refuses _ refl refl refl
   submission_comes (Drives bio (ToMaster slip)) lists Spent any owed = Refuses breach.Spent refl refl refl
   submission_comes (Drives bio (ToMaster slip)) lists reply any owed = absurd owed
+  -- takes, punts and nodes for a leg of it, as for a cut
   submission_comes (Copies bio master leg (Takes waits)) lists (HadBio got hand) any owed = Tells _ refl
   submission_comes (Copies bio master leg (Takes true)) lists (Missed true) any owed = Tells _ refl
   submission_comes (Copies bio master leg (Takes true)) lists (Missed false) any owed = Misses _ refl refl refl refl refl
@@ -103,11 +111,13 @@ module _ (stage : Stage) (setup : Setup) where
       → Owes stage (with_bio number needs todo) reply
       → Comes setup (with_bio number needs todo) reply (breach_of (write_answered setup number (todo ∷ later) (HasBio bio) submission reply))
       (write_answered setup number (todo ∷ later) (HasBio bio) submission reply ≡ Writer number (todo ∷ later) (HasBio bio) submission)
+  -- a vector, where the write needs one
   with_bio_comes true number todo later bio submission (HadVec got vector) owed = Tells _ refl
   with_bio_comes true number todo later bio submission (Missed true) owed = Tells _ refl
   with_bio_comes true number todo later bio submission (Missed false) owed = Misses _ refl refl refl refl refl
   with_bio_comes true number todo later bio submission Spent owed = Refuses breach.Spent refl refl refl
   with_bio_comes true number todo later bio submission reply owed = absurd owed
+  -- and else its node
   with_bio_comes false number todo later bio submission (LinkedTo (Made node)) owed = Tells _ refl
   with_bio_comes false number todo later bio submission (LinkedTo (NoRoom back)) owed = Refuses _ refl refl refl
   with_bio_comes false number todo later bio submission (LinkedTo (Stray back)) owed = Refuses _ refl refl refl
@@ -119,13 +129,16 @@ module _ (stage : Stage) (setup : Setup) where
       → Comes setup (write_request number todos taken) reply (breach_of (write_answered setup number todos taken submission reply))
       (write_answered setup number todos taken submission reply ≡ Writer number todos taken submission)
   write_comes number [] taken submission reply any owed = absurd (true≢false (sym any))
+  -- a bio for the next write
   write_comes number (todo ∷ later) NoBio submission (HadBio got bio) any owed = Tells _ refl
   write_comes number (todo ∷ later) NoBio submission (Missed true) any owed = Tells _ refl
   write_comes number (todo ∷ later) NoBio submission (Missed false) any owed = Misses _ refl refl refl refl refl
   write_comes number (todo ∷ later) NoBio submission Spent any owed = Refuses breach.Spent refl refl refl
   write_comes number (todo ∷ later) NoBio submission reply any owed = absurd owed
+  -- what the bio wants
   write_comes number (todo ∷ later) (HasBio bio) submission reply any owed =
       with_bio_comes (needs_vector todo.write) number todo later bio submission reply owed
+  -- its node, with the vector
   write_comes number (todo ∷ later) (HasBoth bio vector) submission (LinkedTo (Made node)) any owed = Tells _ refl
   write_comes number (todo ∷ later) (HasBoth bio vector) submission (LinkedTo (NoRoom back)) any owed = Refuses _ refl refl refl
   write_comes number (todo ∷ later) (HasBoth bio vector) submission (LinkedTo (Stray back)) any owed = Refuses _ refl refl refl
@@ -157,6 +170,7 @@ module _ (stage : Stage) (setup : Setup) where
       → closed.parent ≡ parent → (reply : Reply) → Owes stage (closed_request writer closed vector bio slip parent) reply
       → Comes setup (closed_request writer closed vector bio slip parent) reply (carried_breach (carried_answered (Carries writer closed) reply))
       (carried_answered (Carries writer closed) reply ≡ Carries writer closed)
+  -- what the node held is given back: the vector, the bio, the record
   closed_comes writer closed (Some vector) bio slip parent is Did owed = Tells _ refl
   closed_comes writer closed (Some vector) bio slip parent is Spent owed = Refuses breach.Spent refl refl refl
   closed_comes writer closed (Some vector) bio slip parent is reply owed = absurd owed
@@ -166,6 +180,7 @@ module _ (stage : Stage) (setup : Setup) where
   closed_comes writer closed None None (Some slip) parent is Did owed = Tells _ refl
   closed_comes writer closed None None (Some slip) parent is Spent owed = Refuses breach.Spent refl refl refl
   closed_comes writer closed None None (Some slip) parent is reply owed = absurd owed
+  -- then it is dropped at its parent, which the book may refuse
   closed_comes writer closed None None None (Some parent) is (DroppedTo end.Left) owed = Tells _ refl
   closed_comes writer closed None None None (Some parent) is (DroppedTo (end.Up above)) owed = Tells _ refl
   closed_comes writer closed None None None (Some parent) is (DroppedTo (end.Top above)) owed = Tells _ refl
@@ -173,24 +188,29 @@ module _ (stage : Stage) (setup : Setup) where
       Refuses (breach.Stray writer parent) refl refl (ap (λ (p : Option ℕ). Some (breach.Stray writer (parent_or p))) is)
   closed_comes writer closed None None None (Some parent) is Spent owed = Refuses breach.Spent refl refl refl
   closed_comes writer closed None None None (Some parent) is reply owed = absurd owed
+  -- and without a parent its write is done
   closed_comes writer closed None None None None is Did owed = Tells _ refl
   closed_comes writer closed None None None None is Spent owed = Refuses breach.Spent refl refl refl
   closed_comes writer closed None None None None is reply owed = absurd owed
 
   carried_comes : (disk : DevId) (carried : Carried) (reply : Reply) → asks_any (carried_request disk carried) ≡ true → Owes stage (carried_request disk carried) reply
       → Comes setup (carried_request disk carried) reply (carried_breach (carried_answered carried reply)) (carried_answered carried reply ≡ carried)
+  -- a completion, or there is none
   carried_comes disk Empty (Completed index bio status) any owed = Tells _ refl
   carried_comes disk Empty Nothing any owed = Finds refl refl
   carried_comes disk Empty Spent any owed = Refuses breach.Spent refl refl refl
   carried_comes disk Empty reply any owed = absurd owed
+  -- what completed is dropped at its node, which the book may refuse
   carried_comes disk (Brings bio status) (DroppedTo end.Left) any owed = Tells _ refl
   carried_comes disk (Brings bio status) (DroppedTo (end.Up closed)) any owed = Tells _ refl
   carried_comes disk (Brings bio status) (DroppedTo (end.Top closed)) any owed = Tells _ refl
   carried_comes disk (Brings bio status) (DroppedTo (end.Stray part)) any owed = Refuses _ refl refl refl
   carried_comes disk (Brings bio status) Spent any owed = Refuses breach.Spent refl refl refl
   carried_comes disk (Brings bio status) reply any owed = absurd owed
+  -- what a closed node held
   carried_comes disk (Carries writer closed) reply any owed =
       closed_comes writer closed closed.held.vector closed.held.bio closed.held.slip closed.parent refl reply owed
+  -- broken off: it asks nothing
   carried_comes disk (Fails b kept) reply any owed = absurd (true≢false (sym any))
 
   -- the keeper

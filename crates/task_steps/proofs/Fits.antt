@@ -128,21 +128,27 @@ module _ (stack : Stack) (good : IsStack stack) (places : ℕ → ℕ) where
   -- so whatever is replied
   pub submission_fits : (doing : Doing) (lists : TaskLists) (reply : Reply) → DoingFits stack doing → ListsAreWithin stack lists
       → SubmissionFits stack (submission_answered (setup_of stack places) doing lists reply)
+  -- without a ticket
   submission_fits doing lists Spent fits all = spent_fits (at_hand doing) lists (punts_of doing) all
+  -- a push
   submission_fits (Drives bio ToPush) lists Did fits all = goes_on_fits bio.bio.dev lists all
+  -- a cut: it takes, misses, punts, and has its node
   submission_fits (Drives bio (ToCut (Takes waits))) lists (HadBio got hand) fits all = record { doing = fits; lists = all }
   submission_fits (Drives bio (ToCut (Takes true))) lists (Missed used) fits all = record { doing = fits; lists = all }
   submission_fits (Drives bio (ToCut (Takes false))) lists (Missed used) fits all = record { doing = fits; lists = all }
   submission_fits (Drives bio (ToCut Punts)) lists Did fits all =
       record { doing = fits; lists = all_unpunted (IsItemWithin stack) lists all bio.bio.dev }
   submission_fits (Drives bio (ToCut (Links hand))) lists (LinkedTo answer) fits all = chain_fits lists bio hand answer all fits.0 fits.1
+  -- a mirror: it has its record, and its node
   submission_fits (Drives bio ToRecord) lists (HadSlip got slip) fits all = record { doing = fits; lists = all }
   submission_fits (Drives bio (ToMaster slip)) lists (LinkedTo answer) fits all = master_fits lists bio.bio answer all fits.0
+  -- a leg, as a cut
   submission_fits (Copies bio master leg (Takes waits)) lists (HadBio got hand) fits all = record { doing = fits; lists = all }
   submission_fits (Copies bio master leg (Takes waits)) lists (Missed used) fits all = record { doing = fits; lists = all }
   submission_fits (Copies bio master leg Punts) lists Did fits all =
       record { doing = fits; lists = all_unpunted (IsItemWithin stack) lists all bio.dev }
   submission_fits (Copies bio master leg (Links hand)) lists (LinkedTo answer) fits all = leg_fits lists bio master leg hand answer all fits.0 fits.1
+  -- any other reply changes nothing
   submission_fits doing lists _ fits all = record { doing = fits; lists = all }
 
 -- what is handed to a rescuer waited

@@ -164,19 +164,24 @@ module _ (stage : Stage) (good : IsStack stage.routing.stack) where
   resized false pool min has = names_none
 
   names : (asked : Request) (reply : Reply) → RequestFits stage asked → Names (what_of asked reply)
+  -- takes, and misses
   names (requests.TakeBio set waits) (requests.HadBio got bio) fits = takes waits (bios_of set) got (set_pool set fits)
   names (requests.TakeBio set waits) (requests.Missed used) fits = misses waits used (bios_of set) (set_pool set fits)
   names requests.TakeVec (requests.HadVec got vector) fits = names_some _ tt
   names requests.TakeVec (requests.Missed used) fits = misses true used FsVecs tt
   names (requests.TakeSlip dev) (requests.HadSlip got slip) fits = names_some _ (mirror_device dev fits)
   names (requests.TakeSlip dev) (requests.Missed used) fits = misses true used (Records dev) (mirror_device dev fits)
+  -- elements that are given back
   names (requests.GiveBio bio) requests.Did fits = names_some _ (bios_pool bio.share.no fits.kind)
   names (requests.GiveVec vector) requests.Did fits = names_some _ (vecs_pool vector.share.no fits.kind)
   names (requests.GiveSlip slip) requests.Did fits = names_some _ (slips_pool slip.share.no fits.kind)
+  -- lists of rescuers
   names (requests.Punt dev moved) requests.Did fits = names_some _ (any_device dev (is_left _ _ fits.0))
   names (requests.Pop dev) (requests.Popped bio) fits = names_some _ (any_device dev (is_left _ _ fits))
+  -- disks
   names (requests.Push bio) requests.Did fits = names_some _ (disk_device bio.bio.dev fits.1)
   names (requests.Complete disk) (requests.Completed index bio status) fits = names_some _ (disk_device disk fits)
+  -- nodes: a refused one is not told
   names (requests.Link writer opening) (requests.LinkedTo (Made node)) fits = names_some _ tt
   names (requests.Link writer opening) (requests.LinkedTo (NoRoom back)) fits = names_none
   names (requests.Link writer opening) (requests.LinkedTo (Stray back)) fits = names_none
@@ -184,9 +189,11 @@ module _ (stage : Stage) (good : IsStack stage.routing.stack) where
   names (requests.Drop writer node status part) (requests.DroppedTo (end.Up closed)) fits = names_some _ tt
   names (requests.Drop writer node status part) (requests.DroppedTo (end.Top closed)) fits = names_some _ tt
   names (requests.Drop writer node status part) (requests.DroppedTo (end.Stray back)) fits = names_none
+  -- the tally, and reserves
   names (requests.Done write status) requests.Did fits = names_some _ tt
   names (requests.Resize pool min) (requests.OutIs out) fits = resized (out == 0) pool min (any_pool pool fits.0)
   names (requests.NextRound round) requests.Did fits = names_some _ tt
+  -- of all else nothing is told
   names asked reply fits = names_none
 
   names_task : (task : TaskState) → IsTaskOf stage task → HasTask stage.routing.stack (id_of task)

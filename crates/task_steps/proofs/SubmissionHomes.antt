@@ -274,8 +274,11 @@ module _ (stage : Stage) (good : IsStack stage.routing.stack) where
   pub submission_home : (doing : Doing) (lists : TaskLists) (reply : Reply) → DoingFits stage.routing.stack doing → DoingIsHome stage doing
       → ListsAreWithin stage.routing.stack lists → BothHave (IsOwned stage) lists → Owes stage (submission_request (routing_setup stage.routing) doing lists) reply
       → IsSubmissionOf stage (submission_answered (routing_setup stage.routing) doing lists reply)
+  -- without a ticket
   submission_home doing lists Spent fits home within owned owes = spent_home (at_hand doing) lists (punts_of doing) within owned
+  -- a push
   submission_home (Drives bio ToPush) lists Did fits home within owned owes = goes_on_home bio.bio.dev lists within owned
+  -- a cut: it takes, misses, punts, and has its node
   submission_home (Drives bio (ToCut (Takes waits))) lists (HadBio got hand) fits home within owned owes =
       stays _ lists fits (home.0, owes.home) within owned
   submission_home (Drives bio (ToCut (Takes true))) lists (Missed used) fits home within owned owes = stays _ lists fits (home.0, tt) within owned
@@ -285,9 +288,11 @@ module _ (stage : Stage) (good : IsStack stage.routing.stack) where
       (all_unpunted (IsOwned stage) lists owned bio.bio.dev)
   submission_home (Drives bio (ToCut (Links hand))) lists (LinkedTo answer) fits home within owned owes =
       chain_home lists bio hand answer within owned fits.0 fits.1 home.0 home.1
+  -- a mirror: it has its record, and its node
   submission_home (Drives bio ToRecord) lists (HadSlip got slip) fits home within owned owes = stays _ lists fits (home.0, owes.home) within owned
   submission_home (Drives bio (ToMaster slip)) lists (LinkedTo answer) fits home within owned owes =
       master_home lists bio.bio answer within owned fits.0 home.0.writer
+  -- a leg, as a cut
   submission_home (Copies bio master leg (Takes waits)) lists (HadBio got hand) fits home within owned owes =
       stays _ lists fits (home.0, owes.home) within owned
   submission_home (Copies bio master leg (Takes true)) lists (Missed used) fits home within owned owes = stays _ lists fits (home.0, tt) within owned
@@ -297,6 +302,7 @@ module _ (stage : Stage) (good : IsStack stage.routing.stack) where
       (all_unpunted (IsOwned stage) lists owned bio.dev)
   submission_home (Copies bio master leg (Links hand)) lists (LinkedTo answer) fits home within owned owes =
       copied_home lists bio master leg hand answer within owned fits.0 fits.1 home.0 home.1
+  -- any other reply changes nothing
   submission_home doing lists _ fits home within owned owes = stays doing lists fits home within owned
 
 pub submissions_stay_home : SubmissionsStayHome

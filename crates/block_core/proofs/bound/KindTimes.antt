@@ -25,11 +25,13 @@ module _ (s : Scenario) where
   by_payer ReserveChange = (omega arith, omega arith, omega arith, omega arith, omega arith)
 
   of_kind : (kind : Paid) → pays kind ≤ most_times s kind
+  -- kinds that have a payer
   of_kind (paid.IsTaken payer) = (by_payer payer).0
   of_kind (paid.IsLinked payer) = (by_payer payer).1
   of_kind (paid.EndsItself payer) = (by_payer payer).2
   of_kind (paid.EndsForParent payer) = (by_payer payer).3
   of_kind (paid.IsGiven payer) = (by_payer payer).4
+  -- kinds that have none
   of_kind paid.MissesAtOnce = omega arith
   of_kind paid.IsPunted = omega arith
   of_kind paid.IsPopped = omega arith

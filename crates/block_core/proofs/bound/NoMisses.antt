@@ -163,19 +163,23 @@ missed_told first what told miss no_miss = absurd (let same : first ≡ what = c
 -- so where an event is no miss, some pool has more out
 taken_out : (ledger : ℕ → LedgerId) (old new : Objects) (request : Request) (reply : Reply) (what : What) → IsTaking request → what_of request reply ≡ Some what → is_miss what ≡ false
     → Serves ledger old request reply new → (number : ℕ) × ((new.pool number).facts.out ≡ (old.pool number).facts.out + 1)
+-- takes of bios
 taken_out ledger old new (requests.TakeBio set waits) (requests.HadBio from bio) what t told none serves = (pool_number (bios_of set), has_out old new (pool_number (bios_of set)) from serves.0)
 taken_out ledger old new (requests.TakeBio set true) (requests.Missed true) what t told none serves = missed_told _ what told refl none
 taken_out ledger old new (requests.TakeBio set true) (requests.Missed false) what t told none serves = absurd cc
 taken_out ledger old new (requests.TakeBio set false) (requests.Missed used) what t told none serves = missed_told _ what told refl none
 taken_out ledger old new (requests.TakeBio set waits) reply what t told none serves = absurd serves
+-- takes of vectors
 taken_out ledger old new requests.TakeVec (requests.HadVec from vector) what t told none serves = (64, has_out old new 64 from serves.0)
 taken_out ledger old new requests.TakeVec (requests.Missed true) what t told none serves = missed_told _ what told refl none
 taken_out ledger old new requests.TakeVec (requests.Missed false) what t told none serves = absurd cc
 taken_out ledger old new requests.TakeVec reply what t told none serves = absurd serves
+-- takes of records
 taken_out ledger old new (requests.TakeSlip dev) (requests.HadSlip from slip) what t told none serves = (2 * dev.0 + 1, has_out old new (2 * dev.0 + 1) from serves.0)
 taken_out ledger old new (requests.TakeSlip dev) (requests.Missed true) what t told none serves = missed_told _ what told refl none
 taken_out ledger old new (requests.TakeSlip dev) (requests.Missed false) what t told none serves = absurd cc
 taken_out ledger old new (requests.TakeSlip dev) reply what t told none serves = absurd serves
+-- nothing else takes
 taken_out ledger old new _ reply what t told none serves = absurd t
 
 wants_taking : (setup : Setup) (doing : Doing) (dev : DevId) (lists : TaskLists) → Wants doing dev (Takes false) → IsTaking (submission_request setup doing lists)

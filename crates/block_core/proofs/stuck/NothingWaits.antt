@@ -157,9 +157,11 @@ module _ (scene : Scene) (s : State) (g : Ground scene.setup) (u v : Weight) whe
 
   pub submission_found : (limit : ℕ) (doing : Doing) (lists : TaskLists) → DoingFits setup doing lists → DoingPlaced setup limit doing lists → DoingWaits setup doing lists → StillDoing s doing
       → 1 ≤ submission_weight u limit (record { doing = doing; lists = lists }) → submission_weight v limit (record { doing = doing; lists = lists }) ≡ 0 → Found limit
+  -- at rest it has its lists alone
   submission_found limit Rests lists fits d w still some none =
       let e : submission_weight u limit (record { doing = Rests; lists = lists }) ≡ 0 = ap (λ (l : TaskLists). submission_weight u limit (record { doing = Rests; lists = l })) fits in
       absurd (omega (arith, some, e))
+  -- of what a bio wants, only a take that waits, and that of a record, stand still
   submission_found limit (Drives bio ToPush) lists fits d w still some none = absurd still
   submission_found limit (Drives bio (ToCut (Takes true))) lists fits d w still some none =
       let no0 : sum_by (u.bio (Lined limit)) lists.list0 ≡ 0 = ap (sum_by (u.bio (Lined limit))) d.0 in
@@ -179,6 +181,7 @@ module _ (scene : Scene) (s : State) (g : Ground scene.setup) (u v : Weight) whe
       (inr (inr (inr (bio.bio.dev.0, d.1.0.0.device, copies_there (tree_at setup bio.bio.dev) fits, refl))))
       (bio ∷ lists.list1) (omega (arith, some, no0, a)) (omega (arith, none, b)) (d.1.0.1, d.2.0)
   submission_found limit (Drives bio (ToMaster slip)) lists fits d w still some none = absurd still
+  -- of what a leg wants, only a take that waits
   submission_found limit (Copies bio master leg (Takes true)) lists fits d w still some none =
       let no0 : sum_by (u.bio (Lined limit)) lists.list0 ≡ 0 = ap (sum_by (u.bio (Lined limit))) w in
       let is : IsPool setup (2 * bio.dev.0) = inr (inr (inl (bio.dev.0, d.0.device, legs_there (tree_at setup bio.dev) leg fits, refl))) in
@@ -194,7 +197,9 @@ module _ (scene : Scene) (s : State) (g : Ground scene.setup) (u v : Weight) whe
   -- a task that submits waits below its limit, where it has something
   pub submission_below : (limit : ℕ) (doing : Doing) (lists : TaskLists) → DoingFits setup doing lists → DoingPlaced setup limit doing lists → IsBusy doing → StillDoing s doing
       → (pool : ℕ) × (pool < 2 * limit) × (pool < 64) × (spares s pool ≡ 0) × IsPool setup pool
+  -- at rest it is not busy
   submission_below limit Rests lists fits d busy still = absurd busy
+  -- of what a bio wants, only a take that waits, and that of a record, stand still
   submission_below limit (Drives bio ToPush) lists fits d busy still = absurd still
   submission_below limit (Drives bio (ToCut (Takes true))) lists fits d busy still =
       let low = d.1.0.2 in
@@ -210,6 +215,7 @@ module _ (scene : Scene) (s : State) (g : Ground scene.setup) (u v : Weight) whe
       let few = g.few in
       (2 * bio.bio.dev.0 + 1, omega (arith, low), omega (arith, known, few), still, inr (inr (inr (bio.bio.dev.0, known, copies_there (tree_at setup bio.bio.dev) fits, refl))))
   submission_below limit (Drives bio (ToMaster slip)) lists fits d busy still = absurd still
+  -- of what a leg wants, only a take that waits
   submission_below limit (Copies bio master leg (Takes true)) lists fits d busy still =
       let low = d.1 in
       let known = d.0.device in

@@ -44,24 +44,30 @@ module _ (scene : Scene) (s : State) (all : (place : ℕ) → GoesOnCarrying (s.
   goes place y on = all-upd GoesOnCarrying s.task place y all on
 
   carries_on : (m : Move) → Can scene s m → (other : ℕ) → GoesOnCarrying ((after scene s m).task other)
+  -- takes and misses
   carries_on (moves.TakesFirst place writer todo later move) c = goes place _ tt
   carries_on (moves.TakesVector place writer todo later item move) c = goes place _ tt
   carries_on (moves.TakesSub place x doing lists dev waits move) c = goes place _ (lined x doing lists _ c.2 (subst GoesOnCarrying c.1 (all place)))
   carries_on (moves.TakesSlip place x bio lists move) c = goes place _ (lined x _ lists _ c.2 (subst GoesOnCarrying c.1 (all place)))
   carries_on (moves.MissesOne place x number used) c = goes place x (subst GoesOnCarrying c.1 (all place))
   carries_on (moves.MissesTry place x doing lists dev used) c = goes place _ (lined x doing lists _ c.2 (subst GoesOnCarrying c.1 (all place)))
+  -- rescuers
   carries_on (moves.Punts place x doing lists dev) c = goes place _ (lined x doing lists _ c.2 (subst GoesOnCarrying c.1 (all place)))
   carries_on (moves.Pops place dev bio bios) c = goes place _ tt
+  -- disks
   carries_on (moves.Pushes place x bio lists) c = goes place _ (lined x _ lists _ c.2 (subst GoesOnCarrying c.1 (all place)))
   carries_on (moves.Completed place disk index bio status new) c = goes place _ refl
+  -- nodes that are opened
   carries_on (moves.Begins place writer todo later item vector key) c = goes place _ tt
   carries_on (moves.Chained place x bio lists hand number kind sizes members key node) c = goes place _ (lined x _ lists _ c.2 (subst GoesOnCarrying c.1 (all place)))
   carries_on (moves.Mastered place x bio lists slip key node) c = goes place _ (lined x _ lists _ c.2 (subst GoesOnCarrying c.1 (all place)))
   carries_on (moves.Legged place x bio lists master leg hand key node) c = goes place _ (lined x _ lists _ c.2 (subst GoesOnCarrying c.1 (all place)))
+  -- nodes that are left, and what they held
   carries_on (moves.Told place disk carried writer key status part node) c = goes place _ refl
   carries_on (moves.Closes place disk carried writer key status part node) c = goes place _ refl
   carries_on (moves.Gives place disk writer number closed held) c = goes place _ refl
   carries_on (moves.Ends place disk writer closed) c = goes place _ refl
+  -- the keeper
   carries_on (moves.Resized place pool min later duties) c = goes place _ tt
   carries_on (moves.Started place round later duties) c = goes place _ tt
 

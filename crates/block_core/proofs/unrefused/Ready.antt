@@ -131,7 +131,9 @@ module _ (ledger : ℕ → LedgerId) (old : Objects) (new : Objects) where
       (subst (λ found. LegsAt (old.book writer) master found answer (new.book writer)) ready.1.is h.0)
 
   linked : (request : Request) (answer : Linked) → IsReady old request → Serves ledger old request (requests.LinkedTo answer) new → is_refusal (requests.LinkedTo answer) ≡ false
+  -- a link
   linked (requests.Link writer opening) answer ready h = opens writer opening answer ready h
+  -- nothing else is answered so
   linked (requests.TakeBio set waits) answer ready h = absurd h
   linked requests.TakeVec answer ready h = absurd h
   linked (requests.TakeSlip dev) answer ready h = absurd h
@@ -151,9 +153,11 @@ module _ (ledger : ℕ → LedgerId) (old : Objects) (new : Objects) where
   linked requests.Rest answer ready h = absurd h
 
   dropped : (request : Request) (ended : DropOutcome) → IsReady old request → Serves ledger old request (requests.DroppedTo ended) new → is_refusal (requests.DroppedTo ended) ≡ false
+  -- a drop
   dropped (requests.Drop writer node status part) ended ready h =
       drop_made (old.book writer) (new.book writer) node status part ended ready.node
       (subst (λ found. DropsAt (old.book writer) node found status part ended (new.book writer)) ready.is h.0)
+  -- nothing else is answered so
   dropped (requests.Link writer opening) ended ready h = absurd h
   dropped (requests.TakeBio set waits) ended ready h = absurd h
   dropped requests.TakeVec ended ready h = absurd h
@@ -173,9 +177,11 @@ module _ (ledger : ℕ → LedgerId) (old : Objects) (new : Objects) where
   dropped requests.Rest ended ready h = absurd h
 
   pub not_refused : (request : Request) (reply : Reply) → IsReady old request → Serves ledger old request reply new → is_refusal reply ≡ false
+  -- replies that may refuse
   not_refused request (requests.LinkedTo answer) ready h = linked request answer ready h
   not_refused request (requests.DroppedTo ended) ready h = dropped request ended ready h
   not_refused request requests.Spent ready h = absurd (no_spent request h)
+  -- replies that never do
   not_refused request (requests.HadBio got bio) ready h = refl
   not_refused request (requests.HadVec got vector) ready h = refl
   not_refused request (requests.HadSlip got slip) ready h = refl

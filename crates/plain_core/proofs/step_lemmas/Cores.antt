@@ -33,8 +33,10 @@ use Rattle.plain_core.proofs.object_lemmas.Updated.{upd_is}
 -- what a rescuer takes is within
 reply_fits : (stack : Stack) (old : CoreObjects) (request : Request) (reply : Reply) (new : Objects) → ((dev : ℕ) → AreWithin stack (core_rescue_at old dev))
     → Serves ledger_of (objects_of_core old) request reply new → ReplyFits stack reply
+-- a bio is popped off a list
 reply_fits stack old (Pop dev) (Popped bio) new within serves = head_within stack (core_rescue_at old dev.0) (new.rescue dev.0) bio (within dev.0) serves.0
 reply_fits stack old request (Popped bio) new within serves = absurd serves
+-- of other replies nothing is asked
 reply_fits stack old request (HadBio got bio) new within serves = tt
 reply_fits stack old request (HadVec got vector) new within serves = tt
 reply_fits stack old request (HadSlip got slip) new within serves = tt

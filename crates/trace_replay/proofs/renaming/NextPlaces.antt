@@ -140,8 +140,10 @@ module _ (names : Names) where
   dropped writer name status end.Top read is = ended writer status end.Top (names.place writer name) read is
 
   opens_at : (told read : What) → placed names told ≡ Some read → OpensAt names (touch_of told) (touch_of read)
+  -- nodes are opened and left
   opens_at (what.Link writer how name) read is = linked writer name read how (is_none (names.place writer name)) is
   opens_at (what.Drop writer name status ends) read is = dropped writer name status ends read is
+  -- no other event touches one
   opens_at (what.Take pool got) read is = passing read (ap touch_in is)
   opens_at (what.Try pool got) read is = passing read (ap touch_in is)
   opens_at (what.Give pool) read is = passing read (ap touch_in is)

@@ -74,10 +74,13 @@ module _ (setup : Setup) (to : Places) (gone fresh : ℕ) (ledger : ℕ → Ledg
 
   submission_goes : (doing : Doing) (lists : TaskLists) (reply : Reply) → HasLeg setup doing → Serving (submission_request setup doing lists) reply
       → SubmissionGoes doing lists (writer_in (submission_request setup doing lists)) reply
+  -- at rest, or broken off: it asks nothing
   submission_goes Rests lists reply has is = absurd is.0
   submission_goes (Breaks breach kept) lists reply has is = absurd is.0
+  -- a push
   submission_goes (Drives bio ToPush) lists Did has is = (gone, goes_to to setup gone bio.bio.dev lists)
   submission_goes (Drives bio ToPush) lists _ has is = absurd is.0
+  -- a take for a cut, and a punt
   submission_goes (Drives bio (ToCut (Takes waits))) lists (HadBio got hand) has is = (gone, refl)
   submission_goes (Drives bio (ToCut (Takes waits))) lists (Missed used) has is =
       (gone, ap (λ want. record { doing = Drives (item_to to bio) (ToCut want); lists = lists_to to lists }) (missed waits))
@@ -85,10 +88,12 @@ module _ (setup : Setup) (to : Places) (gone fresh : ℕ) (ledger : ℕ → Ledg
   submission_goes (Drives bio (ToCut WantsPunt)) lists Did has is =
       (gone, ap (λ l. record { doing = Drives (item_to to bio) (ToCut (Takes true)); lists = l }) (unpunted_to to bio.bio.dev lists))
   submission_goes (Drives bio (ToCut WantsPunt)) lists _ has is = absurd is.0
+  -- a node for the cut: a refusal is not told
   submission_goes (Drives bio (ToCut (Links hand))) lists (LinkedTo (Made node)) has is = (gone, cut_to lists bio hand node (tree_at setup bio.bio.dev))
   submission_goes (Drives bio (ToCut (Links hand))) lists (LinkedTo (NoRoom back)) has is = none_told event is.1
   submission_goes (Drives bio (ToCut (Links hand))) lists (LinkedTo (Stray back)) has is = none_told event is.1
   submission_goes (Drives bio (ToCut (Links hand))) lists _ has is = absurd is.0
+  -- a record for a mirror, and a node for its master
   submission_goes (Drives bio ToRecord) lists (HadSlip got slip) has is = (gone, refl)
   submission_goes (Drives bio ToRecord) lists (Missed used) has is = (gone, refl)
   submission_goes (Drives bio ToRecord) lists _ has is = absurd is.0
@@ -97,6 +102,7 @@ module _ (setup : Setup) (to : Places) (gone fresh : ℕ) (ledger : ℕ → Ledg
   submission_goes (Drives bio (ToMaster slip)) lists (LinkedTo (NoRoom back)) has is = none_told event is.1
   submission_goes (Drives bio (ToMaster slip)) lists (LinkedTo (Stray back)) has is = none_told event is.1
   submission_goes (Drives bio (ToMaster slip)) lists _ has is = absurd is.0
+  -- a take for a leg, a punt, and its node
   submission_goes (Copies bio master leg (Takes waits)) lists (HadBio got hand) has is = (gone, refl)
   submission_goes (Copies bio master leg (Takes waits)) lists (Missed used) has is =
       (gone, ap (λ want. record { doing = Copies (record bio { node = gone }) (to bio.writer master) leg want; lists = lists_to to lists }) (missed waits))

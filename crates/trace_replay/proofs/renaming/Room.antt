@@ -66,10 +66,12 @@ module _ (scene : Scene) (s : State) (writer key : ℕ) where
   not_open touch other is = absurd (subst TouchIs (sym is) other)
 
   pub finds_vacant : (m : Move) → Can scene s m → Opens writer key ≡ touch_by m → IsVacant (s.objects.book writer) key
+  -- moves that open a node
   finds_vacant (moves.Begins place v todo later item vector k) c is = at_own v k is c.3
   finds_vacant (moves.Chained place x bio lists hand number kind sizes members k node) c is = at_own bio.bio.writer k is c.6
   finds_vacant (moves.Mastered place x bio lists slip k node) c is = at_own bio.bio.writer k is c.5
   finds_vacant (moves.Legged place x bio lists master leg hand k node) c is = at_own bio.writer k is c.5
+  -- no other move opens one
   finds_vacant (moves.TakesFirst place v todo later move) c is = not_open Passes tt is
   finds_vacant (moves.TakesVector place v todo later item move) c is = not_open Passes tt is
   finds_vacant (moves.TakesSub place x doing lists dev waits move) c is = not_open Passes tt is
@@ -101,7 +103,9 @@ more_at f writer w = elim (same_or_not w writer) [
 ]
 
 pub opened_after : (names : Names) (event : What) (w : ℕ) → (names_after names event).opened w ≡ names.opened w + opens w (touch_of event)
+-- an event that opens a node
 opened_after names (what.Link writer how node) w = more_at names.opened writer w
+-- no other event opens one
 opened_after names (what.Drop writer node status end.Left) w = omega arith
 opened_after names (what.Drop writer node status end.Up) w = omega arith
 opened_after names (what.Drop writer node status end.Top) w = omega arith

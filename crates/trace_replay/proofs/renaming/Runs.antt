@@ -69,6 +69,7 @@ module _ (scene : Scene) (naming : (number : ℕ) → (scene.ledger number).no �
     passes next = taken b.to b.alike next
 
     by : (told : What) → event.what ≡ told → IsReadAt names event new other
+    -- a node is opened, and is read at its next place
     by (what.Link writer how key) is =
         let next = finds_next scene f g n one b.whole.kept b.whole.placed names b.left place event new steps writer key (ap touch_of (sym is)) in
         let to = with_mark b.to writer key (names.opened writer) in
@@ -76,6 +77,7 @@ module _ (scene : Scene) (naming : (number : ℕ) → (scene.ledger number).no �
         let room : names.opened writer < length (one.objects.book writer).nodes = let lt = next.1 in omega (arith, lt, long) in
         taken to (marked scene one other b.whole.kept b.to names b.alike writer key next.0 (names.opened writer))
         (subst (IsNext to names one.objects) (sym is) (mark_here b.to writer key (names.opened writer), room))
+    -- no other event opens one
     by (what.Take pool got) is = passes (subst (IsNext b.to names one.objects) (sym is) tt)
     by (what.Try pool got) is = passes (subst (IsNext b.to names one.objects) (sym is) tt)
     by (what.Give pool) is = passes (subst (IsNext b.to names one.objects) (sym is) tt)
