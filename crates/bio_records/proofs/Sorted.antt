@@ -35,12 +35,12 @@ one_parted p front back part turned moved one two whole =
 
 -- what is seen of a list, by its front and its back
 pub shown_in_two : {X Y : Type 0} (f : X → Y) (front back : List X) → map f front ++ reverse (map f back) ≡ map f (front ++ reverse back)
-shown_in_two f front back = sym (map-append f front (reverse back) ∙ ap (λ l. map f front ++ l) (turned f back))
+shown_in_two f front back = sym (map-append f front (reverse back) ∙ ap (λ l. map f front ++ l) (map_of_reverse f back))
   where
-    turned : {X Y : Type 0} (f : X → Y) (xs : List X) → map f (reverse xs) ≡ reverse (map f xs)
-    turned f [] = refl
-    turned f (x ∷ xs) =
-        ap (map f) (reverse-append (x ∷ []) xs) ∙ map-append f (reverse xs) (x ∷ []) ∙ ap (λ l. l ++ f x ∷ []) (turned f xs)
+    map_of_reverse : {X Y : Type 0} (f : X → Y) (xs : List X) → map f (reverse xs) ≡ reverse (map f xs)
+    map_of_reverse f [] = refl
+    map_of_reverse f (x ∷ xs) =
+        ap (map f) (reverse-append (x ∷ []) xs) ∙ map-append f (reverse xs) (x ∷ []) ∙ ap (λ l. l ++ f x ∷ []) (map_of_reverse f xs)
         ∙ sym (reverse-append (f x ∷ []) (map f xs))
 
 -- the two parts, put before a third list

@@ -25,8 +25,8 @@ put_at (u ∷ vs) zero v w e = refl
 put_at (u ∷ vs) (suc i) v w e = put_at vs i v w e
 
 -- the first of three lists and the second change places
-turned : (xs ys zs : List Ticket) → IsPermutation (xs ++ (ys ++ zs)) (ys ++ (xs ++ zs))
-turned xs ys zs =
+first_two_swapped : (xs ys zs : List Ticket) → IsPermutation (xs ++ (ys ++ zs)) (ys ++ (xs ++ zs))
+first_two_swapped xs ys zs =
     subst (IsPermutation (xs ++ (ys ++ zs))) (append_assoc ys xs zs)
     (subst (λ l. IsPermutation l ((ys ++ xs) ++ zs)) (append_assoc xs ys zs) (IsPermutation-append_left zs (xs ++ ys) (ys ++ xs) (IsPermutation-append_comm xs ys)))
 
@@ -39,7 +39,7 @@ parted (u ∷ vs) (suc i) v e =
     let rest : List Ticket = all_drawn (set vs i spent_view) in
     IsPermutation-trans (u.drawn ++ all_drawn vs) (u.drawn ++ (v.drawn ++ rest)) (v.drawn ++ (u.drawn ++ rest))
     (IsPermutation-append_right u.drawn (all_drawn vs) (v.drawn ++ rest) (parted vs i v e))
-    (turned u.drawn v.drawn rest)
+    (first_two_swapped u.drawn v.drawn rest)
 
 -- one view's tickets change, and with them the row
 pub put_shared : (row now : List Ticket) (vs : List View) (i : ℕ) (v w : View) → get_elem? vs i ≡ some v → IsPermutation row (all_drawn vs)

@@ -17,8 +17,9 @@ use Rattle.shared_objects.proofs.SameNames.{same_self, same_is}
 use Rattle.shared_objects.proofs.tickets.CallOwners.{filter_there, logged, kept}
 use Rattle.run_merge.proofs.enough_shown.LogLeads.{AskSome}
 
-pub turned : (a b : Object) → is_same_object a b ≡ false → is_same_object b a ≡ false
-turned a b not = by_test (is_same_object b a) refl
+-- objects that are not the same are not so from either side
+pub apart_both_ways : (a b : Object) → is_same_object a b ≡ false → is_same_object b a ≡ false
+apart_both_ways a b not = by_test (is_same_object b a) refl
   where
     by_test : (t : Bool) → is_same_object b a ≡ t → t ≡ false
     by_test true is = absurd (true≢false (sym (ap (λ o. is_same_object a o) (same_is b a is) ∙ same_self a) ∙ not))
@@ -28,7 +29,7 @@ none_turned : (o : Object) (names : List Object) → list_any (λ name. is_same_
 none_turned o [] none = refl
 none_turned o (name ∷ names) none =
     let parts = or_parts (is_same_object name o) (list_any (λ n. is_same_object n o) names) none in
-    let first = turned name o parts.0 in
+    let first = apart_both_ways name o parts.0 in
     let rest = none_turned o names parts.1 in
     ap (λ b. b || list_any (is_same_object o) names) first ∙ rest
 

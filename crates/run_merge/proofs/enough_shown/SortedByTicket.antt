@@ -16,7 +16,7 @@ use Rattle.shared_objects.proofs.SameNames.{same_is}
 use Rattle.run_merge.specs.Merging.{Ticketed, insert, sorted_by_ticket, RiseFrom, all_of, done_by}
 use Rattle.run_merge.proofs.enough_shown.CallTickets.{events_told, events_untold, rises_above}
 use Rattle.run_merge.proofs.enough_shown.CallEvents.{drawn_entry, ticketed_events, event_histories}
-use Rattle.run_merge.proofs.enough_shown.CalledObjects.{turned}
+use Rattle.run_merge.proofs.enough_shown.CalledObjects.{apart_both_ways}
 use Rattle.run_merge.proofs.enough_shown.LogLeads.{is_told}
 use Rattle.run_merge.proofs.merging.Picked.{is_at, is_by}
 use Rattle.run_merge.proofs.merging.TicketOrder.{Ordered, insert_front, sorted_ordered, all_sorted}
@@ -97,7 +97,7 @@ module _ (e : Ticketed) (events : List Ticketed) where
   no_other [] none = refl
   no_other (name ∷ names) none =
       let no = or_parts (is_same_object (object_of e.entry.asked) name) (list_any (is_same_object (object_of e.entry.asked)) names) none in
-      ap (λ b. cond b (e ∷ filter (is_at name) events) (filter (is_at name) events) ++ parts names (e ∷ events)) (turned (object_of e.entry.asked) name no.0)
+      ap (λ b. cond b (e ∷ filter (is_at name) events) (filter (is_at name) events) ++ parts names (e ∷ events)) (apart_both_ways (object_of e.entry.asked) name no.0)
       ∙ ap (λ l. filter (is_at name) events ++ l) (no_other names no.1)
 
   put_in : (names : List Object) → Apart is_same_object names → list_any (λ name. is_same_object name (object_of e.entry.asked)) names ≡ true → IsPut names e events
