@@ -12,4 +12,5 @@ pub mod Answered
 pub mod OneState
 pub mod Apart
 pub mod Idle
+pub mod Looks
 pub mod cases

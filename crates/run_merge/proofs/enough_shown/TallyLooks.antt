@@ -1,17 +1,16 @@
 -- What tasks saw of the tally: it was so behind events with smaller tickets.
-use Rattle.std.proofs.Common.{◌≡◌, ◌<◌, ◌≤◌, ◌++◌, ℕ, Bool, true, false, List, [], ◌∷◌, Option, None, Some, refl, sym, ◌∙◌, ap, subst, arith}
+use Rattle.std.proofs.Common.{◌≡◌, ◌<◌, ◌≤◌, ◌++◌, ℕ, false, List, ◌∷◌, Option, None, Some, refl, sym, ◌∙◌, ap, subst, arith, inl, inr}
 use Rattle.std.specs.Option.{is_some}
 use Rattle.std.specs.Prelude.{All, Contains, IfSome, slice_get}
-use Rattle.std.proofs.lemmas.Bool.{true≢false}
 use Rattle.std.proofs.lemmas.List.Elements.{All-weaker, filter-append}
 use Rattle.elem_ledger.specs.Ledger.{LedgerId}
 use Rattle.tick_clock.specs.Tickets.{PassState}
 use Rattle.run_machine.specs.Laws.{Object, OfTally, object_of}
-use Rattle.run_machine.specs.Submissions.{Doing, Rests}
 use Rattle.run_machine.specs.Objects.{TallyState}
 use Rattle.run_machine.specs.Opened.{Scenario, setup, start}
 use Rattle.run_machine.specs.Requests.{Request, Reply, LookRound, LookLeft, Present, LeftOver}
-use Rattle.run_machine.specs.Tasks.{Todo, Gathered, NoBio, TaskState, Writer, Rescuer, Completer, Keeper, Keeps, Stops, look_of, writer_look}
+use Rattle.run_machine.specs.Tasks.{TaskState, look_of}
+use Rattle.run_machine.proofs.Looks.{task_looks}
 use Rattle.task_core.specs.declared.plain.Plain.{Plain}
 use Rattle.object_things.specs.Histories.{Call, drawn_in}
 use Rattle.object_things.specs.Stamps.{ThingState, StepOf, is_spent}
@@ -62,29 +61,12 @@ round_look = record { tally = refl; untold = λ reply. refl; serves = round_step
 pub left_look : IsLook LookLeft
 left_look = record { tally = refl; untold = λ reply. refl; serves = left_step }
 
-some_or : Request → Option Request → Request
-some_or other None = other
-some_or other (Some look) = look
-
-is_some_look : Option Request → Bool
-is_some_look None = false
-is_some_look (Some look) = true
-
-writer_looks : (todo : List Todo) (taken : Gathered) (doing : Doing) (look : Request) → writer_look todo taken doing ≡ Some look → IsLook look
-unfolding some_or is_some_look
-writer_looks (todo ∷ later) NoBio Rests look is = subst IsLook (ap (some_or look) is) round_look
-writer_looks [] taken doing look is = absurd (true≢false (sym (ap is_some_look is)))
-writer_looks (todo ∷ later) NoBio doing look is = absurd (true≢false (sym (ap is_some_look is)))
-writer_looks (todo ∷ later) taken doing look is = absurd (true≢false (sym (ap is_some_look is)))
-
+-- so is each look of a task
 is_look : (task : TaskState) (look : Request) → look_of task ≡ Some look → IsLook look
-unfolding some_or is_some_look
-is_look (Writer number todo taken submission) look is = writer_looks todo taken submission.doing look is
-is_look (Rescuer dev submission) look is = absurd (true≢false (sym (ap is_some_look is)))
-is_look (Completer disk carried) look is = absurd (true≢false (sym (ap is_some_look is)))
-is_look (Keeper (Keeps [])) look is = absurd (true≢false (sym (ap is_some_look is)))
-is_look (Keeper (Keeps (duty ∷ duties))) look is = subst IsLook (ap (some_or look) is) left_look
-is_look (Keeper (Stops breach)) look is = absurd (true≢false (sym (ap is_some_look is)))
+is_look task look is = elim (task_looks task look is) [
+  | inl round ↦ subst IsLook (sym round) round_look
+  | inr left ↦ subst IsLook (sym left) left_look
+]
 
 module _ (s : Scenario) (plain : Plain) (names : List Object) (history : Object → List Call) (left : (name : Object) → ThingState (ThingAt name)) (tasks : List Returned)
     (pass : PassState) (c : ClosesAs (setup s) plain names history left tasks pass) (ledger : ℕ → LedgerId)

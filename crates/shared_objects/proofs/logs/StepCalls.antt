@@ -13,14 +13,14 @@ use Rattle.task_steps.specs.declared.step.Step.TheVariants.{Stepped, Blocked, Wa
 use Rattle.tick_clock.specs.Tickets.{PassState}
 use Rattle.task_steps.specs.declared.step.Step.{Step}
 use Rattle.stack_base.specs.declared.ids.DevId.{DevId}
-use Rattle.run_machine.specs.Submissions.{Doing, Rests}
 use Rattle.run_machine.specs.Requests.{Request, Reply, TakeBio, TakeVec, TakeSlip, GiveBio, GiveVec, GiveSlip, Punt, Pop, Push, Complete, Link, Drop, Done, Resize, NextRound, LookRound, LookLeft, Rest, Missed, LinkedTo, DroppedTo, OutIs, LeftOver, Nothing, Spent}
 use Rattle.run_machine.specs.declared.event.TaskId.{TaskId}
 use Rattle.run_machine.specs.Events.{id_of, what_of, resize_of}
 use Rattle.run_machine.specs.Laws.{Object, OfNone, object_of}
 use Rattle.run_machine.specs.Scene.{Setup}
 use Rattle.task_steps.specs.Stage.{Stage, Owes}
-use Rattle.run_machine.specs.Tasks.{Todo, Gathered, NoBio, HasBio, HasBoth, Carried, Empty, Brings, Carries, Fails, Duty, Keeping, Keeps, carried_answered, carried_request, Stops, TaskState, Writer, Rescuer, Completer, Keeper, writer_look, request, look_of, lets, answered, is_broken, breach_of}
+use Rattle.run_machine.specs.Tasks.{HasBio, HasBoth, Carried, Empty, Brings, Carries, Fails, Duty, Keeping, carried_answered, carried_request, Stops, TaskState, Rescuer, Completer, request, look_of, lets, answered, is_broken, breach_of}
+use Rattle.run_machine.proofs.Looks.{task_looks}
 use Rattle.task_steps.specs.Turns.{Turns, Rested, Waited, Asked, Saw, Asks, silent_step, step_by, step_of, resting_step, idle_step}
 use Rattle.object_things.specs.Stamps.{is_spent, PassBy}
 use Rattle.object_things.specs.Histories.{Call}
@@ -213,15 +213,6 @@ module _ (setup : Setup) (first : TaskState) where
   look_call LookLeft is old new reply s = (s, (λ e. cc), refl)
   look_call look is old new reply s = elim is [ inl e ↦ absurd (cc e) | inr e ↦ absurd (cc e) ]
 
-  writer_looks : (todo : List Todo) (taken : Gathered) (doing : Doing) (look : Request) → writer_look todo taken doing ≡ Some look → (look ≡ LookRound) ⊎ (look ≡ LookLeft)
-  writer_looks (todo ∷ later) NoBio Rests look e = inl (cc e)
-  writer_looks todo taken doing look e = absurd (cc e)
-
-  looks : (task : TaskState) (look : Request) → look_of task ≡ Some look → (look ≡ LookRound) ⊎ (look ≡ LookLeft)
-  looks (Writer number todo taken submission) look e = writer_looks todo taken submission.doing look e
-  looks (Keeper (Keeps (duty ∷ duties))) look e = inr (cc e)
-  looks task look e = absurd (cc e)
-
   -- with a look before them
   saw : (log : List Call) (task next : TaskState) (old between new : DeskState) (step : Step) (look : Request) (seen : Reply) → look_of task ≡ Some look
       → IsLogged setup first log task old → DeskServes old look seen between
@@ -229,7 +220,7 @@ module _ (setup : Setup) (first : TaskState) where
       → LogGoesOn (log ++ call ∷ []) next new (λ calls. ShowsStep setup task next (seen_by new.pass) calls step))
       → LogGoesOn log next new (λ calls. ShowsStep setup task next (seen_by new.pass) calls step)
   saw log task next old between new step look seen same is served on =
-      let called_look = look_call look (looks task look same) old between seen served in
+      let called_look = look_call look (task_looks task look same) old between seen served in
       let made = glanced log task old between look seen is called_look.0 called_look.1 called_look.2 in
       further log made.0 next new (λ calls. ShowsStep setup task next (seen_by new.pass) calls step) (λ calls. ShowsStep setup task next (seen_by new.pass) calls step)
       (λ calls shows. shows_further setup task next (seen_by new.pass) made.0 calls step made.3 shows)

@@ -1,5 +1,5 @@
 -- Steps over the objects of one thread are events of the machine, or nothing.
-use Rattle.std.proofs.Common.{◌≡◌, ◌<◌, ◌==◌, if◌then◌else◌, ℕ, Bool, true, false, true≢false, List, [], ◌∷◌, Option, None, Some, inl, inr, refl, sym, ap, ◌∙◌, subst, arith}
+use Rattle.std.proofs.Common.{◌≡◌, ◌<◌, ◌==◌, if◌then◌else◌, ℕ, Bool, true, false, true≢false, Option, None, Some, inl, inr, refl, sym, ap, ◌∙◌, subst, arith}
 use Rattle.std.specs.Prelude.{IsTrue, sum}
 use Rattle.elem_ledger.specs.Ledger.{LedgerId}
 use Rattle.fail_script.specs.Script.{only_tail}
@@ -15,10 +15,9 @@ use Rattle.task_steps.specs.declared.step.Step.{Step}
 use Rattle.task_steps.specs.declared.step.Step.TheVariants.{Stepped, Waiting, Ended}
 use Rattle.run_machine.specs.Maps.{upd}
 use Rattle.run_machine.specs.Scene.{Setup}
-use Rattle.run_machine.specs.Submissions.{Doing, Rests, Drives, Copies, Breaks}
 use Rattle.run_machine.specs.Requests as requests
 use Rattle.run_machine.specs.Requests.{Request, Reply}
-use Rattle.run_machine.specs.Tasks.{TaskState, Writer, Rescuer, Completer, Keeper, Keeps, Stops, Todo, Gathered, NoBio, HasBio, HasBoth, request, writer_look, look_of, lets, answered, breach_of}
+use Rattle.run_machine.specs.Tasks.{TaskState, request, look_of, lets, answered, breach_of}
 use Rattle.run_machine.specs.Objects.{Objects, Serves}
 use Rattle.run_machine.specs.Events.{id_of, what_of}
 use Rattle.run_machine.specs.Runs.{IsLet, Steps}
@@ -28,6 +27,7 @@ use Rattle.task_steps.specs.Routed.{routing_setup}
 use Rattle.task_steps.specs.Stage.{Stage, Owes}
 use Rattle.task_steps.specs.Turns.{silent_step, step_by, resting_step, idle_step, Asks, Turns, Rested, Waited, Asked, Saw}
 use Rattle.run_machine.proofs.Idle.{IsFair, fair_task, task_stays}
+use Rattle.run_machine.proofs.Looks.{task_looks}
 use Rattle.task_core.proofs.Quiet.{quiet, passed}
 use Rattle.task_core.proofs.opened.OwedLedgers.{of_ledgers}
 
@@ -40,28 +40,11 @@ IsLook request = ⊥
 none_is : {A : Type 0} (x : A) → None ≡ Some x → ⊥
 none_is x e = cc
 
-look_at : (look : Request) (b : Request) → Some b ≡ Some look → IsLook b → IsLook look
-look_at look b e is = subst IsLook (same e) is
-  where
-    same : Some b ≡ Some look → b ≡ look
-    same e = cc
-
-writer_looks : (todos : List Todo) (taken : Gathered) (doing : Doing) (look : Request) → writer_look todos taken doing ≡ Some look → IsLook look
-writer_looks (todo ∷ later) NoBio Rests look e = look_at look requests.LookRound e tt
-writer_looks (todo ∷ later) NoBio (Drives bio ask) look e = absurd (none_is look e)
-writer_looks (todo ∷ later) NoBio (Copies bio master leg want) look e = absurd (none_is look e)
-writer_looks (todo ∷ later) NoBio (Breaks breach kept) look e = absurd (none_is look e)
-writer_looks (todo ∷ later) (HasBio bio) doing look e = absurd (none_is look e)
-writer_looks (todo ∷ later) (HasBoth bio vector) doing look e = absurd (none_is look e)
-writer_looks [] taken doing look e = absurd (none_is look e)
-
-task_looks : (task : TaskState) (look : Request) → look_of task ≡ Some look → IsLook look
-task_looks (Writer number todos taken submission) look e = writer_looks todos taken submission.doing look e
-task_looks (Rescuer dev submission) look e = absurd (none_is look e)
-task_looks (Completer disk carried) look e = absurd (none_is look e)
-task_looks (Keeper (Keeps (duty ∷ duties))) look e = look_at look requests.LookLeft e tt
-task_looks (Keeper (Keeps [])) look e = absurd (none_is look e)
-task_looks (Keeper (Stops breach)) look e = absurd (none_is look e)
+is_look : (task : TaskState) (look : Request) → look_of task ≡ Some look → IsLook look
+is_look task look e = elim (task_looks task look e) [
+  | inl round ↦ subst IsLook (sym round) tt
+  | inr left ↦ subst IsLook (sym left) tt
+]
 
 -- what it sees there, and that looks change nothing
 abbrev shown : Objects → Request → Reply
@@ -257,10 +240,10 @@ module _ (old new : Plain) (tasks : ℕ → TaskState) (count place : ℕ) (next
   -- what a task saw
   module _ (look : Request) (e : look_of task ≡ Some look) (seen : Reply) (between : Plain) (saw : PlainServes old look seen between) where
     sees : Serves stage.ledger (objects_of old) look seen (objects_of between)
-    sees = told_serves old between look seen (looks_any (objects_of old) look (task_looks task look e)) saw
+    sees = told_serves old between look seen (looks_any (objects_of old) look (is_look task look e)) saw
 
     pub has_seen : (objects_of between ≡ objects_of old) × (seen ≡ shown (objects_of old) look)
-    has_seen = looked stage.ledger (objects_of old) (objects_of between) look seen (task_looks task look e) sees
+    has_seen = looked stage.ledger (objects_of old) (objects_of between) look seen (is_look task look e) sees
 
     pub lets_ask : lets task seen ≡ true → IsLet stage.ledger (objects_of old) task (look_of task)
     lets_ask is =
@@ -275,7 +258,7 @@ module _ (old new : Plain) (tasks : ℕ → TaskState) (count place : ℕ) (next
 
         not_both : IsLet stage.ledger (objects_of old) task (Some look) → ⊥
         not_both (other, serves, asks) =
-            let again = looked stage.ledger (objects_of old) (objects_of old) look other (task_looks task look e) serves in
+            let again = looked stage.ledger (objects_of old) (objects_of old) look other (is_look task look e) serves in
             not_true (lets task other) (ap (lets task) (again.1 ∙ sym has_seen.1) ∙ not) asks
 
   -- a step that is told
