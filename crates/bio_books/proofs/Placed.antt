@@ -2,7 +2,7 @@
 use Rattle.std.proofs.Common.{◌≡◌, ℕ, zero, suc, ◌+◌, ◌<◌, List, [], ◌∷◌, ◌++◌, length, map, Option, None, Some, IsSome, All, refl, sym, ◌∙◌, ap, subst, arith, inl, inr}
 use Rattle.std.specs.Prelude.{slice_get, slice_set}
 use Rattle.std.proofs.lemmas.Bool.{cases_eq}
-use Rattle.std.proofs.lemmas.List.{length-set, get_or-set_same, get_or-set_other}
+use Rattle.std.proofs.lemmas.List.{length-set, get_or-set_same, get_or-set_other, length-map}
 use Rattle.std.proofs.lemmas.List.Elements.{All-cons, All-nil}
 use Rattle.slab.specs.Slab.{Slab, get, slab_len, Updates}
 use Rattle.bio_books.specs.Kept.{IsPlaced, key_at, keyed, free_count, vacancy, look}
@@ -10,13 +10,14 @@ use Rattle.bio_books.proofs.Numbered.{longer}
 use Rattle.bio_books.proofs.Keys.{get_written, get_other, key_read, key_within, read_within, keyed_more, keyed_less, all_keyed, some_keyed, none_keyed, times_itself, times_other, free_once}
 use Rattle.bio_books.proofs.Slots.{shown, altered, read_look}
 
+-- what has a value is not without one
+nothing : {X : Type 0} (x : Option X) → x ≡ None → IsSome x → ⊥
+nothing None e some = absurd (cc)
+nothing (Some x) e some = absurd (cc)
+
 -- two keys of which one has a value and the other has none are not one
 differ : {T : Type 0} (slots : Slab T) (key other : ℕ) → get slots key ≡ None → IsSome (get slots other) → other ≡ key → ⊥
 differ slots key other none some same = nothing (get slots other) (ap (get slots) same ∙ none) some
-  where
-    nothing : {X : Type 0} (x : Option X) → x ≡ None → IsSome x → ⊥
-    nothing None e some = absurd (cc)
-    nothing (Some x) e some = absurd (cc)
 
 -- what a container is after a step: sound, with this at the place
 pub record Stepped {T : Type 0} (old new : Slab T) (keys : List (Option ℕ)) (free : List ℕ) (room place : ℕ) (slot : Option ℕ) (value : Option T) : Type 0 where
@@ -151,10 +152,6 @@ pub full_only_if : {T : Type 0} (slots : Slab T) (keys : List (Option ℕ)) (fre
     → IsPlaced slots keys free room → All IsSome (map (look slots) keys) → length free ≡ 0
 full_only_if slots keys free room sound all = omega (arith, sound.counted, every slots keys all)
   where
-    nothing : {X : Type 0} (x : Option X) → x ≡ None → IsSome x → ⊥
-    nothing None e some = absurd (cc)
-    nothing (Some x) e some = absurd (cc)
-
     every : {T : Type 0} (slots : Slab T) (keys : List (Option ℕ)) → All IsSome (map (look slots) keys) → keyed keys ≡ length keys
     every slots [] all = refl
     every {T = T} slots (None ∷ keys) all = absurd (nothing {X = T} None refl (all 0 None (omega arith)))
@@ -179,16 +176,8 @@ empty_only_if {T} slots keys free room sound empty =
     ∙ empty place None (same_size place key found)) (sound.taken place key found)) in
     omega (arith, sound.counted, none)
   where
-    nothing : {X : Type 0} (x : Option X) → x ≡ None → IsSome x → ⊥
-    nothing None e some = absurd (cc)
-    nothing (Some x) e some = absurd (cc)
-
-    sizes : {A B : Type 0} (f : A → B) (xs : List A) → length (map f xs) ≡ length xs
-    sizes f [] = refl
-    sizes f (x ∷ xs) = ap suc (sizes f xs)
-
     same_size : (place key : ℕ) → key_at keys place ≡ Some key → place < length (map (look slots) keys)
-    same_size place key found = omega (arith, key_within keys place key found, sizes (look slots) keys)
+    same_size place key found = omega (arith, key_within keys place key found, length-map keys (look slots))
 
 -- as many places are shown as are numbered
 pub as_many : {T : Type 0} (slots : Slab T) (keys : List (Option ℕ)) → length (map (look slots) keys) ≡ length keys

@@ -34,7 +34,7 @@ added : (a b c d m : ℕ) → a + b + c ≡ d → ((a + b) % m + c) % m ≡ d % 
 added a b c d m whole = mod-add-mod (a + b) m c ∙ ap (λ n. n % m) whole
 
 -- the number of a place is the place's
-number_of_place : (n : ℕ) → place_number (place_at n) ≡ n
+pub number_of_place : (n : ℕ) → place_number (place_at n) ≡ n
 number_of_place n = omega arith
 
 -- the places of the rest are those of the whole from there on

@@ -4,7 +4,7 @@ use Rattle.std.specs.Prelude.{slice_get, All}
 use Rattle.std.proofs.lemmas.Bool.{cases_eq}
 use Rattle.std.proofs.lemmas.List.{length-map, get_or-map}
 use Rattle.std.proofs.lemmas.List.Elements.{All-get_or}
-use Rattle.std.proofs.lemmas.Option.{get_or_from_slice_get, slice_get_within}
+use Rattle.std.proofs.lemmas.Option.{get_or_from_slice_get, slice_get_within, same_Some}
 use Rattle.stack_base.specs.declared.ids.DevId.{DevId}
 use Rattle.stack_base.specs.declared.stack.Kind.{Kind}
 use Rattle.stack_base.specs.declared.stack.Stack.{Stack}
@@ -27,10 +27,6 @@ use Rattle.layout_model.proofs.OneSlot.{kind_one}
 use Rattle.layout_model.proofs.OneFragment.{one_fragment}
 use Rattle.layout_model.proofs.Stacks.{element, member_tree, disk_under}
 use Rattle.layout_model.proofs.Under.{Under, itself, up, member_below, members_apart, under_one_way}
-
-abbrev write_or : Write → Option Write → Write
-write_or write None = write
-write_or write (Some other) = other
 
 abbrev start_of : Option Write → ℕ
 start_of None = 0
@@ -188,12 +184,9 @@ one_way_a_round stack writes rounds i j disk at a b good served apart found othe
           let write : Some a ≡ Some b = sym found ∙ ap (slice_get writes) one ∙ other in
           let start : a.start ≡ b.start = ap start_of write in
           let offset : here.offset ≡ there.offset = omega (arith, same.0, start) in
-          record { number = one; offset = offset; choices = same.1; fragment = fragment one (some_is a b write) offset same.1 }
+          record { number = one; offset = offset; choices = same.1; fragment = fragment one (same_Some a b write) offset same.1 }
     ]
   where
-    some_is : (x y : Write) → Some x ≡ Some y → x ≡ y
-    some_is x y e = ap (write_or x) e
-
     -- of one write, from one sector and by the same choices, they are in one fragment
     fragment : i ≡ j → a ≡ b → here.offset ≡ there.offset → here.choices ≡ there.choices → here.fragment ≡ there.fragment
     fragment one write offset choices =

@@ -8,6 +8,7 @@ use Rattle.layout_model.specs.declared.fragment.Fragment.{Fragment}
 use Rattle.layout_model.specs.Writes.{IsWrite}
 use Rattle.layout_model.proofs.RangeSums.{sum_of_zero}
 use Rattle.bio_records.specs.Runs.{place_number, place_at}
+use Rattle.bio_records.proofs.RunLemmas.{number_of_place}
 use Rattle.run_machine.specs.declared.event.Event.{Event}
 use Rattle.run_machine.specs.Scene.{Scene}
 use Rattle.run_machine.specs.Tasks.{Todo, first_bio}
@@ -23,14 +24,14 @@ use Rattle.block_core.proofs.start.FactsAtStart.{todos_all}
 use Rattle.block_core.proofs.start.StartTotals.{flat_sum, all_sum, opened_total}
 use Rattle.block_core.proofs.moves.StepMoves.{step_is_move}
 use Rattle.block_core.proofs.sound.EveryRun.{Whole, runs_whole, start_whole}
-use Rattle.block_core.proofs.images.FragmentCounts.{Divided, divided, numbered_place}
+use Rattle.block_core.proofs.images.FragmentCounts.{Divided, divided}
 use Rattle.block_core.proofs.moves.Misfits.{Follows, misfits, no_misfits}
 use Rattle.block_core.proofs.images.StillToCome.{over, comes}
 use Rattle.block_core.proofs.images.Completions.{step_sum}
 
 -- the parts of a bio do not end behind it
 rest_over : (p len n : ℕ) → n ≤ len → p + len + 1 - 2 ^ 35 ≡ 0 → place_number (place_at ((p + n) % 2 ^ 35)) + (len - n) + 1 - 2 ^ 35 ≡ 0
-rest_over p len n le none = omega (arith, le, none, numbered_place ((p + n) % 2 ^ 35))
+rest_over p len n le none = omega (arith, le, none, number_of_place ((p + n) % 2 ^ 35))
 
 pub over_follows : Follows over
 over_follows = record {

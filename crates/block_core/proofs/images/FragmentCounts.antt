@@ -18,6 +18,7 @@ use Rattle.bio_records.specs.declared.bio.Bio.{Bio}
 use Rattle.bio_records.specs.declared.bio.Pad.{Pad}
 use Rattle.bio_records.specs.Items.{Item}
 use Rattle.bio_records.specs.Runs.{place_number, place_at}
+use Rattle.bio_records.proofs.RunLemmas.{number_of_place}
 use Rattle.bio_split.specs.Split.{split_rest}
 use Rattle.bio_books.specs.Books.{SlipItem}
 use Rattle.run_machine.specs.Scene.{Setup, tree_at, tree_number, setup_of}
@@ -50,15 +51,11 @@ pub record Divided (setup : Setup) (value : Fragment → ℕ) : Type 0 where
       → worth setup value (leg_at bio hand leg key (tree_at setup bio.dev)).bio ≡ leg_worth setup value bio leg
   pub disk : (bio : Bio) → IsThere setup bio → AskFits (tree_at setup bio.dev) bio.range bio.dev.0 ToPush → worth setup value bio ≡ value (fragment_of bio)
 
--- a place is told by its number
-pub numbered_place : (n : ℕ) → place_number (place_at n) ≡ n
-numbered_place n = omega arith
-
 -- a place that does not wrap
 pub place_on : (p n : ℕ) → p + n < 2 ^ 35 → place_number (place_at ((p + n) % 2 ^ 35)) ≡ p + n
 place_on p n lt =
     let small : (p + n) % 2 ^ 35 ≡ p + n = omega (arith, lt) in
-    ap (λ k. place_number (place_at k)) small ∙ numbered_place (p + n)
+    ap (λ k. place_number (place_at k)) small ∙ number_of_place (p + n)
 
 -- the fragments of all legs
 legs_sum : (value : Fragment → ℕ) (f g : ℕ → List Fragment) (n a : ℕ) → ((k : ℕ) → f k ≡ g k) → sum_by value (flat_map f (range_with_len a n)) ≡ sum_by (λ k. sum_by value (g k)) (range_with_len a n)

@@ -4,7 +4,7 @@ use Rattle.std.specs.Prelude.{All, Contains, slice_get, slice_index_or}
 use Rattle.std.proofs.lemmas.Bool.{both_ways}
 use Rattle.std.proofs.lemmas.List.{ext_get_or}
 use Rattle.std.proofs.lemmas.List.Elements.{All-cons, All-contains, All-get_or, All-nil, Contains-append_right}
-use Rattle.std.proofs.lemmas.Option.{get_or_from_slice_get, slice_get_within}
+use Rattle.std.proofs.lemmas.Option.{get_or_from_slice_get, slice_get_within, same_Some}
 use Rattle.stack_base.specs.Tree.{tree, size}
 use Rattle.layout_model.specs.declared.fragment.Fragment.{Fragment}
 use Rattle.layout_model.specs.declared.write.Write.{Write}
@@ -128,11 +128,8 @@ module _ (s : Scenario) (good : IsScenario s) (disk at : ℕ) where
       by_write None is rest = stays (λ other found there. absurd (let no : None ≡ Some other = sym is ∙ found in cc)) rest
       by_write (Some write) is rest = elim (lands_or_not n write is) [
         | inl there ↦ inr (lands write is there rest)
-        | inr never ↦ stays (λ other found there. never (subst (LandsHere n) (same_some other write (sym found ∙ is)) there)) rest
+        | inr never ↦ stays (λ other found there. never (subst (LandsHere n) (same_Some other write (sym found ∙ is)) there)) rest
       ]
-        where
-          same_some : (a b : Write) → Some a ≡ Some b → a ≡ b
-          same_some a b e = search e
 
 pub laid_is_one : LaidIsOne
 laid_is_one s good disk at one other a b = elim (last_or_none s good disk at (length s.writes)) [

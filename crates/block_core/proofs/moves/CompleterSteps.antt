@@ -1,5 +1,6 @@
 -- Each step of a completer is one of the events.
 use Rattle.std.proofs.Common.{◌≡◌, ◌<◌, ℕ, Bool, Option, None, Some, inl, inr, refl, sym, ◌∙◌, ap}
+use Rattle.std.proofs.lemmas.Option.{none-some}
 use Rattle.stack_base.specs.declared.ids.DevId.{DevId}
 use Rattle.stack_base.specs.declared.ids.Status.{Status}
 use Rattle.bio_records.specs.declared.bio.Pad.{Pad}
@@ -23,7 +24,7 @@ use Rattle.run_machine.specs.Requests.{Reply}
 use Rattle.run_machine.specs.Tasks.{request, answered, after_drop}
 use Rattle.run_machine.specs.Objects.{Serves}
 use Rattle.block_core.proofs.stuck.Idle.{open_in_books}
-use Rattle.block_core.proofs.moves.StepsTold.{IsMove, touch_in, paid_in, state_is, nothing_told}
+use Rattle.block_core.proofs.moves.StepsTold.{IsMove, touch_in, paid_in, state_is}
 
 module _ (scene : Scene) (s : State) (f : Fair scene) (i : Kept scene s) (place : ℕ) (here : place < scene.tasks) (what : What) (new : State) where
   -- the kind of an end that the task tells next
@@ -79,7 +80,7 @@ module _ (scene : Scene) (s : State) (f : Fair scene) (i : Kept scene s) (place 
             touches = sym (ap touch_in told_it);
             pays = λ was_master. sym (ap (paid_in (its_end was_master)) told_it) ∙ ap (end_told was_master) is;
           }
-      at_node found at (end.Stray back) told_it drops objects goes = absurd (nothing_told what told_it)
+      at_node found at (end.Stray back) told_it drops objects goes = absurd (none-some what told_it)
       at_node None at end.Left told_it drops objects goes = absurd drops
       at_node None at (end.Up closed) told_it drops objects goes = absurd drops
       at_node None at (end.Top closed) told_it drops objects goes = absurd drops
@@ -87,7 +88,7 @@ module _ (scene : Scene) (s : State) (f : Fair scene) (i : Kept scene s) (place 
   pub completes : (disk : DevId) → s.task place ≡ Completer disk Empty → TaskFits scene (Completer disk Empty) → (reply : Reply) → Moved (Completer disk Empty) reply
   completes disk is fits (requests.Completed index bio status) told serves goes =
       record { move = moves.Completed place disk index bio status (new.objects.disk disk.0); can = (here, is, fits, serves.0); is = state_is new _ _ serves.1 goes; at = refl; touches = sym (ap touch_in told); pays = λ was_master. sym (ap (paid_in (its_end was_master)) told) }
-  completes disk is fits requests.Nothing told serves goes = absurd (nothing_told what told)
+  completes disk is fits requests.Nothing told serves goes = absurd (none-some what told)
   completes disk is fits _ told serves goes = absurd serves
 
   pub ends_bio : (disk : DevId) (bio : Item Pad) (status : Status) → s.task place ≡ Completer disk (Brings bio status) → (reply : Reply) → Moved (Completer disk (Brings bio status)) reply

@@ -1,6 +1,7 @@
 -- Each step of a run is one of the events.
 use Rattle.std.proofs.Common.{◌≡◌, ◌<◌, ◌==◌, ℕ, Bool, true, false, List, [], ◌∷◌, Some, refl, sym, ◌∙◌, ap, subst, arith, cond}
 use Rattle.std.specs.Prelude.{sum}
+use Rattle.std.proofs.lemmas.Option.{none-some}
 use Rattle.stack_base.specs.declared.ids.DevId.{DevId}
 use Rattle.stack_base.specs.declared.ids.PoolId.{PoolId}
 use Rattle.stack_base.specs.PoolId.{pool_number}
@@ -25,7 +26,7 @@ use Rattle.run_machine.specs.Requests.{Reply}
 use Rattle.run_machine.specs.Tasks.{request, answered, look_of, later_of, after_resize}
 use Rattle.run_machine.specs.Objects.{Serves}
 use Rattle.run_machine.specs.Runs.{IsLet, Steps}
-use Rattle.block_core.proofs.moves.StepsTold.{IsMove, touch_in, paid_in, state_is, nothing_told}
+use Rattle.block_core.proofs.moves.StepsTold.{IsMove, touch_in, paid_in, state_is}
 use Rattle.block_core.proofs.moves.SubmissionSteps.{submits}
 use Rattle.block_core.proofs.moves.WriterSteps.{writes}
 use Rattle.block_core.proofs.moves.CompleterSteps.{completes, ends_bio, carries}
@@ -46,7 +47,7 @@ module _ (scene : Scene) (s : State) (f : Fair scene) (i : Kept scene s) (place 
   pops : (dev : DevId) → s.task place ≡ Rescuer dev rests → dev.0 < scene.setup.count → (reply : Reply) → Moved (Rescuer dev rests) reply
   pops dev is lt (requests.Popped bio) told serves goes =
       record { move = moves.Pops place dev bio (new.objects.rescue dev.0); can = (here, is, lt, serves.0); is = state_is new _ _ serves.1 goes; at = refl; touches = sym (ap touch_in told); pays = λ was_master. sym (ap (paid_in (its_end was_master)) told) }
-  pops dev is lt requests.Nothing told serves goes = absurd (nothing_told what told)
+  pops dev is lt requests.Nothing told serves goes = absurd (none-some what told)
   pops dev is lt _ told serves goes = absurd serves
 
   rescues : (dev : DevId) (doing : Doing) (lists : TaskLists) → s.task place ≡ Rescuer dev (record { doing = doing; lists = lists })
@@ -72,7 +73,7 @@ module _ (scene : Scene) (s : State) (f : Fair scene) (i : Kept scene s) (place 
   keeps_pool pool min later duties is done out true zero_out told out_is objects goes =
       let z : out ≡ 0 = search (zero_out, arith) in
       record { move = moves.Resized place pool min later duties; can = (here, is, sym out_is ∙ z, done); is = state_is new _ _ objects goes; at = refl; touches = sym (ap touch_in told); pays = λ was_master. sym (ap (paid_in (its_end was_master)) told) }
-  keeps_pool pool min later duties is done out false some told out_is objects goes = absurd (nothing_told what told)
+  keeps_pool pool min later duties is done out false some told out_is objects goes = absurd (none-some what told)
 
   keeps_on : (keeping : Keeping) → s.task place ≡ Keeper keeping → TaskFits scene (Keeper keeping) → IsLet scene.ledger s.objects (Keeper keeping) (look_of (Keeper keeping)) → (reply : Reply) → Moved (Keeper keeping) reply
   keeps_on (Keeps []) is fits see reply told serves goes = absurd serves

@@ -1,5 +1,6 @@
 -- What is told of a step is told of its event: whose it is, what it does to a node and what is paid for it.
 use Rattle.std.proofs.Common.{◌≡◌, ℕ, Bool, true, false, Option, None, Some, refl, sym, ap}
+use Rattle.std.proofs.lemmas.Option.{none-some}
 use Rattle.stack_base.specs.declared.ids.PoolId.{PoolId}
 use Rattle.bio_books.specs.Books.{told}
 use Rattle.run_machine.specs.Scene.{Scene}
@@ -55,14 +56,11 @@ miss_passes false used pool = refl
 pub state_is : (new : State) (o : Objects) (t : ℕ → TaskState) → new.objects ≡ o → new.task ≡ t → new ≡ record { objects = o; task = t }
 state_is new o t a b = λ j. record { objects = a j; task = b j }
 
-pub nothing_told : (what : What) → None ≡ Some what → ⊥
-nothing_told what q = cc
-
 -- a miss that leaves the task as it is is told where it used up an entry
 pub used_told : (used : Bool) (pool : PoolId) (what : What) → miss_of true used pool ≡ Some what → used ≡ true
 used_told true pool what told = refl
-used_told false pool what told = absurd (nothing_told what told)
+used_told false pool what told = absurd (none-some what told)
 
 pub miss_pays : (end : Paid) (used : Bool) (pool : PoolId) (what : What) → miss_of true used pool ≡ Some what → paid_as end what ≡ paid.MissesWaiting
 miss_pays end true pool what told = sym (ap (paid_in end) told)
-miss_pays end false pool what told = absurd (nothing_told what told)
+miss_pays end false pool what told = absurd (none-some what told)

@@ -1,5 +1,6 @@
 -- Each step of a submission is one of the events.
 use Rattle.std.proofs.Common.{◌≡◌, ◌+◌, ◌*◌, ◌<◌, ℕ, Bool, true, false, List, Option, None, Some, inl, refl, sym, ◌∙◌, ap, subst, arith}
+use Rattle.std.proofs.lemmas.Option.{none-some}
 use Rattle.stack_base.specs.declared.ids.DevId.{DevId}
 use Rattle.stack_base.specs.declared.ids.PoolId.TheVariants.{Bios, Records}
 use Rattle.stack_base.specs.declared.ids.SetId.TheVariants.{Of}
@@ -34,7 +35,7 @@ use Rattle.run_machine.specs.Tasks.{request}
 use Rattle.run_machine.specs.Objects.{Serves}
 use Rattle.block_core.proofs.sound.TaskSubmissions.{submission_fits, IsBusy, wants_busy}
 use Rattle.block_core.proofs.stuck.Idle.{open_in_books}
-use Rattle.block_core.proofs.moves.StepsTold.{IsMove, touch_in, take_passes, paid_in, take_ordinary, take_spare, miss_passes, state_is, nothing_told, used_told, miss_pays}
+use Rattle.block_core.proofs.moves.StepsTold.{IsMove, touch_in, take_passes, paid_in, take_ordinary, take_spare, miss_passes, state_is, used_told, miss_pays}
 
 -- what is wanted is of a device of the stack
 wants_in : (setup : Setup) (doing : Doing) (dev : DevId) (want : Want) → Wants doing dev want → DoingIsIn setup doing → dev.0 < setup.count
@@ -229,8 +230,8 @@ module _ (scene : Scene) (s : State) (f : Fair scene) (i : Kept scene s) (place 
             pays = λ was_master. sym (ap (paid_in (its_end was_master)) told);
           }
   -- a refused node is no event
-  chains x bio lists hand is h fits (requests.LinkedTo (NoRoom back)) told serves goes = absurd (nothing_told what told)
-  chains x bio lists hand is h fits (requests.LinkedTo (Stray back)) told serves goes = absurd (nothing_told what told)
+  chains x bio lists hand is h fits (requests.LinkedTo (NoRoom back)) told serves goes = absurd (none-some what told)
+  chains x bio lists hand is h fits (requests.LinkedTo (Stray back)) told serves goes = absurd (none-some what told)
   chains x bio lists hand is h fits _ told serves goes = absurd serves
 
   -- a bio that a mirror copies gets its master
@@ -254,8 +255,8 @@ module _ (scene : Scene) (s : State) (f : Fair scene) (i : Kept scene s) (place 
             pays = λ was_master. sym (ap (paid_in (its_end was_master)) told);
           }
   -- a refused node is no event
-  masters x bio lists slip is h (requests.LinkedTo (NoRoom back)) told serves goes = absurd (nothing_told what told)
-  masters x bio lists slip is h (requests.LinkedTo (Stray back)) told serves goes = absurd (nothing_told what told)
+  masters x bio lists slip is h (requests.LinkedTo (NoRoom back)) told serves goes = absurd (none-some what told)
+  masters x bio lists slip is h (requests.LinkedTo (Stray back)) told serves goes = absurd (none-some what told)
   masters x bio lists slip is h _ told serves goes = absurd serves
 
   -- a leg gets its node
@@ -279,8 +280,8 @@ module _ (scene : Scene) (s : State) (f : Fair scene) (i : Kept scene s) (place 
             pays = λ was_master. sym (ap (paid_in (its_end was_master)) told);
           }
   -- a refused node is no event
-  legs x bio master leg lists hand is h (requests.LinkedTo (NoRoom back)) told serves goes = absurd (nothing_told what told)
-  legs x bio master leg lists hand is h (requests.LinkedTo (Stray back)) told serves goes = absurd (nothing_told what told)
+  legs x bio master leg lists hand is h (requests.LinkedTo (NoRoom back)) told serves goes = absurd (none-some what told)
+  legs x bio master leg lists hand is h (requests.LinkedTo (Stray back)) told serves goes = absurd (none-some what told)
   legs x bio master leg lists hand is h _ told serves goes = absurd serves
 
   -- a task in a submission

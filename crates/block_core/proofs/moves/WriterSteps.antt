@@ -1,5 +1,6 @@
 -- Each step of a writer is one of the events.
 use Rattle.std.proofs.Common.{◌≡◌, ◌<◌, ◌≤◌, ℕ, Bool, true, false, List, [], ◌∷◌, None, Some, inr, refl, sym, ◌∙◌, ap, subst, arith}
+use Rattle.std.proofs.lemmas.Option.{none-some}
 use Rattle.stack_base.specs.declared.ids.PoolId.TheVariants.{FsBios, FsVecs}
 use Rattle.stack_base.specs.declared.ids.SetId.TheVariants.{Fs}
 use Rattle.mempool_core.specs.Move.{takes_ordinary, takes_spare}
@@ -27,7 +28,7 @@ use Rattle.run_machine.specs.Requests.{Reply}
 use Rattle.run_machine.specs.Tasks.{request, answered, look_of, with_bio, needs_vector}
 use Rattle.run_machine.specs.Objects.{Serves}
 use Rattle.run_machine.specs.Runs.{IsLet}
-use Rattle.block_core.proofs.moves.StepsTold.{IsMove, touch_in, paid_in, miss_passes, state_is, nothing_told, used_told, miss_pays}
+use Rattle.block_core.proofs.moves.StepsTold.{IsMove, touch_in, paid_in, miss_passes, state_is, used_told, miss_pays}
 use Rattle.block_core.proofs.moves.SubmissionSteps.{submits}
 
 module _ (scene : Scene) (s : State) (f : Fair scene) (i : Kept scene s) (place : ℕ) (here : place < scene.tasks) (what : What) (new : State) where
@@ -95,8 +96,8 @@ module _ (scene : Scene) (s : State) (f : Fair scene) (i : Kept scene s) (place 
   goes_with false number todo later item needs is lt (requests.LinkedTo (Made key)) told serves goes =
       let objects = serves.1 ∙ ap (λ b. record s.objects { book = upd s.objects.book number b }) serves.0.1 in
       record { move = moves.Begins place number todo later item None key; can = (here, is, lt, serves.0.0, needs); is = state_is new _ _ objects goes; at = refl; touches = sym (ap touch_in told); pays = λ was_master. sym (ap (paid_in (its_end was_master)) told) }
-  goes_with false number todo later item needs is lt (requests.LinkedTo (NoRoom back)) told serves goes = absurd (nothing_told what told)
-  goes_with false number todo later item needs is lt (requests.LinkedTo (Stray back)) told serves goes = absurd (nothing_told what told)
+  goes_with false number todo later item needs is lt (requests.LinkedTo (NoRoom back)) told serves goes = absurd (none-some what told)
+  goes_with false number todo later item needs is lt (requests.LinkedTo (Stray back)) told serves goes = absurd (none-some what told)
   goes_with false number todo later item needs is lt _ told serves goes = absurd serves
 
   begins_both : (number : ℕ) (todo : Todo) (later : List Todo) (item : Item Pad) (vector : VectorItem) → s.task place ≡ Writer number (todo ∷ later) (HasBoth item vector) rests → number < scene.books → (reply : Reply)
@@ -106,8 +107,8 @@ module _ (scene : Scene) (s : State) (f : Fair scene) (i : Kept scene s) (place 
   begins_both number todo later item vector is lt (requests.LinkedTo (Made key)) told serves goes =
       let objects = serves.1 ∙ ap (λ b. record s.objects { book = upd s.objects.book number b }) serves.0.1 in
       record { move = moves.Begins place number todo later item (Some vector) key; can = (here, is, lt, serves.0.0, tt); is = state_is new _ _ objects goes; at = refl; touches = sym (ap touch_in told); pays = λ was_master. sym (ap (paid_in (its_end was_master)) told) }
-  begins_both number todo later item vector is lt (requests.LinkedTo (NoRoom back)) told serves goes = absurd (nothing_told what told)
-  begins_both number todo later item vector is lt (requests.LinkedTo (Stray back)) told serves goes = absurd (nothing_told what told)
+  begins_both number todo later item vector is lt (requests.LinkedTo (NoRoom back)) told serves goes = absurd (none-some what told)
+  begins_both number todo later item vector is lt (requests.LinkedTo (Stray back)) told serves goes = absurd (none-some what told)
   begins_both number todo later item vector is lt _ told serves goes = absurd serves
 
   -- a writer that saw its write's round begun

@@ -1,5 +1,6 @@
 -- What events say of writes that are done, and of rounds.
 use Rattle.std.proofs.Common.{◌≡◌, ◌+◌, ◌==◌, ℕ, Bool, true, false, None, Some, sym, ap, subst}
+use Rattle.std.proofs.lemmas.Option.{same_Some}
 use Rattle.elem_ledger.specs.Ledger.{LedgerId}
 use Rattle.stack_base.specs.declared.ids.Status.{Status}
 use Rattle.bio_books.specs.Links.{Made, NoRoom, Stray}
@@ -27,64 +28,61 @@ EventSays request told = IsOther told
 pub none_told : {X : Type 0} (what : What) → None ≡ Some what → X
 none_told what is = absurd cc
 
-some_is : (first second : What) → Some first ≡ Some second → first ≡ second
-some_is first second is = cc
-
 pub says : (request : Request) (reply : Reply) (what : What) → what_of request reply ≡ Some what → EventSays request what
 -- takes: where an event is told, it is of the others
-says (requests.TakeBio set true) (requests.HadBio from bio) what tells = subst IsOther (some_is _ what tells) tt
-says (requests.TakeBio set true) (requests.Missed true) what tells = subst IsOther (some_is _ what tells) tt
+says (requests.TakeBio set true) (requests.HadBio from bio) what tells = subst IsOther (same_Some _ what tells) tt
+says (requests.TakeBio set true) (requests.Missed true) what tells = subst IsOther (same_Some _ what tells) tt
 says (requests.TakeBio set true) (requests.Missed false) what tells = none_told what tells
-says (requests.TakeBio set false) (requests.HadBio from bio) what tells = subst IsOther (some_is _ what tells) tt
-says (requests.TakeBio set false) (requests.Missed used) what tells = subst IsOther (some_is _ what tells) tt
+says (requests.TakeBio set false) (requests.HadBio from bio) what tells = subst IsOther (same_Some _ what tells) tt
+says (requests.TakeBio set false) (requests.Missed used) what tells = subst IsOther (same_Some _ what tells) tt
 says (requests.TakeBio set waits) reply what tells = none_told what tells
-says requests.TakeVec (requests.HadVec from vector) what tells = subst IsOther (some_is _ what tells) tt
-says requests.TakeVec (requests.Missed true) what tells = subst IsOther (some_is _ what tells) tt
+says requests.TakeVec (requests.HadVec from vector) what tells = subst IsOther (same_Some _ what tells) tt
+says requests.TakeVec (requests.Missed true) what tells = subst IsOther (same_Some _ what tells) tt
 says requests.TakeVec (requests.Missed false) what tells = none_told what tells
 says requests.TakeVec reply what tells = none_told what tells
-says (requests.TakeSlip dev) (requests.HadSlip from slip) what tells = subst IsOther (some_is _ what tells) tt
-says (requests.TakeSlip dev) (requests.Missed true) what tells = subst IsOther (some_is _ what tells) tt
+says (requests.TakeSlip dev) (requests.HadSlip from slip) what tells = subst IsOther (same_Some _ what tells) tt
+says (requests.TakeSlip dev) (requests.Missed true) what tells = subst IsOther (same_Some _ what tells) tt
 says (requests.TakeSlip dev) (requests.Missed false) what tells = none_told what tells
 says (requests.TakeSlip dev) reply what tells = none_told what tells
 -- gives
-says (requests.GiveBio bio) requests.Did what tells = subst IsOther (some_is _ what tells) tt
+says (requests.GiveBio bio) requests.Did what tells = subst IsOther (same_Some _ what tells) tt
 says (requests.GiveBio bio) reply what tells = none_told what tells
-says (requests.GiveVec vector) requests.Did what tells = subst IsOther (some_is _ what tells) tt
+says (requests.GiveVec vector) requests.Did what tells = subst IsOther (same_Some _ what tells) tt
 says (requests.GiveVec vector) reply what tells = none_told what tells
-says (requests.GiveSlip slip) requests.Did what tells = subst IsOther (some_is _ what tells) tt
+says (requests.GiveSlip slip) requests.Did what tells = subst IsOther (same_Some _ what tells) tt
 says (requests.GiveSlip slip) reply what tells = none_told what tells
 -- lists of rescuers
-says (requests.Punt dev moved) requests.Did what tells = subst IsOther (some_is _ what tells) tt
+says (requests.Punt dev moved) requests.Did what tells = subst IsOther (same_Some _ what tells) tt
 says (requests.Punt dev moved) reply what tells = none_told what tells
-says (requests.Pop dev) (requests.Popped bio) what tells = subst IsOther (some_is _ what tells) tt
+says (requests.Pop dev) (requests.Popped bio) what tells = subst IsOther (same_Some _ what tells) tt
 says (requests.Pop dev) reply what tells = none_told what tells
 -- disks
-says (requests.Push bio) requests.Did what tells = subst IsOther (some_is _ what tells) tt
+says (requests.Push bio) requests.Did what tells = subst IsOther (same_Some _ what tells) tt
 says (requests.Push bio) reply what tells = none_told what tells
-says (requests.Complete disk) (requests.Completed index bio status) what tells = subst IsOther (some_is _ what tells) tt
+says (requests.Complete disk) (requests.Completed index bio status) what tells = subst IsOther (same_Some _ what tells) tt
 says (requests.Complete disk) reply what tells = none_told what tells
 -- books: one that is refused is no event
-says (requests.Link writer opening) (requests.LinkedTo (Made key)) what tells = subst IsOther (some_is _ what tells) tt
+says (requests.Link writer opening) (requests.LinkedTo (Made key)) what tells = subst IsOther (same_Some _ what tells) tt
 says (requests.Link writer opening) (requests.LinkedTo (NoRoom back)) what tells = none_told what tells
 says (requests.Link writer opening) (requests.LinkedTo (Stray back)) what tells = none_told what tells
 says (requests.Link writer opening) reply what tells = none_told what tells
-says (requests.Drop writer key status part) (requests.DroppedTo end.Left) what tells = subst IsOther (some_is _ what tells) tt
-says (requests.Drop writer key status part) (requests.DroppedTo (end.Up closed)) what tells = subst IsOther (some_is _ what tells) tt
-says (requests.Drop writer key status part) (requests.DroppedTo (end.Top closed)) what tells = subst IsOther (some_is _ what tells) tt
+says (requests.Drop writer key status part) (requests.DroppedTo end.Left) what tells = subst IsOther (same_Some _ what tells) tt
+says (requests.Drop writer key status part) (requests.DroppedTo (end.Up closed)) what tells = subst IsOther (same_Some _ what tells) tt
+says (requests.Drop writer key status part) (requests.DroppedTo (end.Top closed)) what tells = subst IsOther (same_Some _ what tells) tt
 says (requests.Drop writer key status part) (requests.DroppedTo (end.Stray back)) what tells = none_told what tells
 says (requests.Drop writer key status part) reply what tells = none_told what tells
 -- ends of writes: the event has the write and the status that were asked
-says (requests.Done write status) requests.Did what tells = sym (some_is _ what tells)
+says (requests.Done write status) requests.Did what tells = sym (same_Some _ what tells)
 says (requests.Done write status) reply what tells = none_told what tells
 -- resizes: one that found elements out is no event
 says (requests.Resize pool min) (requests.OutIs out) what tells = by_test (out == 0) tells
   where
     by_test : (v : Bool) → resize_of v pool min ≡ Some what → IsOther what
-    by_test true tells = subst IsOther (some_is _ what tells) tt
+    by_test true tells = subst IsOther (same_Some _ what tells) tt
     by_test false tells = none_told what tells
 says (requests.Resize pool min) reply what tells = none_told what tells
 -- starts of rounds: the event has the number that was asked
-says (requests.NextRound round) requests.Did what tells = sym (some_is _ what tells)
+says (requests.NextRound round) requests.Did what tells = sym (same_Some _ what tells)
 says (requests.NextRound round) reply what tells = none_told what tells
 -- looks and rests are no events
 says requests.LookRound reply what tells = none_told what tells

@@ -1,6 +1,6 @@
 -- A task that waits for a bio of a device's set has none of that set in its lists.
-use Rattle.std.proofs.Common.{◌≡◌, ◌+◌, ◌*◌, ◌≤◌, ◌==◌, ◌⊎◌, ◌++◌, ◌&&◌, ◌||◌, not, if◌then◌else◌, ℕ, Bool, true, false, List, [], ◌∷◌, filter, inl, inr, refl, sym, ◌∙◌, ap, subst, arith, true≢false}
-use Rattle.std.proofs.lemmas.Bool.{eq-eqb, eqb-false}
+use Rattle.std.proofs.Common.{◌≡◌, ◌+◌, ◌*◌, ◌≤◌, ◌==◌, ◌⊎◌, ◌++◌, ◌&&◌, not, if◌then◌else◌, ℕ, Bool, true, false, List, [], ◌∷◌, filter, inl, inr, refl, sym, ◌∙◌, ap, subst, arith, true≢false}
+use Rattle.std.proofs.lemmas.Bool.{eq-eqb, eqb-false, not-false, or_parts}
 use Rattle.stack_base.specs.declared.ids.DevId.{DevId}
 use Rattle.stack_base.specs.declared.ids.SetId.{SetId}
 use Rattle.stack_base.specs.declared.ids.SetId.TheVariants.{Fs, Of}
@@ -65,16 +65,12 @@ pub record Waits (setup : Setup) (s : State) : Type 0 where
 abbrev pub AreRescued : Setup → Type 0
 AreRescued setup = (bio : Bio) → IsThere setup bio → 2 ≤ legs_of (tree_at setup bio.dev) → setup.rescuer bio.dev.0 ≡ true
 
-not_waiting : (rescuer none : Bool) → (not rescuer || none) ≡ false → rescuer ≡ true
-not_waiting true none is = refl
-not_waiting false none is = absurd (true≢false is)
-
 waits_or_tries : (setup : Setup) (dev : DevId) (lists : TaskLists) → lists.list0 ≡ [] → WantWaits (setup.rescuer dev.0) (Takes (waits_first (setup.rescuer dev.0) lists)) lists
 waits_or_tries setup dev lists none = by_test (waits_first (setup.rescuer dev.0) lists) refl
   where
     by_test : (v : Bool) → waits_first (setup.rescuer dev.0) lists ≡ v → WantWaits (setup.rescuer dev.0) (Takes v) lists
     by_test true is = none
-    by_test false is = not_waiting (setup.rescuer dev.0) (is_empty lists.list0 && is_empty lists.list1) is
+    by_test false is = not-false (setup.rescuer dev.0) (or_parts (not (setup.rescuer dev.0)) (is_empty lists.list0 && is_empty lists.list1) is).0
 
 tries : (setup : Setup) (dev : DevId) (lists : TaskLists) → setup.rescuer dev.0 ≡ true → is_empty lists.list0 ≡ false → WantWaits (setup.rescuer dev.0) (Takes (waits_first (setup.rescuer dev.0) lists)) lists
 tries setup dev lists rescuer some =

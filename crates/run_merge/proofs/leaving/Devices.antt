@@ -22,6 +22,10 @@ use Rattle.task_steps.specs.Routed.{Routing, routing_setup}
 use Rattle.task_steps.specs.Stage.{has_mirror_in}
 use Rattle.run_merge.specs.Falling.{DevicePools, at_number, below, with_facts, falling_below}
 
+-- a number within one more is within, or is the last
+within_or_last : (n k : ℕ) → n ≤ suc k → (n ≤ k) ⊎ (n ≡ suc k)
+within_or_last n k le = grind (arith, le)
+
 keeps_by : (n : ℕ) (k : Kind) (trees : List Tree) → keeps_data (over n k trees) ≡ kinds.is_disk_kind k
 unfolding over_shape
 keeps_by n (kind.Disk sectors bad) trees = refl
@@ -117,11 +121,8 @@ module _ {A : Type 0} (has : ℕ → Bool) (entry : ℕ → A) where
     where
       zero_is : n ≡ 0
       zero_is = omega (arith, le)
-  below_past n (suc k) none le = by_two (cases n k le) (λ less. below_past n k none less)
+  below_past n (suc k) none le = by_two (within_or_last n k le) (λ less. below_past n k none less)
     where
-      cases : (n k : ℕ) → n ≤ suc k → (n ≤ k) ⊎ (n ≡ suc k)
-      cases n k le = grind (arith, le)
-
       by_two : (n ≤ k) ⊎ (n ≡ suc k) → (n ≤ k → below has entry k ≡ below has entry n) → below has entry (suc k) ≡ below has entry n
       by_two (inl less) rest =
           ap (λ b. below has entry k ++ cond b (entry k ∷ []) []) (none k less) ∙ append-nil (below has entry k) ∙ rest less
@@ -185,11 +186,8 @@ module _ (pools : DevicePools) where
     where
       zero_is : n ≡ 0
       zero_is = omega (arith, le)
-  none_falls n (suc k) none le = by_two (cases n k le) (λ less. none_falls n k none less)
+  none_falls n (suc k) none le = by_two (within_or_last n k le) (λ less. none_falls n k none less)
     where
-      cases : (n k : ℕ) → n ≤ suc k → (n ≤ k) ⊎ (n ≡ suc k)
-      cases n k le = grind (arith, le)
-
       by_two : (n ≤ k) ⊎ (n ≡ suc k) → (n ≤ k → falling_below pools k ≡ falling_below pools n) → falling_below pools (suc k) ≡ falling_below pools n
       by_two (inl less) rest =
           ap (λ b. at_number pools.is_mirror (λ n. with_facts pools (Records (at n))) k ++ (cond b (with_facts pools (Bios (at k)) ∷ []) [] ++ falling_below pools k)) (none k less).0

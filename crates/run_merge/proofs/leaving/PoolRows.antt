@@ -17,6 +17,7 @@ use Rattle.task_core.specs.opened.Openings.{itself, set_index, has_set_at, slip_
 use Rattle.task_steps.specs.Stage.{has_mirror_in}
 use Rattle.task_steps.specs.Routed.{Routing, routing_setup}
 use Rattle.shared_objects.specs.Holding.{set_key, slip_key}
+use Rattle.shared_objects.proofs.sharing.OpenedRows.{by_itself}
 use Rattle.run_merge.proofs.Fronts.{has_some}
 use Rattle.run_merge.proofs.leaving.FoundByKey.{AreDistinct, looked, numbers_apart, pairs}
 
@@ -26,9 +27,6 @@ twice_apart m n lt same = omega (arith, lt, same)
 
 odd_apart : (m n : ℕ) → m < n → 2 * m + 1 ≢ 2 * n + 1
 odd_apart m n lt same = omega (arith, lt, same)
-
-pub itself_apart : (m n : ℕ) → m < n → itself m ≢ itself n
-itself_apart m n lt same = omega (arith, lt, same)
 
 set_named : (set : SetId) (n : ℕ) → set_key set ≡ 2 * n → set ≡ Of (at n)
 set_named Fs n is = absurd (omega (arith, is))
@@ -177,6 +175,6 @@ module _ (r : Routing) where
       (keys : map key row ≡ map itself (filter (is_disk (routing_setup r)) (range_with_len 0 count))) where
     pub all_disks : map value row ≡ map (look_up key value none row) (filter (is_disk (routing_setup r)) (range_with_len 0 count))
     all_disks =
-        looked key value none row (subst AreDistinct (sym keys) (numbers_apart itself itself_apart (is_disk (routing_setup r)) 0 count))
+        looked key value none row (subst AreDistinct (sym keys) (numbers_apart itself by_itself (is_disk (routing_setup r)) 0 count))
         ∙ ap (map (look_up key value none row)) keys
         ∙ map-map (look_up key value none row) itself (filter (is_disk (routing_setup r)) (range_with_len 0 count))

@@ -93,7 +93,7 @@ looked_up : {E X : Type 0} (key : E → ℕ) (value : E → X) (none : ℕ → X
 looked_up key value none entries n entry found = ap (λ o. option_map_or value o (none n)) found
 
 -- numbers are apart
-by_itself : (i n : ℕ) → i < n → itself i ≢ itself n
+pub by_itself : (i n : ℕ) → i < n → itself i ≢ itself n
 by_itself i n lt e = absurd (omega (arith, lt, e))
 
 -- a number of a set is not that of the vectors, nor that of records
