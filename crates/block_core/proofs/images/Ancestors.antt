@@ -19,14 +19,10 @@ use Rattle.block_core.specs.Present.{AllAtWork}
 use Rattle.block_core.proofs.moves.Sums.{apart, one-same, within_book}
 use Rattle.block_core.proofs.sound.Facts.{Kept}
 use Rattle.block_core.proofs.moves.Totals.{part_of, task_part}
-use Rattle.block_core.proofs.stuck.Idle.{GoesDown, open_in_books, open_at, node_part}
+use Rattle.block_core.proofs.stuck.Idle.{GoesDown, open_in_books, open_at, node_part, names_one}
 use Rattle.block_core.proofs.sound.OfOneWrite.{node_write, child_of_write}
 
--- a bio refers to the node that it names
-pub names_one : (item : Item Pad) → names_node item.bio.writer item.bio.node item ≡ 1
-names_one item = ap (λ n. n * one item.bio.node item.bio.node) (one-same item.bio.writer) ∙ ap (λ n. 1 * n) (one-same item.bio.node)
-
--- and one that a mirror copies, once for each leg that is left, to its master
+-- a bio that a mirror copies refers, once for each leg that is left, to its master
 pub copied_times : (setup : Setup) (bio : Bio) (master leg : ℕ) → one bio.writer bio.writer * one master master * legs_left setup bio leg ≡ legs_left setup bio leg
 copied_times setup bio master leg =
     ap (λ k. k * one master master * legs_left setup bio leg) (one-same bio.writer) ∙ (ap (λ k. 1 * k * legs_left setup bio leg) (one-same master) ∙ omega arith)

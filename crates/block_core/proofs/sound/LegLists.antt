@@ -34,7 +34,7 @@ use Rattle.block_core.proofs.sound.TaskSubmissions.{submission_fits}
 use Rattle.block_core.proofs.sound.Orders.{Placed, each_map, each_less, each_append}
 use Rattle.block_core.proofs.sound.OrdersKept.{placed_at}
 use Rattle.block_core.proofs.moves.Totals.{task_part, submission_part}
-use Rattle.block_core.proofs.images.Ancestors.{names_one}
+use Rattle.block_core.proofs.stuck.Idle.{names_one}
 
 -- what stands at a place of a book becomes of a node: it stays open with its role, or closes
 abbrev pub StaysOrCloses : Option Node → Node → Type 0

@@ -22,11 +22,11 @@ use Rattle.block_core.proofs.moves.BookMaps.{made}
 use Rattle.block_core.proofs.sound.Splitting.{total_sum}
 use Rattle.block_core.proofs.sound.Misplaced.{wrong_parent, wrong_above, misplaced}
 use Rattle.block_core.proofs.moves.Totals.{task_part}
-use Rattle.block_core.proofs.stuck.Idle.{open_at, node_part}
+use Rattle.block_core.proofs.stuck.Idle.{open_at, node_part, names_one}
 use Rattle.block_core.proofs.moves.SumsCompared.{under_in_all}
 use Rattle.block_core.proofs.sound.StoodFor.{refs_are, Stands}
 use Rattle.block_core.proofs.sound.EachBio.{each_part, each_copied_part}
-use Rattle.block_core.proofs.images.Ancestors.{names_one, copied_times}
+use Rattle.block_core.proofs.images.Ancestors.{copied_times}
 
 is_false : (b : Bool) → yes b ≡ 0 → b ≡ false
 is_false true none = absurd (omega (arith, none))

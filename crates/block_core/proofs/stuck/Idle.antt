@@ -72,6 +72,10 @@ node_part scene s i w writer key node at =
       part_of (book_weight w) scene.books s.objects.book writer (open_in_books scene s i writer key node at),
     )
 
+-- a bio refers to the node that it names
+pub names_one : (item : Item Pad) → names_node item.bio.writer item.bio.node item ≡ 1
+names_one item = ap (λ n. n * one item.bio.node item.bio.node) (one-same item.bio.writer) ∙ ap (λ n. 1 * n) (one-same item.bio.node)
+
 module _ (scene : Scene) (s : State) (i : Kept scene s) (level : ℕ → ℕ → ℕ) (down : GoesDown s level) (none : NoneBegun scene s) where
   -- no level in a book is above all of them together, so a way up from node to node would come to a top
   no_way_up : (fuel writer key : ℕ) (node : Node) → node_at (s.objects.book writer) key ≡ Some node
@@ -106,9 +110,6 @@ module _ (scene : Scene) (s : State) (i : Kept scene s) (level : ℕ → ℕ →
   -- so nothing refers to a node
   no_ref : (writer key : ℕ) → total_weight scene (references scene.setup writer key) s ≡ 0
   no_ref writer key = let count : awaited_ends (node_at (s.objects.book writer) key) ≡ 0 = ap awaited_ends (none_open writer key) in omega (arith, count, i.counts writer key)
-
-  names_one : (item : Item Pad) → names_node item.bio.writer item.bio.node item ≡ 1
-  names_one item = ap (λ n. n * one item.bio.node item.bio.node) (one-same item.bio.writer) ∙ ap (λ n. 1 * n) (one-same item.bio.node)
 
   -- a task that submits has a bio that names a node, or copies one for a master
   no_submission : (place : ℕ) (x : TaskState) (doing : Doing) (lists : TaskLists) → place < scene.tasks → s.task place ≡ x → HasSubmission x doing lists → DoingFits scene.setup doing lists
