@@ -1,11 +1,11 @@
 -- The pools of a stack by falling number, told device by device.
-use Rattle.std.proofs.Common.{◌+◌, ◌-◌, ◌≡◌, ◌<◌, ◌≤◌, ◌==◌, ◌||◌, ℕ, suc, Bool, true, false, List, [], ◌∷◌, ◌++◌, length, map, take, drop, get_or, refl, sym, ap, ◌∙◌, subst, arith}
+use Rattle.std.proofs.Common.{◌+◌, ◌-◌, ◌≡◌, ◌<◌, ◌≤◌, ◌==◌, ℕ, suc, true, false, List, [], ◌∷◌, ◌++◌, length, map, take, drop, get_or, refl, sym, ap, ◌∙◌, subst, arith}
 use Rattle.std.proofs.lemmas.List.{append_assoc, append-nil, take-append-drop, take-map, drop-map, map-append, length-map, length-append, get_or-map, drop_all}
 use Rattle.std.proofs.Math.Seq.{take-append_seam, drop-append_seam, drop-cons}
 use Rattle.std.proofs.lemmas.List.Concat.{flat_map-append}
 use Rattle.std.proofs.lemmas.List.Folds.{list_any-append}
 use Rattle.std.proofs.lemmas.List.Elements.{All-append, All-cons, All-nil}
-use Rattle.std.proofs.lemmas.Bool.{ne_eqb, eq-eqb, or_parts}
+use Rattle.std.proofs.lemmas.Bool.{ne_eqb, eq-eqb, or_parts, or_from}
 use Rattle.std.specs.Prelude.{codes, decimal, All}
 use Rattle.std.specs.List.{flat_map, list_any}
 use Rattle.stack_base.specs.declared.ids.DevId.{DevId}
@@ -43,12 +43,9 @@ ids entries = map (λ (p : PoolId × Facts). p.0) entries
 abbrev pub Lacks : List PoolId → PoolId → Type 0
 Lacks pools pool = list_any (λ q. same_pool q pool) pools ≡ false
 
-neither : (a b : Bool) → a ≡ false → b ≡ false → (a || b) ≡ false
-neither a b first second = rw first second
-
 lacks_both : (xs ys : List PoolId) (pool : PoolId) → Lacks xs pool → Lacks ys pool → Lacks (xs ++ ys) pool
 lacks_both xs ys pool first second =
-    list_any-append (λ q. same_pool q pool) xs ys ∙ neither (list_any (λ q. same_pool q pool) xs) (list_any (λ q. same_pool q pool) ys) first second
+    list_any-append (λ q. same_pool q pool) xs ys ∙ or_from (list_any (λ q. same_pool q pool) xs) (list_any (λ q. same_pool q pool) ys) first second
 
 -- what is behind pools that are others
 skip : (before behind : Entries) (pool : PoolId) → Lacks (ids before) pool → facts_of (before ++ behind) pool ≡ facts_of behind pool

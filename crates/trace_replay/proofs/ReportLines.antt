@@ -1,5 +1,5 @@
 -- No line of a report tells an event.
-use Rattle.std.proofs.Common.{◌≡◌, ◌+◌, ◌/◌, ◌%◌, ◌==◌, ◌&&◌, if◌then◌else◌, nat_lt, ℕ, zero, suc, Bool, true, false, List, [], ◌∷◌, ◌++◌, get_or, Option, None, Some, refl, sym, ap, ◌∙◌, subst, arith}
+use Rattle.std.proofs.Common.{◌≡◌, ◌+◌, ◌/◌, ◌%◌, ◌==◌, if◌then◌else◌, nat_lt, ℕ, zero, suc, Bool, true, false, List, [], ◌∷◌, ◌++◌, get_or, Option, None, Some, refl, sym, ap, ◌∙◌, subst, arith}
 use Rattle.std.specs.Prelude.{codes, decimal, slice_get}
 use Rattle.std.specs.Fmt.{digits, digits_onto, digit_glyph}
 use Rattle.std.specs.Int.{w64, to_be_bytes}
@@ -9,6 +9,7 @@ use Rattle.std.proofs.lemmas.Bool.Decides.{nat_tests}
 use Rattle.std.proofs.lemmas.Grind.{flat_map-append}
 use Rattle.std.proofs.lemmas.List.{append_assoc, append-nil}
 use Rattle.std.proofs.lemmas.List.Folds.{list_all-append}
+use Rattle.std.proofs.lemmas.Bool.{and_from}
 use Rattle.hex.specs.Hex.{encode_with, lower_digits}
 use Rattle.stack_base.specs.declared.ids.DevId.{DevId}
 use Rattle.stack_base.specs.declared.ids.PoolId.{PoolId}
@@ -40,9 +41,6 @@ use Rattle.trace_replay.proofs.TextLines.{is_inner, inner_first}
 abbrev IsInner : List ℕ → Type 0
 IsInner text = list_all is_inner text ≡ true
 
-all_of : (first more : Bool) → first ≡ true → more ≡ true → (first && more) ≡ true
-all_of first more is are = rw (is, are) refl
-
 joined : (a b : List ℕ) → IsInner a → IsInner b → IsInner (a ++ b)
 joined a b first second = rw (list_all-append is_inner a b, first, second) refl
 
@@ -55,7 +53,7 @@ glyph d = by (nat_lt d 10)
     by false = grind (arith, nat_tests)
 
 longer : (d : ℕ) (more : List ℕ) → IsInner more → IsInner (digit_glyph false d ∷ more)
-longer d more inner = all_of (is_inner (digit_glyph false d)) (list_all is_inner more) (glyph d) inner
+longer d more inner = and_from (is_inner (digit_glyph false d)) (list_all is_inner more) (glyph d) inner
 
 digits_inner : (most n : ℕ) (more : List ℕ) → IsInner more → IsInner (digits_onto most 10 false n more)
 digits_inner zero n more inner = inner
@@ -81,8 +79,8 @@ hex_inner : (table bytes : List ℕ) → IsInner table → IsInner (encode_with 
 unfolding encode_with
 hex_inner table [] inner = refl
 hex_inner table (byte ∷ bytes) inner =
-    let low = all_of (is_inner (get_or table (byte % 16) 0)) (list_all is_inner (encode_with table bytes)) (at_inner table (byte % 16) inner) (hex_inner table bytes inner) in
-    all_of (is_inner (get_or table (byte / 16) 0)) (list_all is_inner (get_or table (byte % 16) 0 ∷ encode_with table bytes)) (at_inner table (byte / 16) inner) low
+    let low = and_from (is_inner (get_or table (byte % 16) 0)) (list_all is_inner (encode_with table bytes)) (at_inner table (byte % 16) inner) (hex_inner table bytes inner) in
+    and_from (is_inner (get_or table (byte / 16) 0)) (list_all is_inner (get_or table (byte % 16) 0 ∷ encode_with table bytes)) (at_inner table (byte / 16) inner) low
 
 status_inner : (one : Status) → IsInner (status_word one)
 status_inner status.Ok = refl

@@ -3,7 +3,7 @@ use Rattle.std.proofs.Common.{◌≡◌, ◌+◌, ◌-◌, ◌<◌, ◌≤◌, �
 use Rattle.std.specs.Prelude.{All, Contains, slice_get, slice_index_or, nat_le, nat_lt, zip}
 use Rattle.std.specs.List.{range_with_len}
 use Rattle.std.specs.Option.{option_map_or}
-use Rattle.std.proofs.lemmas.Bool.{eq-eqb}
+use Rattle.std.proofs.lemmas.Bool.{eq-eqb, false_from_ne_true}
 use Rattle.std.proofs.lemmas.Bool.Decides.{nat_tests}
 use Rattle.std.proofs.lemmas.List.Elements.{All-head, All-tail, All-from_get_or, All-contains, All-contains_itself, Contains-append_right}
 use Rattle.std.proofs.lemmas.Option.{slice_get_within}
@@ -60,10 +60,6 @@ module _ (s : Scenario) (disk at : ℕ) where
   none_held (f ∷ fs) held none =
       ap (held_after s disk at fs) (put_none f held (All-head (λ f. writes f ≡ false) f fs none)) ∙ none_held fs held (All-tail (λ f. writes f ≡ false) f fs none)
 
-  not_true : (b : Bool) → (b ≡ true → ⊥) → b ≡ false
-  not_true true no_way = absurd (no_way refl)
-  not_true false no_way = refl
-
   rest_rise : (g : Fragment) (gs : List Fragment) → ComeInRounds s (g ∷ gs) → ComeInRounds s gs
   rest_rise g gs pairs = λ i j d lt within. pairs (suc i) (suc j) d (omega (arith, lt)) (omega (arith, within))
 
@@ -87,7 +83,7 @@ module _ (s : Scenario) (disk at : ℕ) where
         let mine : writes g ≡ true = ap writes same ∙ here in
         let above = first_rise g gs rise in
         none_held gs (put s disk at g held)
-        (all_map (Contains gs) (λ h. writes h ≡ false) (λ h in_rest. not_true (writes h) (λ w. elim (last h (Contains-append_right (g ∷ []) gs h in_rest) w) [
+        (all_map (Contains gs) (λ h. writes h ≡ false) (λ h in_rest. false_from_ne_true (writes h) (λ w. elim (last h (Contains-append_right (g ∷ []) gs h in_rest) w) [
           | inl e ↦ let some = times_some f gs (subst (Contains gs) e in_rest) in omega (arith, none, some)
           | inr lower ↦
               let order = All-contains (λ h. round_at s g ≤ round_at s h) gs h above in_rest in
@@ -222,7 +218,7 @@ laid_by_rounds s ledger events state good naming run none disk at lt one rise = 
       ∙ w.1;
   empty = λ nobody. held ∙ none_held s disk at cs zero_sector
       (all_map (Contains cs) (λ g. writes_at s g disk at ≡ false)
-      (λ g c. not_true s disk at (writes_at s g disk at) (λ writes_it.
+      (λ g c. false_from_ne_true s disk at (writes_at s g disk at) (λ writes_it.
       let other = of_completed g c in
       nobody other.0.number other.0.write (own other.0 other.1) (lands_there s good disk at g other.0.number other.0.write (served s good other.0 other.1) other.2 writes_it)))
       cs (All-contains_itself cs));

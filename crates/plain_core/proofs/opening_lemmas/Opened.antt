@@ -1,5 +1,5 @@
 -- What is opened of a text is the state in which its runs begin.
-use Rattle.std.proofs.Common.{◌≡◌, ◌+◌, ◌/◌, ◌%◌, ◌<◌, ◌≤◌, ◌==◌, inl, inr, ℕ, Bool, true, false, cond, List, [], ◌∷◌, length, map, find, replicate, refl, sym, ap, ◌∙◌, subst, arith, Option, None, Some}
+use Rattle.std.proofs.Common.{◌≡◌, ◌/◌, ◌%◌, ◌<◌, ◌≤◌, ◌==◌, inl, inr, ℕ, Bool, true, false, cond, List, [], ◌∷◌, length, map, find, replicate, refl, sym, ap, ◌∙◌, subst, arith, Option, None, Some, zero-add}
 use Rattle.std.specs.Prelude.{All, slice_get, slice_index_or, filter}
 use Rattle.std.specs.List.{range_with_len}
 use Rattle.std.specs.Option.{option_map_or}
@@ -44,9 +44,6 @@ use Rattle.task_core.proofs.opened.Sharing.{share_served}
 abbrev no_bios : List (Item Pad)
 no_bios = []
 
-from_none : (k : ℕ) → 0 + k ≡ k
-from_none k = omega arith
-
 -- pools of no stack have no reserve and no script
 is_false : (a b : ℕ) → a ≤ 65 → 66 ≤ b → (a == b) ≡ false
 is_false a b small great = grind (arith, nat_tests)
@@ -90,7 +87,7 @@ module _ (stack : Stack) (scripts : List (PoolId × Answers)) where
   disk_is : (dev : ℕ) → disk_or (slice_index_or (new_disks stack (length stack.devices.items)) dev None) (opened_disk stack dev) ≡ opened_disk stack dev
   disk_is dev = elim (cases_lt dev (length stack.devices.items)) [
     | inl lt ↦
-        ap (λ o. disk_or o (opened_disk stack dev)) (get_or-map-range_with_len (new_disk stack) 0 (length stack.devices.items) dev dev None lt (from_none dev))
+        ap (λ o. disk_or o (opened_disk stack dev)) (get_or-map-range_with_len (new_disk stack) 0 (length stack.devices.items) dev dev None lt (zero-add dev))
         ∙ either_disk (keeps_data (tree stack dev)) (opened_disk stack dev)
     | inr le ↦
         ap (λ o. disk_or o (opened_disk stack dev))
@@ -106,7 +103,7 @@ module _ (stack : Stack) (scripts : List (PoolId × Answers)) where
     disk = λ dev lt keeps.
         subst (HasSize (size (tree stack dev)))
         (sym (ap (λ ds. slice_index_or ds dev None) are_disks
-        ∙ get_or-map-range_with_len (new_disk stack) 0 (length stack.devices.items) dev dev None lt (from_none dev)
+        ∙ get_or-map-range_with_len (new_disk stack) 0 (length stack.devices.items) dev dev None lt (zero-add dev)
         ∙ ap (λ b. cond b (Some (opened_disk stack dev)) None) keeps))
         (length-replicate (size (tree stack dev)) _);
     within = λ dev. subst (AreWithin stack) (sym (ap (λ rs. slice_index_or rs dev []) are_rescues ∙ rescue_is dev)) (All-nil (IsItemWithin stack));
@@ -141,7 +138,7 @@ module _ (stack : Stack) (scripts : List (PoolId × Answers)) (work : Work) (can
 
   pool_is : (number : ℕ) → slice_index_or (new_pools stack scripts 66) number no_core_pool ≡ new_pool stack scripts number
   pool_is number = elim (cases_lt number 66) [
-    | inl lt ↦ get_or-map-range_with_len (new_pool stack scripts) 0 66 number number no_core_pool lt (from_none number)
+    | inl lt ↦ get_or-map-range_with_len (new_pool stack scripts) 0 66 number number no_core_pool lt (zero-add number)
     | inr le ↦
         get_or_past (new_pools stack scripts 66) number no_core_pool (omega (arith, le, length-map-range_with_len (new_pool stack scripts) 0 66))
         ∙ ap (λ n. opened n (only_tail true)) (sym (no_reserve stack number can.is_stack.few le))
@@ -153,7 +150,7 @@ module _ (stack : Stack) (scripts : List (PoolId × Answers)) (work : Work) (can
         ≡ record { writer = writer; nodes = replicate (places_of s writer) None }
     book_is writer = elim (cases_lt writer 8) [
       | inl lt ↦
-          get_or-map-range_with_len (new_book places) 0 8 writer writer (record { writer = writer; nodes = [] }) lt (from_none writer)
+          get_or-map-range_with_len (new_book places) 0 8 writer writer (record { writer = writer; nodes = [] }) lt (zero-add writer)
           ∙ ap (λ n. record { writer = writer; nodes = replicate n None }) (placed writer)
       | inr le ↦
           get_or_past (new_books places 8) writer (record { writer = writer; nodes = [] }) (omega (arith, le, length-map-range_with_len (new_book places) 0 8))

@@ -3,7 +3,7 @@ use Rattle.std.proofs.Common.{◌≡◌, ◌⊎◌, ◌+◌, ◌-◌, ◌<◌, �
 use Rattle.std.specs.Prelude.{All, Contains, IsPermutation}
 use Rattle.std.specs.Global.{Vec}
 use Rattle.std.specs.List.Sorted.{IsNonDecreasingBy}
-use Rattle.std.proofs.lemmas.Bool.{eqb-true, eqb-false}
+use Rattle.std.proofs.lemmas.Bool.{eqb-true, eqb-false, cases_lt}
 use Rattle.std.proofs.lemmas.List.{append-nil, append_assoc, length-append, map-append, get_or_append_left, get_or-append_right}
 use Rattle.std.proofs.lemmas.List.Elements.{All-head, All-tail, Contains-append_cases, Contains-append_right, Contains-get_or}
 use Rattle.std.proofs.lemmas.List.Sorted.{Contains-permutation, IsPermutation-append_right, IsPermutation-refl, IsPermutation-sym, IsPermutation-trans, length_permutation}
@@ -27,17 +27,8 @@ pub record Joins {T : Type 0} (rows : List (List (ℕ × T))) (nodes : List Head
   pub value : values ≡ map (λ (e : ℕ × T). e.1) taken
 
 rises_on : {T : Type 0} (xs : List (ℕ × T)) (x : ℕ × T) → IsNonDecreasingBy (λ (e : ℕ × T). e.0) xs → ((y : ℕ × T) → Contains xs y → y.0 ≤ x.0) → IsNonDecreasingBy (λ (e : ℕ × T). e.0) (xs ++ x ∷ [])
-rises_on {T} xs x rises most i j d le less = by_two (within j (length xs)) (within i (length xs))
+rises_on {T} xs x rises most i j d le less = by_two (cases_lt j (length xs)) (cases_lt i (length xs))
   where
-    within : (n most : ℕ) → (n < most) ⊎ (most ≤ n)
-    within n zero = inr (omega arith)
-    within zero (suc most) = inl (omega arith)
-    within (suc n) (suc most) = by_one (within n most)
-      where
-        by_one : (n < most) ⊎ (most ≤ n) → (suc n < suc most) ⊎ (suc most ≤ suc n)
-        by_one (inl lt) = inl (omega (arith, lt))
-        by_one (inr le) = inr (omega (arith, le))
-
     none_more : (n : ℕ) → n - n ≡ 0
     none_more n = omega arith
 

@@ -3,7 +3,6 @@ use Rattle.std.proofs.Common.{◌≡◌, ◌==◌, ◌<◌, ◌+◌, ◌++◌, �
 use Rattle.std.specs.Prelude.{IsTrue, slice_index_or}
 use Rattle.std.specs.List.{position_or_len}
 use Rattle.std.proofs.lemmas.List.{length-set, get_or-set_same, get_or-set_other}
-use Rattle.std.proofs.lemmas.Option.{slice_get-get_or, get_or_from_slice_get}
 use Rattle.std.proofs.lemmas.Bool.{eqb-true, eqb-false}
 use Rattle.seat_lock.specs.Seats.{LockId, SeatState, own}
 use Rattle.run_machine.specs.Laws.{Object}
@@ -15,9 +14,7 @@ use Rattle.object_things.specs.Histories.{Call}
 use Rattle.object_things.specs.Stamps.{CommonState, MarkState, Told}
 use Rattle.shared_objects.specs.Calling.{AreSeatedAt}
 use Rattle.shared_objects.specs.Holding.{AreLocked, AreSeatsOf, IsNamed, IsSeatOf, calls_in}
-
-default_to : {X : Type 0} (xs : List X) (k : ℕ) (a b : X) → k < length xs → get_or xs k a ≡ get_or xs k b
-default_to xs k a b lt = get_or_from_slice_get xs k (get_or xs k b) a (slice_get-get_or xs k b lt)
+use Rattle.shared_objects.proofs.row_lemmas.GrowingRows.{default_to}
 
 -- where two rows pass tests at the same places, the first such place is the same
 pub same_position : {X Y : Type 0} (p : X → Bool) (q : Y → Bool) (xs : List X) (ys : List Y) → length ys ≡ length xs
