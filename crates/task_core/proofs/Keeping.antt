@@ -1,11 +1,12 @@
 -- What a call makes of the objects of a stage are objects of this stage, and what it hands out is at home.
-use Rattle.std.proofs.Common.{◌≡◌, ◌+◌, ◌-◌, ◌*◌, ◌/◌, ◌%◌, ◌<◌, ◌≤◌, ◌==◌, ◌&&◌, ◌||◌, if◌then◌else◌, ℕ, Bool, true, false, List, length, take, drop, sum, set, get_or, Some, refl, sym, ap, subst, ◌∙◌, arith, suc}
+use Rattle.std.proofs.Common.{◌≡◌, ◌+◌, ◌-◌, ◌*◌, ◌/◌, ◌%◌, ◌<◌, ◌≤◌, ◌==◌, ◌&&◌, if◌then◌else◌, ℕ, Bool, true, false, List, length, take, drop, sum, set, get_or, Some, refl, sym, ap, subst, ◌∙◌, arith, suc}
 use Rattle.std.specs.Prelude.{IsTrue, slice_get}
 use Rattle.std.proofs.lemmas.Grind.{common_steps}
 use Rattle.std.proofs.lemmas.List.{length-set}
 use Rattle.std.proofs.lemmas.List.Elements.{All-append, All-drop, All-head, All-push, All-rest, All-take}
 use Rattle.std.proofs.lemmas.List.Sums.{sum_by-set}
 use Rattle.std.proofs.lemmas.Option.{get_or_from_slice_get, slice_get_within}
+use Rattle.std.proofs.lemmas.Bool.{or_right}
 use Rattle.elem_ledger.specs.Ledger.{LedgerId}
 use Rattle.stack_base.specs.declared.ids.DevId.{DevId}
 use Rattle.stack_base.specs.declared.ids.SetId.{SetId}
@@ -45,16 +46,12 @@ even_of d = (omega arith, omega arith)
 odd_of : (d : ℕ) → ((2 * d + 1) % 2 ≡ 1) × ((2 * d + 1) / 2 ≡ d)
 odd_of d = (omega arith, omega arith)
 
-or_true : (a : Bool) → (a || true) ≡ true
-or_true true = refl
-or_true false = refl
-
 pub set_is_bios : (stage : Stage) (of : SetId) → IsTrue (is_set stage of) → IsTrue (is_bios stage (pool_number (bios_of of)))
 set_is_bios stage Fs is = refl
 set_is_bios stage (Of dev) is =
     let even = even_of dev.0 in
     let right : ((2 * dev.0) % 2 == 0 && has_set (routing_setup stage.routing) ((2 * dev.0) / 2)) ≡ true = rw (even.0, even.1) is in
-    rw (right) (or_true (2 * dev.0 == 65))
+    rw (right) (or_right (2 * dev.0 == 65) true refl)
 
 pub mirror_is_slips : (stage : Stage) (dev : DevId) → IsTrue (has_mirror stage dev) → IsTrue (is_slips stage (pool_number (Records dev)))
 mirror_is_slips stage dev is = let odd = odd_of dev.0 in rw (odd.0, odd.1) is

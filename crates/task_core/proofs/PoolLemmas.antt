@@ -94,11 +94,12 @@ slips_not_65 plain n holds is e =
     let at_65 : IsTrue (is_slips (stage_of plain) 65) = subst (λ k. IsTrue (is_slips (stage_of plain) k)) e is in
     absurd (grind (at_65, few, arith, nat_tests))
 
+-- an odd number other than 65 is of no pool of bios
+pub neither : (n : ℕ) → n % 2 ≡ 1 → n ≢ 65 → (n == 65 || n % 2 == 0) ≡ false
+neither n odd apart = grind (odd, apart, arith, nat_tests)
+
 pub slips_of_set : (plain : Plain) (n : ℕ) → Holds plain → IsTrue (is_slips (stage_of plain) n) → is_bios_number n ≡ false
 slips_of_set plain n holds is = neither n (slips_odd plain n is) (slips_not_65 plain n holds is)
-  where
-    neither : (n : ℕ) → n % 2 ≡ 1 → n ≢ 65 → (n == 65 || n % 2 == 0) ≡ false
-    neither n odd apart = grind (odd, apart, arith, nat_tests)
 
 -- a pool moves, and all else is as before
 module _ (old new : Plain) (n : ℕ) (x : LedgerPool) (is : pool_at new ≡ upd (pool_at old) n x)

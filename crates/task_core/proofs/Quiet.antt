@@ -1,7 +1,7 @@
 -- Over objects of one thread: where a step met nothing, the task and its objects stand as they stood, and only an ordinary take could come.
 use Rattle.std.proofs.Common.{◌≡◌, ℕ, Bool, true, false, None, Some, inl, inr, refl, sym, ◌∙◌, subst, arith, true≢false}
 use Rattle.std.specs.Prelude.{IsTrue}
-use Rattle.std.proofs.lemmas.Option.{none-some}
+use Rattle.std.proofs.lemmas.Option.{none-some, same_Some}
 use Rattle.elem_ledger.specs.Ledger.{LedgerId}
 use Rattle.stack_base.specs.PoolId.{pool_number}
 use Rattle.stack_base.specs.declared.ids.PoolId.TheVariants.{FsVecs, Records}
@@ -93,9 +93,6 @@ no_spare pool used (inr full, entry) can = absurd (omega (arith, full, can.1))
 same_miss : (pool : PoolState) → CanMove pool (misses false) → CanMove pool (misses true) → ⊥
 same_miss pool none some = true≢false (some.1 ∙ sym none.1)
 
-is_told : (event other : What) → Some event ≡ Some other → event ≡ other
-is_told event other e = cc
-
 module _ (ledger : ℕ → LedgerId) (old new other : Objects) where
   -- then whatever is told there is a take of ordinary memory
   pub passed : (request : Request) (reply second : Reply) (told : What) → IsIdle request reply → what_of request reply ≡ None
@@ -103,7 +100,7 @@ module _ (ledger : ℕ → LedgerId) (old new other : Objects) where
   -- takes of bios: where one missed with no entry used up there is no spare, and no entry to use up
   passed (requests.TakeBio set true) (requests.Missed true) second told idle untold serves again tells = absurd (none-some _ (sym untold))
   passed (requests.TakeBio set true) (requests.Missed false) (requests.HadBio Ordinary bio) told idle untold serves again tells =
-      subst (λ w. IsTrue (is_ordinary w)) (is_told _ _ tells) refl
+      subst (λ w. IsTrue (is_ordinary w)) (same_Some _ _ tells) refl
   passed (requests.TakeBio set true) (requests.Missed false) (requests.HadBio Spare bio) told idle untold serves again tells =
       absurd (no_spare (old.pool (pool_number (bios_of set))) false serves.0 again.0.0)
   passed (requests.TakeBio set true) (requests.Missed false) (requests.HadBio got.Missed bio) told idle untold serves again tells = absurd again.0
@@ -117,7 +114,7 @@ module _ (ledger : ℕ → LedgerId) (old new other : Objects) where
   -- takes of vectors
   passed requests.TakeVec (requests.Missed true) second told idle untold serves again tells = absurd (none-some _ (sym untold))
   passed requests.TakeVec (requests.Missed false) (requests.HadVec Ordinary vector) told idle untold serves again tells =
-      subst (λ w. IsTrue (is_ordinary w)) (is_told _ _ tells) refl
+      subst (λ w. IsTrue (is_ordinary w)) (same_Some _ _ tells) refl
   passed requests.TakeVec (requests.Missed false) (requests.HadVec Spare vector) told idle untold serves again tells =
       absurd (no_spare (old.pool (pool_number FsVecs)) false serves.0 again.0.0)
   passed requests.TakeVec (requests.Missed false) (requests.HadVec got.Missed vector) told idle untold serves again tells = absurd again.0
@@ -129,7 +126,7 @@ module _ (ledger : ℕ → LedgerId) (old new other : Objects) where
   -- takes of records
   passed (requests.TakeSlip dev) (requests.Missed true) second told idle untold serves again tells = absurd (none-some _ (sym untold))
   passed (requests.TakeSlip dev) (requests.Missed false) (requests.HadSlip Ordinary slip) told idle untold serves again tells =
-      subst (λ w. IsTrue (is_ordinary w)) (is_told _ _ tells) refl
+      subst (λ w. IsTrue (is_ordinary w)) (same_Some _ _ tells) refl
   passed (requests.TakeSlip dev) (requests.Missed false) (requests.HadSlip Spare slip) told idle untold serves again tells =
       absurd (no_spare (old.pool (pool_number (Records dev))) false serves.0 again.0.0)
   passed (requests.TakeSlip dev) (requests.Missed false) (requests.HadSlip got.Missed slip) told idle untold serves again tells = absurd again.0

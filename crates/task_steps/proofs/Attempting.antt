@@ -1,7 +1,6 @@
 -- An attempt at a bio for a piece or a leg is what its submission asks for.
-use Rattle.std.proofs.Common.{◌≡◌, ◌≢◌, ℕ, [], Bool, true, false, Option, Some, None, refl, sym, ap, subst}
-use Rattle.std.proofs.Common.{true≢false}
-use Rattle.std.specs.Option.{option_map_or}
+use Rattle.std.proofs.Common.{◌≡◌, ◌≢◌, ℕ, [], Bool, Some, None, refl, sym, subst}
+use Rattle.std.proofs.lemmas.Option.{none-some, same_Some}
 use Rattle.stack_base.specs.declared.ids.DevId.{DevId}
 use Rattle.stack_base.specs.declared.ids.SetId.TheVariants.{Of}
 use Rattle.bio_records.specs.declared.tasks.TaskLists.{TaskLists}
@@ -16,12 +15,6 @@ use Rattle.bio_records.specs.Items.{Item}
 use Rattle.run_machine.specs.Submissions.{Want, Takes, Punts, Links, Driving, ToPush, ToCut, ToRecord, ToMaster, Doing, Rests, Drives, Copies, Breaks, want_kept, ask_kept, at_hand}
 use Rattle.task_steps.specs.SubmissionViews.{attempt_of}
 use Rattle.task_steps.specs.Answers.{AnswersSubmission, IsSpent}
-
-none_there : {A : Type 0} (there : A) → ◌≡◌ {A = Option A} None (Some there) → ⊥
-none_there {A = A} there none = true≢false (sym (ap (λ (o : Option A). option_map_or (λ (x : A). true) o false) none))
-
-same_there : {A : Type 0} (one there : A) → Some one ≡ Some there → one ≡ there
-same_there {A = A} one there same = ap (λ (o : Option A). option_map_or (λ (x : A). x) o there) same
 
 -- where a driver takes a bio, it has none at hand for a piece or a leg
 pub cuts_for_none : (bio : Item Pad) (ask : Driving) → attempt_of (Drives bio ask) ≢ None → ask_kept ask ≡ []
@@ -43,7 +36,7 @@ module _ {S : Type 0} (serves : S → Request → Reply → S → Type 0) (owes 
       → IsSpent serves owes (TakeBio (Of dev) waits) old new
       → AnswersSubmission serves owes setup task doing lists old (record { doing = Breaks breach.Spent (at_hand doing); lists = lists }) new (Broken breach.Spent)
   attempt_spent (Drives bio (ToCut (Takes waiting))) lists dev waits old new attempts spent =
-      let same = same_there (bio.bio.dev, waiting) (dev, waits) attempts in
+      let same = same_Some (bio.bio.dev, waiting) (dev, waits) attempts in
       record {
         reply = Spent;
         replied = subst (λ (p : DevId × Bool). serves old (TakeBio (Of p.0) p.1) Spent new) (sym same) spent.0;
@@ -53,7 +46,7 @@ module _ {S : Type 0} (serves : S → Request → Reply → S → Type 0) (owes 
         tells = refl;
       }
   attempt_spent (Copies bio master leg (Takes waiting)) lists dev waits old new attempts spent =
-      let same = same_there (bio.dev, waiting) (dev, waits) attempts in
+      let same = same_Some (bio.dev, waiting) (dev, waits) attempts in
       record {
         reply = Spent;
         replied = subst (λ (p : DevId × Bool). serves old (TakeBio (Of p.0) p.1) Spent new) (sym same) spent.0;
@@ -62,12 +55,12 @@ module _ {S : Type 0} (serves : S → Request → Reply → S → Type 0) (owes 
         goes_on = refl;
         tells = refl;
       }
-  attempt_spent Rests lists dev waits old new attempts spent = absurd (none_there (dev, waits) attempts)
-  attempt_spent (Breaks why kept) lists dev waits old new attempts spent = absurd (none_there (dev, waits) attempts)
-  attempt_spent (Drives bio ToPush) lists dev waits old new attempts spent = absurd (none_there (dev, waits) attempts)
-  attempt_spent (Drives bio (ToCut Punts)) lists dev waits old new attempts spent = absurd (none_there (dev, waits) attempts)
-  attempt_spent (Drives bio (ToCut (Links hand))) lists dev waits old new attempts spent = absurd (none_there (dev, waits) attempts)
-  attempt_spent (Drives bio ToRecord) lists dev waits old new attempts spent = absurd (none_there (dev, waits) attempts)
-  attempt_spent (Drives bio (ToMaster slip)) lists dev waits old new attempts spent = absurd (none_there (dev, waits) attempts)
-  attempt_spent (Copies bio master leg Punts) lists dev waits old new attempts spent = absurd (none_there (dev, waits) attempts)
-  attempt_spent (Copies bio master leg (Links hand)) lists dev waits old new attempts spent = absurd (none_there (dev, waits) attempts)
+  attempt_spent Rests lists dev waits old new attempts spent = absurd (none-some (dev, waits) attempts)
+  attempt_spent (Breaks why kept) lists dev waits old new attempts spent = absurd (none-some (dev, waits) attempts)
+  attempt_spent (Drives bio ToPush) lists dev waits old new attempts spent = absurd (none-some (dev, waits) attempts)
+  attempt_spent (Drives bio (ToCut Punts)) lists dev waits old new attempts spent = absurd (none-some (dev, waits) attempts)
+  attempt_spent (Drives bio (ToCut (Links hand))) lists dev waits old new attempts spent = absurd (none-some (dev, waits) attempts)
+  attempt_spent (Drives bio ToRecord) lists dev waits old new attempts spent = absurd (none-some (dev, waits) attempts)
+  attempt_spent (Drives bio (ToMaster slip)) lists dev waits old new attempts spent = absurd (none-some (dev, waits) attempts)
+  attempt_spent (Copies bio master leg Punts) lists dev waits old new attempts spent = absurd (none-some (dev, waits) attempts)
+  attempt_spent (Copies bio master leg (Links hand)) lists dev waits old new attempts spent = absurd (none-some (dev, waits) attempts)

@@ -2,7 +2,7 @@
 use Rattle.std.proofs.Common.{◌≡◌, ◌/◌, ◌%◌, ◌<◌, ◌==◌, ◌&&◌, ◌||◌, ℕ, Bool, true, false, true≢false, length, Option, None, Some, inl, inr, refl, sym, ap, ◌∙◌, subst, arith}
 use Rattle.std.specs.Prelude.{IsTrue, nat_lt, not, slice_get}
 use Rattle.std.specs.Option.{option_map_or}
-use Rattle.std.proofs.lemmas.Option.{slice_get_cases}
+use Rattle.std.proofs.lemmas.Option.{slice_get_cases, same_Some, none-some}
 use Rattle.std.proofs.lemmas.Bool.Decides.{nat_tests}
 use Rattle.stack_base.specs.declared.ids.DevId.{DevId}
 use Rattle.stack_base.specs.declared.ids.PoolId.{PoolId}
@@ -139,16 +139,10 @@ module _ (stage : Stage) (good : IsStack stage.routing.stack) where
   Names told = (what : What) → told ≡ Some what → HasWhat stage.routing.stack what
 
   names_some : (what : What) → HasWhat stage.routing.stack what → Names (Some what)
-  names_some what has other e = subst (HasWhat stage.routing.stack) (same what other e) has
-    where
-      same : (what other : What) → Some what ≡ Some other → what ≡ other
-      same what other e = cc
+  names_some what has other e = subst (HasWhat stage.routing.stack) (same_Some what other e) has
 
   names_none : Names None
-  names_none other e = absurd (some_is_none other e)
-    where
-      some_is_none : (other : What) → None ≡ Some other → ⊥
-      some_is_none other e = cc
+  names_none other e = absurd (none-some other e)
 
   takes : (waits : Bool) (pool : PoolId) (got : Got) → HasPool stage.routing.stack pool → Names (Some (take_of waits pool got))
   takes true pool got has = names_some _ has

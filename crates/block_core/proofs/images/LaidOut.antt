@@ -218,7 +218,7 @@ laid_by_rounds s ledger events state good naming run none disk at lt one rise = 
       ∙ w.1;
   empty = λ nobody. held ∙ none_held s disk at cs zero_sector
       (all_map (Contains cs) (λ g. writes_at s g disk at ≡ false)
-      (λ g c. false_from_ne_true s disk at (writes_at s g disk at) (λ writes_it.
+      (λ g c. false_from_ne_true (writes_at s g disk at) (λ writes_it.
       let other = of_completed g c in
       nobody other.0.number other.0.write (own other.0 other.1) (lands_there s good disk at g other.0.number other.0.write (served s good other.0 other.1) other.2 writes_it)))
       cs (All-contains_itself cs));

@@ -2,7 +2,7 @@
 use Rattle.std.proofs.Common.{◌≡◌, ◌==◌, ◌<◌, ◌+◌, ◌++◌, ℕ, zero, suc, Bool, true, false, not, List, [], ◌∷◌, length, get_or, set, refl, sym, ap, subst, ◌∙◌, arith, cond}
 use Rattle.std.specs.Prelude.{IsTrue, slice_index_or}
 use Rattle.std.specs.List.{position_or_len}
-use Rattle.std.proofs.lemmas.List.{length-set, get_or-set_same, get_or-set_other}
+use Rattle.std.proofs.lemmas.List.{length-set, get_or-set_same, get_or-set_other, get_or_default}
 use Rattle.std.proofs.lemmas.Bool.{eqb-true, eqb-false}
 use Rattle.seat_lock.specs.Seats.{LockId, SeatState, own}
 use Rattle.run_machine.specs.Laws.{Object}
@@ -14,7 +14,6 @@ use Rattle.object_things.specs.Histories.{Call}
 use Rattle.object_things.specs.Stamps.{CommonState, MarkState, Told}
 use Rattle.shared_objects.specs.Calling.{AreSeatedAt}
 use Rattle.shared_objects.specs.Holding.{AreLocked, AreSeatsOf, IsNamed, IsSeatOf, calls_in}
-use Rattle.shared_objects.proofs.row_lemmas.GrowingRows.{default_to}
 
 -- where two rows pass tests at the same places, the first such place is the same
 pub same_position : {X Y : Type 0} (p : X → Bool) (q : Y → Bool) (xs : List X) (ys : List Y) → length ys ≡ length xs
@@ -89,7 +88,7 @@ module _ {K T : Type 0} {key : K → ℕ} {mark : T → MarkState} {name : ℕ �
         each_at j l s true e lt =
             subst (λ k. Sits (get_or locks k l) (get_or (set seats i (seat.0, now)) k s)) (sym (eqb-true j i e))
             (subst (Sits (get_or locks i l)) (sym (get_or-set_same seats i (seat.0, now) s seat_there))
-            (subst (λ (x : K × LockId T). Sits x (seat.0, now)) (lock_is ∙ default_to locks i lock l there) (keyed, of)))
+            (subst (λ (x : K × LockId T). Sits x (seat.0, now)) (lock_is ∙ get_or_default locks i lock l there) (keyed, of)))
         each_at j l s false e lt =
             subst (Sits (get_or locks j l)) (sym (get_or-set_other seats i j (seat.0, now) s (eqb-false j i e))) (seated.each j l s lt)
 

@@ -1,16 +1,12 @@
 -- Rows that grow by an entry, and rows of which the next entry is changed.
 use Rattle.std.proofs.Common.{◌≡◌, ℕ, ◌+◌, ◌<◌, List, [], ◌∷◌, ◌++◌, All, arith, refl, sym, ◌∙◌, ap, subst, length, get_or, set}
-use Rattle.std.proofs.lemmas.List.{append-nil, append_assoc, length-append, length-set, get_or-set_same, get_or-set_other, get_or_append_left}
-use Rattle.std.proofs.lemmas.Option.{slice_get-get_or, get_or_from_slice_get}
+use Rattle.std.proofs.lemmas.List.{append-nil, append_assoc, length-append, length-set, get_or-set_same, get_or-set_other, get_or_append_left, get_or_default}
 use Rattle.std.proofs.Math.Seq.{get_or-append_seam}
 use Rattle.std.proofs.Math.Decide.{ℕ_discrete}
 use Rattle.std.proofs.Math.Logic.{dite}
 use Rattle.shared_objects.specs.Rows.{Abreast, AbreastThree, AreChanged}
 
 module _ {X : Type 0} where
-  pub default_to : (xs : List X) (place : ℕ) (a b : X) → place < length xs → get_or xs place a ≡ get_or xs place b
-  default_to xs place a b lt = get_or_from_slice_get xs place (get_or xs place b) a (slice_get-get_or xs place b lt)
-
   some_of : (xs : List X) → 0 < length xs → X
   some_of [] lt = absurd (omega (arith, lt))
   some_of (x ∷ xs) lt = x
@@ -71,10 +67,10 @@ module _ {L X Y : Type 0} (P : L → X → Y → X → Type 0) where
   module _ (locks : List L) (olds : List X) (others : List Y) (news : List X) (are : AreChanged P locks olds others news) (at : ℕ) (at_is : length others ≡ at) (lies : (at < length locks) × (at < length olds))
       (lock : L) (lock_is : lock ≡ get_or locks at lock) (first : X) (first_is : first ≡ get_or news at first) where
     lock_was : (d : L) → lock ≡ get_or locks at d
-    lock_was d = lock_is ∙ default_to locks at lock d lies.0
+    lock_was d = lock_is ∙ get_or_default locks at lock d lies.0
 
     first_was : (d : X) → first ≡ get_or olds at d
-    first_was d = first_is ∙ are.ahead at first (omega (arith, at_is)) ∙ default_to olds at first d lies.1
+    first_was d = first_is ∙ are.ahead at first (omega (arith, at_is)) ∙ get_or_default olds at first d lies.1
 
     pub was_abreast : (Q : L → X → Type 0) → Abreast Q locks olds → Q lock first
     was_abreast Q of = subst (λ x. Q lock x) (sym (first_was first)) (subst (λ l. Q l (get_or olds at first)) (sym (lock_was lock)) (of.each at lock first lies.0))

@@ -22,7 +22,7 @@ use Rattle.task_core.specs.ObjectsOf.{IsBookOf, IsDiskOf}
 use Rattle.task_core.specs.Plains.{bios_at, book_number, disk_number, is_bios_number, list_number, no_book, no_pool, objects_of, pool_at, records_at, records_number, set_number, stage_of}
 use Rattle.run_machine.specs.Opened.{opened_disk}
 use Rattle.task_core.specs.Tables.{is_entry_of, look_up}
-use Rattle.task_core.proofs.PoolLemmas.{stands_for_bios, stands_for_records}
+use Rattle.task_core.proofs.PoolLemmas.{stands_for_bios, stands_for_records, neither}
 use Rattle.task_core.proofs.opened.NewPools.{sets_apart, slips_apart}
 use Rattle.task_steps.specs.Stage.{AreServed, has_disk_in, has_rescuer_in, has_book_in, has_mirror_in}
 use Rattle.object_things.specs.Pools.{IsPoolOf}
@@ -105,10 +105,7 @@ set_kind count (suc dev) few lt = (λ e. absurd (omega (arith, e, few, lt)), eve
     even dev = let none : 2 * dev % 2 ≡ 0 = omega arith in grind (none, arith, nat_tests)
 
 slip_kind : (count dev : ℕ) → count ≤ 32 → dev < count → (slip_index dev ≢ 64) × (is_bios_number (slip_index dev) ≡ false)
-slip_kind count dev few lt = (λ e. absurd (omega (arith, e)), odd (2 * dev + 1) (omega arith) (λ e. absurd (omega (arith, e, few, lt))))
-  where
-    odd : (n : ℕ) → n % 2 ≡ 1 → n ≢ 65 → (n == 65 || n % 2 == 0) ≡ false
-    odd n one apart = grind (one, apart, arith, nat_tests)
+slip_kind count dev few lt = (λ e. absurd (omega (arith, e)), neither (2 * dev + 1) (omega arith) (λ e. absurd (omega (arith, e, few, lt))))
 
 -- a pool that is at its number is one of the stage
 pool_is : (plain : Plain) (number : ℕ) (pool : LedgerPool) → pool.ledger.no ≡ number → pool_at plain number ≡ pool → IsPoolOf (stage_of plain) pool

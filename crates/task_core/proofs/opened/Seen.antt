@@ -1,6 +1,7 @@
 -- Steps over the objects of one thread are events of the machine, or nothing.
 use Rattle.std.proofs.Common.{◌≡◌, ◌<◌, ◌==◌, if◌then◌else◌, ℕ, Bool, true, false, true≢false, Option, None, Some, inl, inr, refl, sym, ap, ◌∙◌, subst, arith}
 use Rattle.std.specs.Prelude.{IsTrue, sum}
+use Rattle.std.proofs.lemmas.Option.{none-some}
 use Rattle.elem_ledger.specs.Ledger.{LedgerId}
 use Rattle.fail_script.specs.Script.{only_tail}
 use Rattle.mempool_core.specs.Move.{opened}
@@ -36,9 +37,6 @@ abbrev IsLook : Request → Type 0
 IsLook requests.LookRound = Unit {0}
 IsLook requests.LookLeft = Unit {0}
 IsLook request = ⊥
-
-none_is : {A : Type 0} (x : A) → None ≡ Some x → ⊥
-none_is x e = cc
 
 is_look : (task : TaskState) (look : Request) → look_of task ≡ Some look → IsLook look
 is_look task look e = elim (task_looks task look e) [
@@ -79,7 +77,7 @@ told_serves old new request reply there (inr last) = absurd (round_is_there (obj
 
 -- and where the reply is not told of, there is no round
 untold_is : (old new : Objects) (request : Request) (reply : Reply) → what_of request reply ≡ None → StaysLast old request reply new → ⊥
-untold_is old new (requests.NextRound round) requests.Did untold last = none_is _ (sym untold)
+untold_is old new (requests.NextRound round) requests.Did untold last = none-some _ (sym untold)
 untold_is old new (requests.NextRound round) _ untold last = absurd last
 untold_is old new _ reply untold last = absurd last
 
@@ -146,7 +144,7 @@ still_untold task (Some what) silent step still e = absurd (subst IsStill e stil
 still_untold task None silent step still e = (refl, subst IsStill e still)
 
 rest_untold : (reply : Reply) (what : What) → what_of requests.Rest reply ≡ Some what → ⊥
-rest_untold reply what e = none_is what e
+rest_untold reply what e = none-some what e
 
 nothing_untold : (asked : Request) → what_of asked requests.Nothing ≡ None
 nothing_untold (requests.TakeBio set waits) = refl
