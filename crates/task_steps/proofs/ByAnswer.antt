@@ -326,4 +326,4 @@ module _ {S : Type 0} (serves : S → Request → Reply → S → Type 0) (stage
 
 -- so an answer tells what the turn was
 pub answers_tell_turns : {S : Type 0} (words : Ghosts S) → AnswersTellTurns words
-answers_tell_turns words setup task next old new step does = turn_was words.serves (words.stage old) setup task old next new step does.turns
+answers_tell_turns words setup task next old new step does = turn_was words.serves (words.stage old) setup task old next new step does.came

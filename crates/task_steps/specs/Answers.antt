@@ -56,11 +56,16 @@ abbrev pub AsksFirst : Routing → TaskLists → DevId → Driving → Type 0
 AsksFirst routing lists dev ask =
     (item : Item Pad) → item.bio.dev ≡ dev → asks_at (routing_setup routing) lists item (routed_tree routing dev) ≡ Drives item ask
 
--- a step of a submission over these objects, which hold together behind it too
-pub record SubmissionDoes {S : Type 0} (words : Ghosts S) (routing : Routing) (task : TaskId) (submission : Submission) (old : S) (next : Submission) (new : S) (step : Step) : Type 0 where
-  pub answers : AnswersSubmission words.serves (Owes (words.stage old)) (routing_setup routing) task submission.doing submission.lists old next new step
+-- What was done with these objects came to this. They hold together behind it too, and there are the same of them.
+pub record ComesTo {S : Type 0} (words : Ghosts S) (old : S) (outcome : Type 0) (new : S) : Type 0 where
+  pub came : outcome
   pub held : words.holds new
   pub same : words.stage new ≡ words.stage old
+
+-- a step of a submission over these objects
+abbrev pub SubmissionDoes : {S : Type 0} → Ghosts S → Routing → TaskId → Submission → S → Submission → S → Step → Type 0
+SubmissionDoes words routing task submission old next new step =
+    ComesTo words old (AnswersSubmission words.serves (Owes (words.stage old)) (routing_setup routing) task submission.doing submission.lists old next new step) new
 
 -- and one that does so whatever is known of the devices
 abbrev pub SubmissionAlwaysDoes : {S : Type 0} → Ghosts S → TaskId → Submission → S → Submission → S → Step → Type 0
@@ -70,12 +75,6 @@ SubmissionAlwaysDoes words task submission old next new step = (routing : Routin
 abbrev pub Does : {S : Type 0} → Ghosts S → Routing → TaskId → Doing → TaskLists → S → RealDoing × Step → TaskLists → S → Type 0
 Does words routing task doing lists old done after new =
     SubmissionDoes words routing task (record { doing = doing; lists = lists }) old (submission_of done.0 after) new done.1
-
--- A call of these objects came to this. They hold together behind it too, and there are the same of them.
-pub record CallDoes {S : Type 0} (words : Ghosts S) (old : S) (outcome : Type 0) (new : S) : Type 0 where
-  pub came : outcome
-  pub held : words.holds new
-  pub same : words.stage new ≡ words.stage old
 
 -- what is wanted behind an attempt at a bio: what was had is linked, and a miss is followed by what follows it
 abbrev pub WantsOn : Bool → Reply → Want → Type 0
@@ -103,7 +102,7 @@ Attempted words task dev waits old new (Err back) =
 
 -- an attempt at such a bio
 abbrev pub AttemptDoes : {S : Type 0} → Ghosts S → TaskId → DevId → Bool → S → Result (RealWant × Step) Unmade → S → Type 0
-AttemptDoes words task dev waits old made new = CallDoes words old (Attempted words task dev waits old new made) new
+AttemptDoes words task dev waits old made new = ComesTo words old (Attempted words task dev waits old new made) new
 
 -- the request that hands all bios of a device's set in these lists to its rescuer
 abbrev pub punt_request : DevId → TaskLists → Request
@@ -119,7 +118,7 @@ PuntedAll words task dev lists old after new (Err back) =
 
 -- a punt of these bios
 abbrev pub PuntDoes : {S : Type 0} → Ghosts S → TaskId → DevId → TaskLists → S → Result Step Unmade → TaskLists → S → Type 0
-PuntDoes words task dev lists old done after new = CallDoes words old (PuntedAll words task dev lists old after new done) new
+PuntDoes words task dev lists old done after new = ComesTo words old (PuntedAll words task dev lists old after new done) new
 
 -- why no node was opened, where none was
 abbrev pub link_breach : Setup → ℕ → Opening → Reply → Option Breach
@@ -151,4 +150,4 @@ NodeOpened words routing writer opening old new (Err refused) =
 
 -- the opening of a node
 abbrev pub OpeningDoes : {S : Type 0} → Ghosts S → Routing → ℕ → Opening → S → Result ℕ (Breach × HandedBack) → S → Type 0
-OpeningDoes words routing writer opening old made new = CallDoes words old (NodeOpened words routing writer opening old new made) new
+OpeningDoes words routing writer opening old made new = ComesTo words old (NodeOpened words routing writer opening old new made) new

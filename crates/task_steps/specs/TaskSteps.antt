@@ -13,6 +13,7 @@ use Rattle.run_machine.specs.Requests.{Drop, DroppedTo}
 use Rattle.run_machine.specs.Scene.{Setup}
 use Rattle.run_machine.specs.Submissions.{Submission}
 use Rattle.run_machine.specs.Tasks.{TaskState, Carried, Completer, Duty, Keeper, Keeping, Keeps}
+use Rattle.task_steps.specs.Answers.{ComesTo}
 use Rattle.task_steps.specs.CarriedViews.{given_back}
 use Rattle.task_steps.specs.Homes.{IsSubmissionOf, IsTaskOf}
 use Rattle.task_steps.specs.KeeperViews.{keeping_of}
@@ -30,11 +31,9 @@ HoldsTask words objects task = words.holds objects × IsTaskOf (words.stage obje
 abbrev pub HoldsSubmission : {S : Type 0} → Ghosts S → S → Submission → Type 0
 HoldsSubmission words objects submission = words.holds objects × IsSubmissionOf (words.stage objects) submission
 
--- a step of a task over these objects, which hold together behind it too
-pub record TaskTurns {S : Type 0} (words : Ghosts S) (setup : Setup) (task : TaskState) (old : S) (next : TaskState) (new : S) (step : Step) : Type 0 where
-  pub turns : Turns words.serves (Owes (words.stage old)) setup task old next new step
-  pub held : words.holds new
-  pub same : words.stage new ≡ words.stage old
+-- a step of a task over these objects
+abbrev pub TaskTurns : {S : Type 0} → Ghosts S → Setup → TaskState → S → TaskState → S → Step → Type 0
+TaskTurns words setup task old next new step = ComesTo words old (Turns words.serves (Owes (words.stage old)) setup task old next new step) new
 
 -- the same of a task by what its routes know of the devices
 abbrev pub TaskDoes : {S : Type 0} → Ghosts S → Routing → TaskState → S → TaskState → S → Step → Type 0
@@ -52,10 +51,8 @@ abbrev pub WriterTurns : {S : Type 0} → Ghosts S → WriterState → S → Wri
 WriterTurns words writer old next new step = (setup : Setup) → TaskTurns words setup (writer_task writer) old (writer_task next) new step
 
 -- a task that has nothing to look at any more has asked for what it asks for next, whatever is known of the devices
-pub record TaskAsks {S : Type 0} (words : Ghosts S) (task : TaskState) (old : S) (next : TaskState) (new : S) (step : Step) : Type 0 where
-  pub asks : (setup : Setup) → Asks words.serves (Owes (words.stage old)) setup task old next new step
-  pub held : words.holds new
-  pub same : words.stage new ≡ words.stage old
+abbrev pub TaskAsks : {S : Type 0} → Ghosts S → TaskState → S → TaskState → S → Step → Type 0
+TaskAsks words task old next new step = ComesTo words old ((setup : Setup) → Asks words.serves (Owes (words.stage old)) setup task old next new step) new
 
 -- a step of the completer of a disk, which carries this
 abbrev pub CompleterDoes : {S : Type 0} → Ghosts S → DevId → Carried → S → Carried × Step → S → Type 0

@@ -25,7 +25,7 @@ use Rattle.task_steps.specs.Routed.{Routing, routing_setup}
 use Rattle.task_steps.specs.Stage.{Owes, has_book}
 use Rattle.task_steps.specs.Homes.{TodoFits, GatheredIsHome}
 use Rattle.task_steps.specs.Views.{vec_item}
-use Rattle.task_steps.specs.Answers.{CallDoes, finds}
+use Rattle.task_steps.specs.Answers.{ComesTo, finds}
 
 -- a writer: its number, the writes that it has still to begin, what it has taken for the first of them, and its submission
 pub record WriterState : Type 0 where
@@ -119,19 +119,19 @@ WriteOpened words routing number opening submission old after new (Err step) =
 -- the opening of the node of a write, with this vector if it has one
 abbrev pub OpensWrite : {S : Type 0} → Ghosts S → Routing → ℕ → ℕ → Option VectorItem → Submission → S → Result ℕ Step → Submission → S → Type 0
 OpensWrite words routing number write vector submission old made after new =
-    CallDoes words old (WriteOpened words routing number (Write write vector) submission old after new made) new
+    ComesTo words old (WriteOpened words routing number (Write write vector) submission old after new made) new
 
 -- a writer without a bio has tried to take that of its next write, whatever write that is
 abbrev pub TriesBio : {S : Type 0} → Ghosts S → ℕ → S → Attempt × Step → S → Type 0
 TriesBio words number old done new =
-    CallDoes words old ((setup : Setup) (todo : Todo) (later : List Todo) (submission : Submission)
+    ComesTo words old ((setup : Setup) (todo : Todo) (later : List Todo) (submission : Submission)
     → WriteAnswers words.serves (Owes (words.stage old)) setup number (TakeBio Fs true) (todo ∷ later) NoBio submission old
     (tried done.0 number (todo ∷ later) submission) new done.1) new
 
 -- one with a bio has tried to take the vector of its next write
 abbrev pub TriesVector : {S : Type 0} → Ghosts S → ℕ → Item Pad → Submission → S → RealGathered × Step → Submission → S → Type 0
 TriesVector words number bio submission old done after new =
-    CallDoes words old ((setup : Setup) (todo : Todo) (later : List Todo)
+    ComesTo words old ((setup : Setup) (todo : Todo) (later : List Todo)
     → WriteAnswers words.serves (Owes (words.stage old)) setup number TakeVec (todo ∷ later) (HasBio bio) submission old
     (Writer number (todo ∷ later) (gathered_of done.0) after) new done.1) new
 
@@ -144,13 +144,13 @@ write_vector todo (taken.HasBoth bio vector) = Some (filled_vector todo (vec_ite
 -- one that has taken this for its next write, and needs no more, has asked for the write's node
 abbrev pub LinksWrite : {S : Type 0} → Ghosts S → Routing → ℕ → Todo → RealGathered → Submission → S → Next × Step → Submission → S → Type 0
 LinksWrite words routing number todo taken submission old done after new =
-    CallDoes words old ((later : List Todo) → WriteAnswers words.serves (Owes (words.stage old)) (routing_setup routing) number
+    ComesTo words old ((later : List Todo) → WriteAnswers words.serves (Owes (words.stage old)) (routing_setup routing) number
     (Link number (Write todo.number (write_vector todo taken))) (todo ∷ later) (gathered_of taken) submission old (next_of done.0 number todo later after) new done.1) new
 
 -- one has asked for what its next write needs, for which it has taken this
 abbrev pub WriteGoesOn : {S : Type 0} → Ghosts S → Routing → ℕ → Todo → Gathered → Submission → S → Next × Step → Submission → S → Type 0
 WriteGoesOn words routing number todo taken submission old done after new =
-    CallDoes words old ((later : List Todo) → WriteAnswers words.serves (Owes (words.stage old)) (routing_setup routing) number
+    ComesTo words old ((later : List Todo) → WriteAnswers words.serves (Owes (words.stage old)) (routing_setup routing) number
     (write_request number (todo ∷ later) taken) (todo ∷ later) taken submission old (next_of done.0 number todo later after) new done.1) new
 
 -- whether it has taken a bio

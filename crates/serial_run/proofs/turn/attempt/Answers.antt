@@ -11,9 +11,9 @@ returns-clause-tried g c =
     (routing_at c.args.objects.now c.args.tasks.now c.args.place c.requires.place c.index-tasks-place.result c.requires.one) c.requires.one
     (home_at c.args.objects.now c.args.tasks.now c.args.place c.requires.place c.index-tasks-place.result c.requires.one) c.requires.well
     g.V.Events.happens c.args.schedule.now c.step-step.new.chooser c.args.events.now c.hand_on.new.events c.hand_on.result c.step-step.result
-    c.step-step.ensures.does.turns c.step-step.ensures.chosen c.hand_on.ensures
+    c.step-step.ensures.does.came c.step-step.ensures.chosen c.hand_on.ensures
 
 pub returns-clause-one : goal.returns-clause-one
 returns-clause-one g c =
     kept_one c.args.objects.now c.step-step.new.objects c.args.tasks.now c.args.place c.requires.place c.index-tasks-place.result c.step-step.new.self
-    c.step-step.result c.requires.one (c.step-step.ensures.does.held, c.step-step.ensures.does.same) c.step-step.ensures.same c.step-step.ensures.does.turns
+    c.step-step.result c.requires.one (c.step-step.ensures.does.held, c.step-step.ensures.does.same) c.step-step.ensures.same c.step-step.ensures.does.came

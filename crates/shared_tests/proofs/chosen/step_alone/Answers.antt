@@ -5,4 +5,4 @@ pub returns : goal.returns
 returns c =
     let there = c.in_ok-task.ensures.item in
     stays_of_one c.args.objects.now c.step.new.objects c.args.tasks.now.items c.args.place there.3.0 c.in_ok-task.task.now c.step.new.self there.1
-    c.requires c.step.result (c.step.ensures.does.held, c.step.ensures.does.same) c.step.ensures.same c.step.ensures.does.turns
+    c.requires c.step.result (c.step.ensures.does.held, c.step.ensures.does.same) c.step.ensures.same c.step.ensures.does.came

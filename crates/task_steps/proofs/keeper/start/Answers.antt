@@ -9,7 +9,7 @@ use Rattle.task_steps.proofs.keeper.start.Goals as goal
 pub returns-in-Ok : goal.returns-in-Ok
 returns-in-Ok g c = record {
   does = λ later duties. record {
-    asks = λ setup. duty_once g.O.Objects.serves (Owes (g.O.Objects.stage c.args.objects.now)) setup (Starts c.args.round later) duties _ c.args.objects.now
+    came = λ setup. duty_once g.O.Objects.serves (Owes (g.O.Objects.stage c.args.objects.now)) setup (Starts c.args.round later) duties _ c.args.objects.now
         c.next_round.new.self _ Did (c.in-Ok.ensures.serves c.args.round) tt refl refl (search rules);
     held = search rules;
     same = search rules;
@@ -19,7 +19,7 @@ returns-in-Ok g c = record {
 pub returns-in-Err : goal.returns-in-Err
 returns-in-Err g c = record {
   does = λ later duties. record {
-    asks = λ setup. duty_once g.O.Objects.serves (Owes (g.O.Objects.stage c.args.objects.now)) setup (Starts c.args.round later) duties _ c.args.objects.now
+    came = λ setup. duty_once g.O.Objects.serves (Owes (g.O.Objects.stage c.args.objects.now)) setup (Starts c.args.round later) duties _ c.args.objects.now
         c.next_round.new.self _ Spent (c.in-Err.ensures.serves c.args.round) tt refl (search rules) (search rules);
     held = search rules;
     same = search rules;

@@ -11,7 +11,7 @@ use Rattle.shared_objects.proofs.caller.Caller.step.Goals as goal
 pub returns-clause-turns : goal.returns-clause-turns
 returns-clause-turns g c =
     turns_seen _ (λ caller. desk_of caller.seats.now) DeskServes (λ old asked reply new served. served.0) (Owes (stage_at c.args.self.now.locks.now)) (routing_setup c.args.task.now.routing)
-    c.args.task.now.state c.step.new.self.state c.args.self.now c.step.new.objects c.step.result c.step.ensures.does.turns
+    c.args.task.now.state c.step.new.self.state c.args.self.now c.step.new.objects c.step.result c.step.ensures.does.came
 
 pub returns-clause-chosen : goal.returns-clause-chosen
 returns-clause-chosen g c =
@@ -22,10 +22,10 @@ pub returns-clause-locks : goal.returns-clause-locks
 returns-clause-locks g c =
     turns_keep _ (λ old new. new.locks.now ≡ old.locks.now) (λ old. refl) (λ old middle new one two. two ∙ one) (λ old asked reply new served. served.1)
     (Owes (stage_at c.args.self.now.locks.now)) (routing_setup c.args.task.now.routing)
-    c.args.task.now.state c.step.new.self.state c.args.self.now c.step.new.objects c.step.result c.step.ensures.does.turns
+    c.args.task.now.state c.step.new.self.state c.args.self.now c.step.new.objects c.step.result c.step.ensures.does.came
 
 pub returns-clause-lent : goal.returns-clause-lent
 returns-clause-lent g c =
     turns_keep _ (λ old new. new.seats.ghost_name ≡ old.seats.ghost_name) (λ old. refl) (λ old middle new one two. two ∙ one) (λ old asked reply new served. served.2)
     (Owes (stage_at c.args.self.now.locks.now)) (routing_setup c.args.task.now.routing)
-    c.args.task.now.state c.step.new.self.state c.args.self.now c.step.new.objects c.step.result c.step.ensures.does.turns
+    c.args.task.now.state c.step.new.self.state c.args.self.now c.step.new.objects c.step.result c.step.ensures.does.came

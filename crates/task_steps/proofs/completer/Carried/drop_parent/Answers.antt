@@ -11,7 +11,7 @@ use Rattle.task_steps.proofs.completer.Carried.drop_parent.Goals as goal
 pub returns-in-Ok : goal.returns-in-Ok
 returns-in-Ok g c = record {
   does = record {
-    turns = completer_once g.O.Objects.serves (Owes (g.O.Objects.stage c.args.objects.now)) (routing_setup (g.O.Objects.stage c.args.objects.now).routing) c.args.disk
+    came = completer_once g.O.Objects.serves (Owes (g.O.Objects.stage c.args.objects.now)) (routing_setup (g.O.Objects.stage c.args.objects.now).routing) c.args.disk
         (given_back c.args.writer (Some c.args.parent) c.args.write c.args.status) c.told.new.self c.args.objects.now c.drop_one.new.self c.told.result
         (DroppedTo (drop_outcome_of c.in-Ok.dropped)) c.in-Ok.ensures.serves c.in-Ok.ensures.owed refl refl (ap (Completer c.args.disk) c.told.ensures.carried)
         (c.told.ensures.step None (routing_setup (g.O.Objects.stage c.args.objects.now).routing));

@@ -21,7 +21,7 @@ returns-in-Ok g c =
     after_drop (out-BioBody Pad body).bio.writer (out-BioBody Pad body).bio.node (drop_outcome_of c.in-Ok.dropped) in
     record {
       does = record {
-        turns = completer_once g.O.Objects.serves (Owes stage) (routing_setup stage.routing) c.args.disk (Brings (item_of c.args.bio) c.args.status)
+        came = completer_once g.O.Objects.serves (Owes stage) (routing_setup stage.routing) c.args.disk (Brings (item_of c.args.bio) c.args.status)
             c.told.new.self c.args.objects.now c.drop_one.new.self c.told.result (DroppedTo (drop_outcome_of c.in-Ok.dropped))
             (subst (λ body. g.O.Objects.serves c.args.objects.now (asked body) (DroppedTo (drop_outcome_of c.in-Ok.dropped)) c.drop_one.new.self)
             c.deref.ensures c.in-Ok.ensures.serves)

@@ -37,12 +37,12 @@ returns g c =
     let attended = c.attend-broken.ensures.does rest in
     record {
       does = record {
-        turns = attends g.O.Objects.serves (Owes stage) (routing_setup stage.routing) c.args.self.now duty rest is c.args.objects.now c.left.new.self
+        came = attends g.O.Objects.serves (Owes stage) (routing_setup stage.routing) c.args.self.now duty rest is c.args.objects.now c.left.new.self
             c.left.result c.left.ensures.serves c.attend-broken.result.0 c.attend-broken.new.objects c.attend-broken.result.1
             (c.if-left-later.false ∙ c.later.ensures)
             (subst (λ (stage : Stage). Asks g.O.Objects.serves (Owes stage) known (Keeper (Keeps (duty_of duty ∷ rest))) c.left.new.self
             (Keeper (keeping_of c.attend-broken.result.0 rest)) c.attend-broken.new.objects c.attend-broken.result.1)
-            c.left.ensures.kept.1 (attended.asks known));
+            c.left.ensures.kept.1 (attended.came known));
         held = attended.held;
         same = attended.same ∙ c.left.ensures.kept.1;
       };
@@ -58,7 +58,7 @@ returns-then-left-later g c =
     c.in-Some-duty_at.ensures in
     record {
       does = record {
-        turns = keeper_waits g.O.Objects.serves (Owes stage) (routing_setup stage.routing) c.args.self.now duty (map duty_of (drop (next + 1) duties)) is
+        came = keeper_waits g.O.Objects.serves (Owes stage) (routing_setup stage.routing) c.args.self.now duty (map duty_of (drop (next + 1) duties)) is
             c.args.objects.now c.left.new.self c.left.result c.left.ensures.serves (λ e. c.if-left-later.true (e ∙ sym c.later.ensures));
         held = c.left.ensures.kept.0;
         same = c.left.ensures.kept.1;

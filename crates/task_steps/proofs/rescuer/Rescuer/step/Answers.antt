@@ -16,10 +16,10 @@ returns-then-asks g c =
     let next = c.step.new.self in
     record {
       does = record {
-        turns = subst (λ (r : RescuerState). Turns serves owes known (rescuer_task r) c.args.objects.now (rescuer_task (record { dev = dev; submission = next })) c.step.new.objects c.step.result)
+        came = subst (λ (r : RescuerState). Turns serves owes known (rescuer_task r) c.args.objects.now (rescuer_task (record { dev = dev; submission = next })) c.step.new.objects c.step.result)
             c.self.view_is
             (submission_turns_rescuer serves owes known dev c.self.inside.submission next c.args.objects.now c.step.new.objects c.step.result
-            (sym c.asks.ensures ∙ c.if-asks.true) c.step.ensures.does.answers);
+            (sym c.asks.ensures ∙ c.if-asks.true) c.step.ensures.does.came);
         held = c.step.ensures.does.held;
         same = c.step.ensures.does.same;
       };

@@ -18,7 +18,7 @@ returns-in-Err g c = record {
       let old = c.args.objects.now in
       let new = c.attempt.new.objects in
       record {
-        answers = subst (λ (next : Submission). AnswersSubmission serves owes known c.args.task submission.doing submission.lists old next new (Broken breach.Spent)) (sym c.spend.ensures)
+        came = subst (λ (next : Submission). AnswersSubmission serves owes known c.args.task submission.doing submission.lists old next new (Broken breach.Spent)) (sym c.spend.ensures)
             (attempt_spent serves owes known c.args.task submission.doing submission.lists c.args.dev c.args.waits old new c.requires.attempts c.in-Err.ensures.does.came.0);
         held = search rules;
         same = search rules;

@@ -36,7 +36,7 @@ returns g c =
     let now = c.args.self.now in
     record {
       does = record {
-        turns = taken_turns serves owes known now.number now.todo now.taken now.submission old (writer_task c.put.new.self) new step c.requires.some asks;
+        came = taken_turns serves owes known now.number now.todo now.taken now.submission old (writer_task c.put.new.self) new step c.requires.some asks;
         held = c.go_on-next.ensures.does.held;
         same = c.go_on-next.ensures.does.same;
       };

@@ -17,7 +17,7 @@ returns-then-round-todo g c =
     let early : nat_le c.args.todo.now.round round ≡ false = subst (λ (r : ℕ). nat_le r round ≡ false) is (grind (arith, nat_tests, c.if-round-todo.true)) in
     record {
       does = λ setup. record {
-        turns = look_waits g.O.Objects.serves owes setup w.number w.todo w.taken w.submission c.args.todo.now (drop 1 w.todo) c.args.objects.now round
+        came = look_waits g.O.Objects.serves owes setup w.number w.todo w.taken w.submission c.args.todo.now (drop 1 w.todo) c.args.objects.now round
             c.round-round.new.self c.requires.rests c.requires.none c.requires.first c.round-round.ensures.serves early;
         held = c.round-round.ensures.kept.0;
         same = c.round-round.ensures.kept.1;
@@ -36,11 +36,11 @@ returns g c =
     let due : nat_le c.args.todo.now.round round ≡ true = subst (λ (r : ℕ). nat_le r round ≡ true) is (grind (arith, nat_tests, c.if-round-todo.false)) in
     record {
       does = λ setup. record {
-        turns = look_asks serves owes setup w.number w.todo w.taken w.submission c.args.todo.now (drop 1 w.todo) c.args.objects.now round between
+        came = look_asks serves owes setup w.number w.todo w.taken w.submission c.args.todo.now (drop 1 w.todo) c.args.objects.now round between
             (writer_task c.take.new.self) c.take.new.objects c.take.result c.requires.rests c.requires.none c.requires.first
             c.round-round.ensures.serves due
             (subst (λ (stage : Stage). Asks serves (Owes stage) setup (writer_task w) between (writer_task c.take.new.self) c.take.new.objects c.take.result)
-            c.round-round.ensures.kept.1 (c.take.ensures.does.asks setup));
+            c.round-round.ensures.kept.1 (c.take.ensures.does.came setup));
         held = c.take.ensures.does.held;
         same = c.take.ensures.does.same ∙ c.round-round.ensures.kept.1;
       };

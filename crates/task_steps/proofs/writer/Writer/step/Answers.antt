@@ -17,9 +17,9 @@ returns-then-asks g c =
     let after : WriterState = record { number = w.number; todo = w.todo; taken = gathered_of w.taken; submission = next } in
     record {
       does = record {
-        turns = subst (λ (s : WriterState). Turns serves owes known (writer_task s) c.args.objects.now (writer_task after) c.step.new.objects c.step.result) c.self.view_is
+        came = subst (λ (s : WriterState). Turns serves owes known (writer_task s) c.args.objects.now (writer_task after) c.step.new.objects c.step.result) c.self.view_is
             (submission_turns_writer serves owes known w.number w.todo (gathered_of w.taken) w.submission next c.args.objects.now c.step.new.objects c.step.result
-            (sym c.asks.ensures ∙ c.if-asks.true) c.step.ensures.does.answers);
+            (sym c.asks.ensures ∙ c.if-asks.true) c.step.ensures.does.came);
         held = c.step.ensures.does.held;
         same = c.step.ensures.does.same;
       };
