@@ -32,7 +32,7 @@ use Rattle.block_core.proofs.sound.Misplaced.{was_after}
 use Rattle.block_core.proofs.sound.Splitting.{IsSameButClosed, total_but}
 use Rattle.block_core.proofs.sound.Facts.{TaskFits, Kept}
 use Rattle.block_core.proofs.sound.Orders.{IsOwn, AskFits, TodoThere, TaskPlaced, Placed, Ground}
-use Rattle.block_core.proofs.bound.TaskCharges.{charge_lands, copies_charge, pops_once, pops_not, punts_charge, later_charge, takes_spent, want_spends, new_spends, wants_below, on_tasks, on_submission, tells_charge, later_give, hands_back}
+use Rattle.block_core.proofs.bound.TaskCharges.{charge_lands, copies_charge, pops_once, pops_not, punts_charge, later_charge, takes_spent, want_spends, new_spends, wants_below, on_tasks, on_submission, tells_charge, later_give, released_price}
 use Rattle.block_core.proofs.bound.PoolPayers.{is_write_bio, is_write_vector, is_piece_bio, is_record, leg_bio}
 use Rattle.block_core.proofs.bound.DeviceCharges.{Priced, leaf_charge, mirror_charge, legs_next}
 use Rattle.block_core.proofs.moves.Deltas.{delta}
@@ -340,7 +340,7 @@ module _ (price : Paid → ℕ) (was_master : ℕ → Bool) (scene : Scene) (s :
         delta scene w s (moves.Gives place disk writer number closed held) c,
         on_tasks (task_spent price) scene s place x y c.0 c.1,
         on_tasks (task_charge price) scene s place x y c.0 c.1,
-        hands_back price number closed.held held c.2,
+        released_price price number closed.held held c.2,
         fewer number gives,
       )
   -- ends of writes

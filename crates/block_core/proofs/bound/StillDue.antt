@@ -32,7 +32,7 @@ use Rattle.block_core.proofs.unrefused.NodeNeeds.{Needs, mirror_need, legs_on}
 use Rattle.block_core.proofs.images.FragmentCounts.{Divided, IsCounted, mirror_worth, legs_next}
 use Rattle.block_core.proofs.moves.Misfits.{misfits, cut_fits}
 use Rattle.block_core.proofs.images.StillToCome.{over}
-use Rattle.block_core.proofs.bound.TaskCharges.{on_tasks, on_submission, hands_charge, all_duties}
+use Rattle.block_core.proofs.bound.TaskCharges.{on_tasks, on_submission, released_charge, all_duties}
 use Rattle.block_core.proofs.images.MasterRecords.{zeros}
 use Rattle.block_core.proofs.sound.Owns.{closing_own}
 use Rattle.block_core.proofs.bound.RoleHoldings.{odd, odd_holding}
@@ -236,7 +236,7 @@ module _ (scene : Scene) (s : State) (f : Fair scene) (g : Ground scene.setup) (
         delta scene w s m c,
         delta scene in_hand s m c,
         on_tasks task_duties scene s place (Completer disk (Carries writer closed)) (Completer disk (Carries writer (record closed { held = held }))) c.0 c.1,
-        hands_charge number closed.held held c.2,
+        released_charge number closed.held held c.2,
       )
   -- ends of writes
   takes_one (moves.Ends place disk writer closed) c h =

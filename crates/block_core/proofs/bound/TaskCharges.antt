@@ -23,7 +23,7 @@ use Rattle.block_core.specs.Charges.{may_pop, bio_charge, legs_charge, there, wr
 use Rattle.block_core.specs.Paying.{end_carried}
 use Rattle.block_core.specs.Payers.{payer_at, Paid, MissesAtOnce, IsPunted, IsPopped}
 use Rattle.block_core.specs.Payers as paid
-use Rattle.block_core.proofs.moves.Moves.{with_submission, HasSubmission, Wants, with_want, TellsNode, Hands}
+use Rattle.block_core.proofs.moves.Moves.{with_submission, HasSubmission, Wants, with_want, TellsNode, Releases}
 use Rattle.block_core.proofs.moves.Sums.{sum_at-upd}
 use Rattle.block_core.proofs.sound.Orders.{IsPlaced, DoingPlaced, each_map, each_filter, of_set}
 use Rattle.block_core.proofs.bound.DeviceCharges.{Priced}
@@ -188,13 +188,13 @@ pub later_give : (price : Paid → ℕ) (held part : Option (Item Pad)) → give
 later_give price held None = omega arith
 later_give price held (Some part) = omega arith
 
-pub hands_charge : (number : ℕ) (old new : Holding) → Hands old number new
+pub released_charge : (number : ℕ) (old new : Holding) → Releases old number new
     → there new.bio + there new.vector + there new.slip + 1 ≡ there old.bio + there old.vector + there old.slip
-hands_charge number old new (inl h) = rw (h.3, h.1) (omega arith)
-hands_charge number old new (inr (inl h)) = rw (h.3, h.1) (omega arith)
-hands_charge number old new (inr (inr h)) = rw (h.3, h.1) (omega arith)
+released_charge number old new (inl h) = rw (h.3, h.1) (omega arith)
+released_charge number old new (inr (inl h)) = rw (h.3, h.1) (omega arith)
+released_charge number old new (inr (inr h)) = rw (h.3, h.1) (omega arith)
 
-pub hands_back : (price : Paid → ℕ) (number : ℕ) (old new : Holding) → Hands old number new → held_charge price new + price (paid.IsGiven (payer_at number)) ≡ held_charge price old
-hands_back price number old new (inl h) = rw (h.3, h.2, h.1) (omega arith)
-hands_back price number old new (inr (inl h)) = rw (h.3, h.2, h.1) (omega arith)
-hands_back price number old new (inr (inr h)) = rw (h.3, h.2, h.1) (omega arith)
+pub released_price : (price : Paid → ℕ) (number : ℕ) (old new : Holding) → Releases old number new → held_charge price new + price (paid.IsGiven (payer_at number)) ≡ held_charge price old
+released_price price number old new (inl h) = rw (h.3, h.2, h.1) (omega arith)
+released_price price number old new (inr (inl h)) = rw (h.3, h.2, h.1) (omega arith)
+released_price price number old new (inr (inr h)) = rw (h.3, h.2, h.1) (omega arith)

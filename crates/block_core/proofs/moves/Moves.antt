@@ -121,9 +121,9 @@ TellsNode (Carries of closed) writer key status part =
 TellsNode Empty writer key status part = ⊥
 TellsNode (Fails breach kept) writer key status part = ⊥
 
--- the first of what is held, by its pool, and what is held without it
-abbrev pub Hands : Holding → ℕ → Holding → Type 0
-Hands old number new =
+-- what is held releases one element, that of the pool of this number
+abbrev pub Releases : Holding → ℕ → Holding → Type 0
+Releases old number new =
     ((vector : VectorItem) × (old.vector ≡ Some vector) × (number ≡ vector.share.no) × (new ≡ record old { vector = None }))
     ⊎ ((bio : Item Pad) × (old.bio ≡ Some bio) × (number ≡ bio.share.no) × (new ≡ record old { bio = None }))
     ⊎ ((slip : SlipItem) × (old.slip ≡ Some slip) × (number ≡ slip.share.no) × (new ≡ record old { slip = None }))
@@ -213,7 +213,7 @@ Can scene s (Closes place disk carried writer key status part node) =
     × (node_at (s.objects.book writer) key ≡ Some node) × (node.count ≡ 1)
 -- what a closed node held goes back, and its write is done
 Can scene s (Gives place disk writer number closed held) =
-    (place < scene.tasks) × (s.task place ≡ Completer disk (Carries writer closed)) × Hands closed.held number held
+    (place < scene.tasks) × (s.task place ≡ Completer disk (Carries writer closed)) × Releases closed.held number held
     × (0 < (s.objects.pool number).facts.out)
 Can scene s (Ends place disk writer closed) =
     (place < scene.tasks) × (s.task place ≡ Completer disk (Carries writer closed)) × (closed.held ≡ nothing_held) × (closed.parent ≡ None)

@@ -14,7 +14,7 @@ use Rattle.run_machine.specs.Runs.{State}
 use Rattle.block_core.specs.Levels.{HoldsLevel, HoldsOneLevel}
 use Rattle.block_core.specs.Weights.{total_weight, weigh_option, task_weight, carried_weight}
 use Rattle.block_core.proofs.moves.Sums.{apart}
-use Rattle.block_core.proofs.moves.Moves.{Move, Can, after, HasSubmission, with_submission, Hands}
+use Rattle.block_core.proofs.moves.Moves.{Move, Can, after, HasSubmission, with_submission, Releases}
 use Rattle.block_core.proofs.moves.Moves as moves
 use Rattle.block_core.proofs.sound.Facts.{Kept}
 use Rattle.block_core.proofs.sound.LevelsKept.{told_on}
@@ -74,7 +74,7 @@ without_bio l held h = record { bio = λ bio is. absurd cc; vector = h.vector; s
 without_slip : (l : ℕ) (held : Holding) → HoldsLevel l held → HoldsLevel l (record held { slip = None })
 without_slip l held h = record { bio = h.bio; vector = h.vector; slip = λ slip is. absurd cc }
 
-one_less : (old new : Holding) (number : ℕ) → Hands old number new → HoldsOneLevel old → HoldsOneLevel new
+one_less : (old new : Holding) (number : ℕ) → Releases old number new → HoldsOneLevel old → HoldsOneLevel new
 one_less old new number (inl (vector, has, share, is)) h = (h.0, subst (HoldsLevel h.0) (sym is) (without_vector h.0 old h.1))
 one_less old new number (inr (inl (bio, has, share, is))) h = (h.0, subst (HoldsLevel h.0) (sym is) (without_bio h.0 old h.1))
 one_less old new number (inr (inr (slip, has, share, is))) h = (h.0, subst (HoldsLevel h.0) (sym is) (without_slip h.0 old h.1))

@@ -13,7 +13,7 @@ use Rattle.run_machine.specs.Tasks.{Completer, Todo, Carried, Empty, Brings, Car
 use Rattle.run_machine.specs.Runs.{State}
 use Rattle.block_core.specs.Weights.{Weight, total_weight, one}
 use Rattle.block_core.proofs.sound.Sayings.{none_told}
-use Rattle.block_core.proofs.moves.Moves.{Move, IsTaking, place_of, Can, after, TellsNode, Hands}
+use Rattle.block_core.proofs.moves.Moves.{Move, IsTaking, place_of, Can, after, TellsNode, Releases}
 use Rattle.block_core.proofs.moves.Moves as moves
 use Rattle.run_machine.specs.declared.event.What.{What}
 use Rattle.run_machine.specs.Events.{what_of, resize_of}
@@ -135,16 +135,16 @@ tells_asks_none w disk (Carries of closed) writer key status part setup t =
 tells_asks_none w disk Empty writer key status part setup t = absurd t
 tells_asks_none w disk (Fails breach kept) writer key status part setup t = absurd t
 
-hands_asks_none : (w : ℕ) (disk : DevId) (writer number : ℕ) (closed : Closed) (held : Holding) (setup : Setup) → Hands closed.held number held
+release_asks_none : (w : ℕ) (disk : DevId) (writer number : ℕ) (closed : Closed) (held : Holding) (setup : Setup) → Releases closed.held number held
     → asked w (request setup (Completer disk (Carries writer closed))) ≡ 0
-hands_asks_none w disk writer number closed held setup (inl h) =
+release_asks_none w disk writer number closed held setup (inl h) =
     ap (λ vector. asked w (closed_request writer closed vector closed.held.bio closed.held.slip closed.parent)) h.1
-hands_asks_none w disk writer number closed held setup (inr (inl h)) = by_vector closed.held.vector
+release_asks_none w disk writer number closed held setup (inr (inl h)) = by_vector closed.held.vector
   where
     by_vector : (vector : Option VectorItem) → asked w (closed_request writer closed vector closed.held.bio closed.held.slip closed.parent) ≡ 0
     by_vector None = ap (λ bio. asked w (closed_request writer closed None bio closed.held.slip closed.parent)) h.1
     by_vector (Some vector) = refl
-hands_asks_none w disk writer number closed held setup (inr (inr h)) = by_two closed.held.vector closed.held.bio
+release_asks_none w disk writer number closed held setup (inr (inr h)) = by_two closed.held.vector closed.held.bio
   where
     by_two : (vector : Option VectorItem) (bio : Option (Item Pad)) → asked w (closed_request writer closed vector bio closed.held.slip closed.parent) ≡ 0
     by_two None None = ap (λ slip. asked w (closed_request writer closed None None slip closed.parent)) h.1
@@ -196,7 +196,7 @@ asked_by scene s w (moves.Closes place disk carried writer key status part node)
     ap (λ x. asked w (request scene.setup x)) c.1 ∙ tells_asks_none w disk carried writer key status part scene.setup c.2
 -- what a closed node held goes back, and its write is done
 asked_by scene s w (moves.Gives place disk writer number closed held) c =
-    ap (λ x. asked w (request scene.setup x)) c.1 ∙ hands_asks_none w disk writer number closed held scene.setup c.2
+    ap (λ x. asked w (request scene.setup x)) c.1 ∙ release_asks_none w disk writer number closed held scene.setup c.2
 asked_by scene s w (moves.Ends place disk writer closed) c =
     ap (λ x. asked w (request scene.setup x)) c.1
     ∙ ap (λ (held : Holding). asked w (closed_request writer closed held.vector held.bio held.slip closed.parent)) c.2

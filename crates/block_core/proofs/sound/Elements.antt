@@ -31,7 +31,7 @@ use Rattle.block_core.proofs.sound.OrdersKept.{placed_at}
 use Rattle.block_core.proofs.sound.SumParts.{cut_weight, unless_less}
 use Rattle.block_core.proofs.unrefused.NodeNeeds.{Needs, mirror_need, cut_need, legs_on, legs_few}
 use Rattle.block_core.proofs.moves.Landings.{AreThere, IsLanding, settled_there, goes_there, copies_there, all_there, none_there, cut_there, leg_there}
-use Rattle.block_core.proofs.bound.TaskCharges.{hands_charge}
+use Rattle.block_core.proofs.bound.TaskCharges.{released_charge}
 use Rattle.block_core.proofs.moves.Totals.{some_of}
 use Rattle.std.proofs.lemmas.List.Sums.{sum_by-le-sum_by}
 
@@ -167,7 +167,7 @@ module _ (scene : Scene) (s : State) (g : Ground scene.setup) (n : Needs scene.s
   fits (moves.Closes place disk carried writer key status part node) c =
       omega (arith, tells_worth scene.setup place carried writer key status part c.2, later_worth node.held.bio part)
   -- gives: one element less is out
-  fits (moves.Gives place disk writer number closed held) c = omega (arith, hands_charge number closed.held held c.2)
+  fits (moves.Gives place disk writer number closed held) c = omega (arith, released_charge number closed.held held c.2)
   -- ends of writes, resizes and rounds: no element comes or goes
   fits (moves.Ends place disk writer closed) c = omega arith
   fits (moves.Resized place pool min later duties) c = omega arith

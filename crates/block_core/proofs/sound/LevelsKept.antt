@@ -17,7 +17,7 @@ use Rattle.run_machine.specs.Tasks.{Completer, Todo, Carried, Empty, Brings, Car
 use Rattle.run_machine.specs.Runs.{State}
 use Rattle.block_core.specs.Weights.{total_weight, weigh_option, task_weight, carried_weight}
 use Rattle.block_core.proofs.moves.Sums.{apart}
-use Rattle.block_core.proofs.moves.Moves.{Move, Can, after, lost, gained, limit_of, gathered_of, filled_of, vector_of, cut_lists, TellsNode, Hands, piece}
+use Rattle.block_core.proofs.moves.Moves.{Move, Can, after, lost, gained, limit_of, gathered_of, filled_of, vector_of, cut_lists, TellsNode, Releases, piece}
 use Rattle.block_core.proofs.moves.Moves as moves
 use Rattle.block_core.proofs.sound.Facts.{TaskFits, Kept}
 use Rattle.block_core.proofs.sound.TaskSubmissions.{submission_fits}
@@ -83,12 +83,12 @@ below_less level own l None le = omega arith
 below_less level own l (Some parent) le = omega (arith, le)
 
 -- with one element less
-less_off : (l : ℕ) (old new : Holding) (number : ℕ) → Hands old number new → held_off l new ≤ held_off l old
+less_off : (l : ℕ) (old new : Holding) (number : ℕ) → Releases old number new → held_off l new ≤ held_off l old
 less_off l old new number (inl (vector, has, share, is)) = rw is (omega arith)
 less_off l old new number (inr (inl (bio, has, share, is))) = rw is (omega arith)
 less_off l old new number (inr (inr (slip, has, share, is))) = rw is (omega arith)
 
-less_closed : (level : ℕ → ℕ) (closed : Closed) (held : Holding) (number : ℕ) → Hands closed.held number held → closed_off level closed ≡ 0
+less_closed : (level : ℕ → ℕ) (closed : Closed) (held : Holding) (number : ℕ) → Releases closed.held number held → closed_off level closed ≡ 0
     → closed_off level (record closed { held = held }) ≡ 0
 less_closed level closed held number hands none =
     let own = held_level closed.held in

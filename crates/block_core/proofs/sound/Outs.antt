@@ -18,7 +18,7 @@ use Rattle.block_core.proofs.moves.SubmissionWeights.{goes_weight, first_weight}
 use Rattle.block_core.proofs.moves.Deltas.{delta}
 use Rattle.block_core.specs.Roles.{named}
 use Rattle.block_core.proofs.sound.Facts.{Fair, Kept}
-use Rattle.block_core.proofs.sound.SumParts.{out_more, out_same, out_less, cut_weight, blind_elements, begun_elements, hands_elements, copies_weight, unless_none, submission_part, named_away, told_elements, is_away}
+use Rattle.block_core.proofs.sound.SumParts.{out_more, out_same, out_less, cut_weight, blind_elements, begun_elements, released_elements, copies_weight, unless_none, submission_part, named_away, told_elements, is_away}
 
 module _ (scene : Scene) (s : State) (f : Fair scene) (i : Kept scene s) where
   pub outs : (m : Move) → Can scene s m → (q : ℕ) → ((after scene s m).objects.pool q).facts.out ≡ total_weight scene (elements_of_pool q) (after scene s m)
@@ -120,7 +120,7 @@ module _ (scene : Scene) (s : State) (f : Fair scene) (i : Kept scene s) where
       )
   -- gives and ends of writes
   outs (moves.Gives place disk writer number closed held) c q =
-      omega (arith, i.outs q, delta scene (elements_of_pool q) s (moves.Gives place disk writer number closed held) c, hands_elements q number closed.held held c.2, out_less s.objects.pool number q c.3)
+      omega (arith, i.outs q, delta scene (elements_of_pool q) s (moves.Gives place disk writer number closed held) c, released_elements q number closed.held held c.2, out_less s.objects.pool number q c.3)
   outs (moves.Ends place disk writer closed) c q =
       omega (arith, i.outs q, delta scene (elements_of_pool q) s (moves.Ends place disk writer closed) c, ap (holding_elements q) c.2)
   -- resizes

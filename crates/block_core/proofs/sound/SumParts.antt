@@ -22,7 +22,7 @@ use Rattle.run_machine.specs.Submissions.{Takes, Doing, Copies, rests, settled, 
 use Rattle.run_machine.specs.Tasks.{TaskState, Writer, Completer, Todo, Carried, Empty, Brings, Carries, Fails}
 use Rattle.run_machine.specs.Runs.{State}
 use Rattle.block_core.specs.Weights.{Weight, Lined, total_weight, one, doing_weight, task_weight, submission_weight, carried_weight, elements_of_pool, holding_elements, names_node}
-use Rattle.block_core.proofs.moves.Moves.{limit_of, HasSubmission, gathered_of, filled_of, vector_of, cut_lists, IsTake, TellsNode, Hands, piece}
+use Rattle.block_core.proofs.moves.Moves.{limit_of, HasSubmission, gathered_of, filled_of, vector_of, cut_lists, IsTake, TellsNode, Releases, piece}
 use Rattle.block_core.proofs.moves.Sums.{weight-upd, one-same}
 use Rattle.block_core.proofs.moves.Totals.{task_part, submission_part as submission_in_task}
 use Rattle.block_core.proofs.moves.SubmissionWeights.{IsBlind, goes_weight, first_weight}
@@ -67,10 +67,10 @@ begun_elements scene q writer todo later item None key =
 begun_elements scene q writer todo later item (Some vector) key =
     omega (arith, first_weight (elements_of_pool q) (blind_elements q) 32 scene.setup (filled_of writer todo item (Some vector) key ∷ []), sum_by-cons (λ (bio : Item Pad). one bio.share.no q) (filled_of writer todo item (Some vector) key) [])
 
-pub hands_elements : (q number : ℕ) (old new : Holding) → Hands old number new → holding_elements q new + one number q ≡ holding_elements q old
-hands_elements q number old new (inl h) = rw (h.3, h.1, h.2) (omega arith)
-hands_elements q number old new (inr (inl h)) = rw (h.3, h.1, h.2) (omega arith)
-hands_elements q number old new (inr (inr h)) = rw (h.3, h.1, h.2) (omega arith)
+pub released_elements : (q number : ℕ) (old new : Holding) → Releases old number new → holding_elements q new + one number q ≡ holding_elements q old
+released_elements q number old new (inl h) = rw (h.3, h.1, h.2) (omega arith)
+released_elements q number old new (inr (inl h)) = rw (h.3, h.1, h.2) (omega arith)
+released_elements q number old new (inr (inr h)) = rw (h.3, h.1, h.2) (omega arith)
 
 -- what is left to copy behind the last leg, and before
 abbrev pub unless : Bool → ℕ → ℕ
