@@ -1,10 +1,10 @@
-pub mod Facts
+pub mod Invariant
 pub mod SumParts
 pub mod Outs
 pub mod Counts
 pub mod Owns
 pub mod TaskSubmissions
-pub mod FactsKept
+pub mod InvariantKept
 pub mod DoneOnce
 pub mod Runs
 pub mod Orders

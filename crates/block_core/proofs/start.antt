@@ -1,4 +1,4 @@
-pub mod FactsAtStart
+pub mod InvariantAtStart
 pub mod StartTotals
 pub mod StagesAtStart
 pub mod WritesAtStart

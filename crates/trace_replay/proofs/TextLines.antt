@@ -10,7 +10,7 @@ use Rattle.decl_text.specs.Text.{lines, without_empty_end}
 use Rattle.decl_text.proofs.SplitLemmas.{no_lines}
 use Rattle.trace_text.specs.Laws.{is_line_byte}
 use Rattle.trace_text.proofs.NameWords.{list_all_follows}
-use Rattle.block_core.proofs.start.FactsAtStart.{all_map}
+use Rattle.block_core.proofs.start.InvariantAtStart.{all_map}
 use Rattle.trace_replay.specs.Lines.{is_told, told_lines}
 use Rattle.trace_replay.specs.Traces.{in_whole_lines}
 

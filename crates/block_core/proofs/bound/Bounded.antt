@@ -16,7 +16,7 @@ use Rattle.block_core.proofs.moves.PaidKinds.{kind_of}
 use Rattle.block_core.proofs.sound.Misplaced.{was_after}
 use Rattle.block_core.proofs.sound.Splitting.{total_like}
 use Rattle.block_core.proofs.sound.StoodFor.{closed_so}
-use Rattle.block_core.proofs.sound.Facts.{Fair}
+use Rattle.block_core.proofs.sound.Invariant.{Fair}
 use Rattle.block_core.proofs.sound.Orders.{Ground}
 use Rattle.block_core.proofs.moves.Devices.{ground}
 use Rattle.block_core.proofs.moves.StepMoves.{step_is_move}

@@ -25,7 +25,7 @@ use Rattle.layout_model.proofs.RangeSums.{sum_same, sum_of_zero, sum_of_two}
 use Rattle.run_machine.specs.Opened.{Scenario, Change, scene, start, tasks as opened_tasks, todos, todos_of, is_by, writers, duties, duties_of, keepers, round_count, writes_from, script_at, is_numbered, setup as setup_in}
 use Rattle.run_machine.proofs.Passing.{filter_sum}
 use Rattle.block_core.specs.Scenarios.{IsScenario}
-use Rattle.block_core.proofs.start.FactsAtStart.{sum_at-zero}
+use Rattle.block_core.proofs.start.InvariantAtStart.{sum_at-zero}
 use Rattle.block_core.proofs.start.StartTotals.{map_sum, flat_sum, opened_sum, placed_sum, worth_at_start}
 use Rattle.std.proofs.Math.Numerals.{add-one}
 use Rattle.block_core.proofs.bound.TaskCharges.{later_charge}

@@ -21,7 +21,7 @@ use Rattle.block_core.specs.Fragments.{todo_fragments, legs_come, leg_fragments}
 use Rattle.block_core.specs.Rooms.{need_at, leg_need, legs_need}
 use Rattle.block_core.proofs.moves.Moves.{Move, IsBare, TellsNode}
 use Rattle.block_core.proofs.moves.Moves as moves
-use Rattle.block_core.proofs.sound.Facts.{own_part, own_of, away}
+use Rattle.block_core.proofs.sound.Invariant.{own_part, own_of, away}
 use Rattle.block_core.proofs.moves.SubmissionWeights.{IsBlind}
 use Rattle.block_core.proofs.moves.Landings.{AreThere, IsLanding, copies_there}
 use Rattle.block_core.proofs.sound.SumParts.{unless}

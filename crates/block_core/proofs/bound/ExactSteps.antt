@@ -38,9 +38,9 @@ use Rattle.block_core.specs.Fragments.{todo_fragments, HasNone, NothingComes}
 use Rattle.block_core.specs.Rounds.{round_of, is_of_round, tops_left, unfinished_of}
 use Rattle.block_core.specs.Scenarios.{IsScenario, IsNaming}
 use Rattle.block_core.proofs.stuck.Idle.{sum_none}
-use Rattle.block_core.proofs.sound.Facts.{Fair, Kept}
+use Rattle.block_core.proofs.sound.Invariant.{Fair, Invariant}
 use Rattle.block_core.proofs.sound.Orders.{Ground}
-use Rattle.block_core.proofs.start.FactsAtStart.{Begins, total_zero, start_opened, todos_all}
+use Rattle.block_core.proofs.start.InvariantAtStart.{Begins, total_zero, start_opened, todos_all}
 use Rattle.block_core.proofs.moves.Devices.{ground}
 use Rattle.block_core.proofs.sound.EveryRun.{Whole, step_whole, runs_whole, start_whole, run_tallied}
 use Rattle.block_core.proofs.sound.Lasting.{runs_keep}
@@ -186,7 +186,7 @@ module _ (s : Scenario) (good : IsScenario s) (ledger : ℕ → LedgerId) where
       }
 
 -- where a run has ended, nothing is due
-module _ (scene : Scene) (s : State) (i : Kept scene s) (held : total_weight scene odd s ≡ 0) (out : (p : ℕ) → (s.objects.pool p).facts.out ≡ 0) (comes : NothingComes scene s)
+module _ (scene : Scene) (s : State) (i : Invariant scene s) (held : total_weight scene odd s ≡ 0) (out : (p : ℕ) → (s.objects.pool p).facts.out ≡ 0) (comes : NothingComes scene s)
     (rounds : List ℕ) (left : (r : ℕ) → total_weight scene (unfinished_of (is_of_round rounds r)) s ≡ 0) where
   bare_none : total_weight scene bare s ≡ 0
   bare_none =

@@ -21,12 +21,12 @@ use Rattle.block_core.proofs.moves.Sums.{below_or}
 use Rattle.block_core.proofs.moves.Devices.{ground}
 use Rattle.block_core.proofs.moves.Moves.{Move, Can, after, HasSubmission, with_submission}
 use Rattle.block_core.proofs.moves.Moves as moves
-use Rattle.block_core.proofs.sound.Facts.{Fair}
+use Rattle.block_core.proofs.sound.Invariant.{Fair}
 use Rattle.block_core.proofs.sound.Lasting.{runs_keep}
 use Rattle.block_core.proofs.sound.Rounds.{TaskRounds}
 use Rattle.block_core.proofs.sound.TaskSubmissions.{all-upd}
 use Rattle.block_core.proofs.sound.EveryRun.{runs_tallied, start_whole}
-use Rattle.block_core.proofs.start.FactsAtStart.{sum_at-zero}
+use Rattle.block_core.proofs.start.InvariantAtStart.{sum_at-zero}
 use Rattle.block_core.proofs.start.TallyAtStart.{keeper_place, start_tallied}
 
 -- some write is of the duty's round or of one behind it

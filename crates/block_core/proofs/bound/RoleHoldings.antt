@@ -19,7 +19,7 @@ use Rattle.block_core.specs.Weights.{Weight, total_weight, no_weight}
 use Rattle.block_core.proofs.moves.Moves.{Move, Can, after, limit_of, filled_of, cut_lists, TellsNode}
 use Rattle.block_core.proofs.moves.Moves as moves
 use Rattle.block_core.proofs.moves.Deltas.{delta}
-use Rattle.block_core.proofs.sound.Facts.{own_part, Kept}
+use Rattle.block_core.proofs.sound.Invariant.{own_part, Invariant}
 use Rattle.block_core.proofs.moves.SubmissionWeights.{IsBlind, first_weight, goes_weight}
 use Rattle.block_core.proofs.sound.SumParts.{copies_weight, unless_none, is_away}
 use Rattle.block_core.proofs.sound.SumParts as parts
@@ -53,7 +53,7 @@ told_odd writer key status part (Carries of closed) node t none = ap (λ p. odd_
 told_odd writer key status part Empty node t none = absurd t
 told_odd writer key status part (Fails breach kept) node t none = absurd t
 
-module _ (scene : Scene) (s : State) (i : Kept scene s) (none : total_weight scene odd s ≡ 0) where
+module _ (scene : Scene) (s : State) (i : Invariant scene s) (none : total_weight scene odd s ≡ 0) where
   pub none_odd : (m : Move) → Can scene s m → total_weight scene odd (after scene s m) ≡ 0
   -- takes, misses, punts, pops, pushes, completions and links of writes
   none_odd (moves.TakesFirst place writer todo later move) c = omega (arith, none, delta scene odd s (moves.TakesFirst place writer todo later move) c)

@@ -8,11 +8,11 @@ use Rattle.run_machine.specs.Runs.{State}
 use Rattle.block_core.specs.Weights.{Weight, sum_at, doing_weight, task_weight}
 use Rattle.block_core.specs.Charges.{charge, want_spent, doing_spent, task_spent, charged, spent_charges}
 use Rattle.block_core.specs.Payers.{Paid, PieceBio, cost}
-use Rattle.block_core.proofs.sound.Facts.{TaskFits, DoingFits, Kept}
+use Rattle.block_core.proofs.sound.Invariant.{TaskFits, DoingFits, Invariant}
 use Rattle.block_core.proofs.sound.Orders.{DoingPlaced, TaskPlaced, Placed}
 use Rattle.block_core.proofs.bound.DeviceCharges.{Priced, mirror_charge, cut_needs, legs_next, leg_some}
 
-module _ (price : Paid → ℕ) (was_master : ℕ → Bool) (scene : Scene) (s : State) (p : Priced price scene.setup) (i : Kept scene s) (a : Placed scene.setup s) where
+module _ (price : Paid → ℕ) (was_master : ℕ → Bool) (scene : Scene) (s : State) (p : Priced price scene.setup) (i : Invariant scene s) (a : Placed scene.setup s) where
   abbrev w : Weight
   w = charge price was_master scene.setup
 

@@ -17,7 +17,7 @@ use Rattle.block_core.proofs.moves.SumsCompared.{IsPart}
 use Rattle.block_core.proofs.sound.Strays.{bio_strays, parent_strays, strays}
 use Rattle.block_core.specs.Present.{AllAtWork}
 use Rattle.block_core.proofs.moves.Sums.{apart, one-same, within_book}
-use Rattle.block_core.proofs.sound.Facts.{Kept}
+use Rattle.block_core.proofs.sound.Invariant.{Invariant}
 use Rattle.block_core.proofs.moves.Totals.{part_of, task_part}
 use Rattle.block_core.proofs.stuck.Idle.{GoesDown, open_in_books, open_at, node_part, names_one}
 use Rattle.block_core.proofs.sound.OfOneWrite.{node_write, child_of_write}
@@ -27,7 +27,7 @@ pub copied_times : (setup : Setup) (bio : Bio) (master leg : ℕ) → one bio.wr
 copied_times setup bio master leg =
     ap (λ k. k * one master master * legs_left setup bio leg) (one-same bio.writer) ∙ (ap (λ k. 1 * k * legs_left setup bio leg) (one-same master) ∙ omega arith)
 
-module _ (scene : Scene) (s : State) (i : Kept scene s) (level : ℕ → ℕ → ℕ) (down : GoesDown s level) (write_of : ℕ → ℕ → ℕ) (none : total_weight scene (strays write_of) s ≡ 0)
+module _ (scene : Scene) (s : State) (i : Invariant scene s) (level : ℕ → ℕ → ℕ) (down : GoesDown s level) (write_of : ℕ → ℕ → ℕ) (none : total_weight scene (strays write_of) s ≡ 0)
     (P : ℕ → Type 0) (tops : (writer key : ℕ) (node : Node) → writer < scene.books → node_at (s.objects.book writer) key ≡ Some node → parent_of node.role ≡ None → P node.write) where
   -- the levels of all nodes of a book together
   abbrev all_levels : ℕ → ℕ

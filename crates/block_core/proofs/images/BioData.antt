@@ -13,7 +13,7 @@ use Rattle.run_machine.specs.Tasks.{Todo, first_bio}
 use Rattle.run_machine.specs.Opened.{Scenario, todos}
 use Rattle.block_core.specs.Fragments.{offset_of}
 use Rattle.block_core.specs.Images.{tag_of, HasItsWord}
-use Rattle.block_core.proofs.start.FactsAtStart.{all_map}
+use Rattle.block_core.proofs.start.InvariantAtStart.{all_map}
 use Rattle.block_core.proofs.images.FragmentCounts.{place_on}
 use Rattle.block_core.proofs.moves.Misfits.{Follows}
 use Rattle.block_core.proofs.images.StillToCome.{over}

@@ -32,7 +32,7 @@ use Rattle.block_core.specs.Fragments.{offset_of, fragment_of, leg_fragments, to
 use Rattle.block_core.proofs.sound.Strays.{strays}
 use Rattle.block_core.specs.DoneWrites.{DoneIsCompleted}
 use Rattle.block_core.proofs.moves.Sums.{one-same}
-use Rattle.block_core.proofs.sound.Facts.{Fair, Kept}
+use Rattle.block_core.proofs.sound.Invariant.{Fair, Invariant}
 use Rattle.block_core.proofs.moves.SumsCompared.{under_in_all}
 use Rattle.block_core.proofs.stuck.Idle.{GoesDown, open_at, node_part}
 use Rattle.block_core.proofs.unrefused.Resizes.{goes_down}
@@ -108,7 +108,7 @@ module _ (w : ℕ) (value : Fragment → ℕ) (other : (f : Fragment) → f.writ
       )
 
   -- where a write is to be begun by no writer, and its top is neither open nor carried, no node and no bio is of it, and nothing of it comes
-  module _ (scene : Scene) (s : State) (i : Kept scene s) (level : ℕ → ℕ → ℕ) (down : GoesDown s level) (write_of : ℕ → ℕ → ℕ) (one_write : total_weight scene (strays write_of) s ≡ 0)
+  module _ (scene : Scene) (s : State) (i : Invariant scene s) (level : ℕ → ℕ → ℕ) (down : GoesDown s level) (write_of : ℕ → ℕ → ℕ) (one_write : total_weight scene (strays write_of) s ≡ 0)
       (done : total_weight scene (stage w) s ≡ 0) where
     no_top : (writer key : ℕ) (node : Node) → writer < scene.books → node_at (s.objects.book writer) key ≡ Some node → parent_of node.role ≡ None → node.write ≢ w
     no_top writer key node lt at is e =

@@ -43,11 +43,11 @@ use Rattle.block_core.proofs.moves.Moves as moves
 use Rattle.block_core.proofs.moves.Geometry.{IsThere}
 use Rattle.block_core.proofs.sound.Orders.{DoingPlaced, Placed, Ground}
 use Rattle.block_core.proofs.sound.OrdersKept.{placed_at}
-use Rattle.block_core.proofs.sound.Facts.{Fair}
+use Rattle.block_core.proofs.sound.Invariant.{Fair}
 use Rattle.block_core.proofs.moves.StepMoves.{step_is_move}
 use Rattle.block_core.proofs.sound.EveryRun.{Whole, runs_whole, start_whole}
 use Rattle.block_core.proofs.moves.Devices.{ground}
-use Rattle.block_core.proofs.start.FactsAtStart.{todos_all}
+use Rattle.block_core.proofs.start.InvariantAtStart.{todos_all}
 use Rattle.block_core.proofs.images.Completed.{small}
 use Rattle.block_core.proofs.start.StartTotals.{opened_total, all_sum}
 use Rattle.block_core.proofs.moves.Misfits.{misfits, no_misfits}

@@ -7,7 +7,7 @@ use Rattle.layout_model.proofs.OneWay.{one_way_a_round}
 use Rattle.run_machine.specs.Tasks.{Todo}
 use Rattle.run_machine.specs.Opened.{scene, start, todos, setup as setup_in}
 use Rattle.block_core.specs.Images.{OneFragmentASectorARound, ImagesAreLaidOut}
-use Rattle.block_core.proofs.sound.Facts.{Fair}
+use Rattle.block_core.proofs.sound.Invariant.{Fair}
 use Rattle.block_core.proofs.moves.Devices.{ground}
 use Rattle.block_core.proofs.sound.EveryRun.{start_whole}
 use Rattle.block_core.proofs.images.BioData.{own_writes}

@@ -30,7 +30,7 @@ use Rattle.block_core.specs.Scenarios.{IsScenario, IsNaming}
 use Rattle.block_core.specs.Fragments.{completed, fragment_count, IsOfScenario, NothingComes}
 use Rattle.block_core.specs.Images.{tag_of, writes_at, put, held_after, round_at, OneARound, ComeInRounds}
 use Rattle.block_core.proofs.moves.Sums.{same_or_not}
-use Rattle.block_core.proofs.start.FactsAtStart.{todos_all, all_map}
+use Rattle.block_core.proofs.start.InvariantAtStart.{todos_all, all_map}
 use Rattle.block_core.proofs.images.PlannedOnce.{some_times, times_some, no_other_is_completed, each_is_completed_once}
 use Rattle.block_core.proofs.images.BioData.{own_writes}
 use Rattle.block_core.proofs.images.ImageData.{images_are_of_completed}

@@ -19,14 +19,14 @@ use Rattle.block_core.proofs.stuck.Idle.{sum_none}
 use Rattle.block_core.proofs.moves.Sums.{one-same, within_book, below_or}
 use Rattle.block_core.proofs.moves.Totals.{part_of}
 use Rattle.block_core.specs.Roles.{named}
-use Rattle.block_core.proofs.sound.Facts.{away, own_part, own_of, TaskFits, SubmissionFits, DoingFits, Kept}
+use Rattle.block_core.proofs.sound.Invariant.{away, own_part, own_of, TaskFits, SubmissionFits, DoingFits, Invariant}
 use Rattle.block_core.proofs.images.PlannedOnce.{node_none}
 use Rattle.block_core.proofs.images.MasterRecords.{bare_slip, bare_node, bare, no_bare}
 use Rattle.layout_model.proofs.RangeSums.{sum_of_zero}
 use Rattle.run_machine.specs.declared.event.Event.{Event}
 use Rattle.run_machine.specs.Opened.{scene as opened_scene, start, todos, setup as setup_in}
 use Rattle.run_machine.specs.Runs.{IsRun}
-use Rattle.block_core.proofs.sound.Facts.{Fair}
+use Rattle.block_core.proofs.sound.Invariant.{Fair}
 use Rattle.block_core.proofs.sound.Orders.{Ground}
 use Rattle.block_core.proofs.moves.Devices.{ground}
 use Rattle.block_core.proofs.moves.StepMoves.{step_is_move}
@@ -88,7 +88,7 @@ held_some node slipped owned none = by_role node.role node.held.bio node.held.sl
     by_role (role.Master parent) bio slip b s h o = by_slip slip s h
     by_role (role.Leg parent) bio slip b s h o = by_bio bio b o
 
-module _ (scene : Scene) (s : State) (i : Kept scene s) (slips : total_weight scene bare s ≡ 0) (out : (p : ℕ) → (s.objects.pool p).facts.out ≡ 0) where
+module _ (scene : Scene) (s : State) (i : Invariant scene s) (slips : total_weight scene bare s ≡ 0) (out : (p : ℕ) → (s.objects.pool p).facts.out ≡ 0) where
   all_home : (p : ℕ) → total_weight scene (elements_of_pool p) s ≡ 0
   all_home p = sym (i.outs p) ∙ out p
 

@@ -21,7 +21,7 @@ use Rattle.block_core.specs.Scenarios.{IsScenario}
 use Rattle.block_core.specs.Fragments.{todo_fragments, to_come, planned, equal_fragments, is_it, fragment_count, IsOfScenario, HasNone, NothingComes, NoneIsCompletedTwice, NoOtherIsCompleted, EachIsCompletedOnce}
 use Rattle.block_core.proofs.stuck.Idle.{sum_none}
 use Rattle.block_core.proofs.moves.Sums.{one-same, same_or_not}
-use Rattle.block_core.proofs.start.FactsAtStart.{sum_at-zero, todos_all, all_map}
+use Rattle.block_core.proofs.start.InvariantAtStart.{sum_at-zero, todos_all, all_map}
 use Rattle.block_core.proofs.start.StagesAtStart.{once, begins_sum}
 use Rattle.block_core.proofs.images.StillToCome.{carried_none}
 use Rattle.block_core.proofs.images.Completed.{fragments_add_up}

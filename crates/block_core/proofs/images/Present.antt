@@ -12,7 +12,7 @@ use Rattle.block_core.specs.Weights.{one}
 use Rattle.block_core.specs.Rounds.{round_of, is_of_round, tops, tops_left, unfinished_of, begun_of}
 use Rattle.block_core.specs.Present.{IsOfPresent, WorkIsPresent}
 use Rattle.block_core.proofs.moves.Sums.{one-same}
-use Rattle.block_core.proofs.sound.Facts.{Fair, Kept}
+use Rattle.block_core.proofs.sound.Invariant.{Fair, Invariant}
 use Rattle.block_core.proofs.sound.EventStages.{top_is}
 use Rattle.block_core.proofs.sound.Rounds.{Tallied}
 use Rattle.block_core.proofs.start.TallyAtStart.{keeper_place, start_tallied}
@@ -25,7 +25,7 @@ use Rattle.block_core.proofs.sound.OfOneWrite.{none_strays}
 use Rattle.block_core.proofs.images.Ancestors.{all_at_work}
 
 -- the write of an open top node is unfinished and begun, so it is of no earlier round and of no later one
-pub top_present : (rounds : List ℕ) (keeper : ℕ) (scene : Scene) (s : State) → Kept scene s → Tallied rounds keeper scene s → (writer key : ℕ) (node : Node)
+pub top_present : (rounds : List ℕ) (keeper : ℕ) (scene : Scene) (s : State) → Invariant scene s → Tallied rounds keeper scene s → (writer key : ℕ) (node : Node)
     → node_at (s.objects.book writer) key ≡ Some node → parent_of node.role ≡ None → round_of rounds node.write ≡ s.objects.tally.round
 top_present rounds keeper scene s i t writer key node at is = by_order (in_order r s.objects.tally.round)
   where

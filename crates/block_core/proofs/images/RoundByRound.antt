@@ -19,10 +19,10 @@ use Rattle.block_core.specs.Images.{round_at, RoundsComeInOrder}
 use Rattle.block_core.specs.Present.{IsOfPresent}
 use Rattle.block_core.proofs.moves.Moves.{Move, Can, after}
 use Rattle.block_core.proofs.moves.Moves as moves
-use Rattle.block_core.proofs.sound.Facts.{Fair}
+use Rattle.block_core.proofs.sound.Invariant.{Fair}
 use Rattle.block_core.proofs.sound.Orders.{Ground}
 use Rattle.block_core.proofs.moves.Devices.{ground}
-use Rattle.block_core.proofs.start.FactsAtStart.{all_map}
+use Rattle.block_core.proofs.start.InvariantAtStart.{all_map}
 use Rattle.block_core.proofs.moves.StepMoves.{step_is_move}
 use Rattle.block_core.proofs.sound.EveryRun.{Whole, runs_whole, start_whole}
 use Rattle.block_core.proofs.images.StillToCome.{ended}

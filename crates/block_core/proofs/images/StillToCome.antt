@@ -23,7 +23,7 @@ use Rattle.block_core.proofs.moves.Moves as moves
 use Rattle.block_core.proofs.moves.Landings.{AreThere, IsLanding, settled_there, goes_there, copies_there, all_there, none_there, cut_there, leg_there}
 use Rattle.block_core.proofs.sound.SumParts.{cut_weight, unless}
 use Rattle.block_core.proofs.moves.Deltas.{delta}
-use Rattle.block_core.proofs.sound.Facts.{TaskFits, Kept}
+use Rattle.block_core.proofs.sound.Invariant.{TaskFits, Invariant}
 use Rattle.block_core.proofs.sound.TaskSubmissions.{submission_fits}
 use Rattle.block_core.proofs.sound.Orders.{IsOwn, TaskPlaced, Placed, Ground}
 use Rattle.block_core.proofs.sound.OrdersKept.{placed_at}
@@ -73,7 +73,7 @@ carried_none setup value task (Brings bio status) = refl
 carried_none setup value task (Carries writer closed) = refl
 carried_none setup value task (Fails breach kept) = refl
 
-module _ (scene : Scene) (s : State) (value : Fragment → ℕ) (g : Ground scene.setup) (v : Divided scene.setup value) (i : Kept scene s) (a : Placed scene.setup s)
+module _ (scene : Scene) (s : State) (value : Fragment → ℕ) (g : Ground scene.setup) (v : Divided scene.setup value) (i : Invariant scene s) (a : Placed scene.setup s)
     (counted : total_weight scene (misfits over) s ≡ 0) where
   abbrev w : Weight
   w = to_come scene.setup value

@@ -21,7 +21,7 @@ use Rattle.block_core.proofs.moves.Moves as moves
 use Rattle.block_core.proofs.moves.SubmissionWeights.{landed_same, IsBlind, first_weight, goes_weight}
 use Rattle.block_core.proofs.sound.SumParts.{cut_weight, copies_weight, submission_part, unless_less}
 use Rattle.block_core.proofs.moves.Deltas.{delta}
-use Rattle.block_core.proofs.sound.Facts.{TaskFits, Kept}
+use Rattle.block_core.proofs.sound.Invariant.{TaskFits, Invariant}
 use Rattle.block_core.proofs.sound.TaskSubmissions.{submission_fits}
 
 -- a number of each bio that is 0 for the parts of a bio for which it is 0, wherever they are
@@ -54,7 +54,7 @@ module _ (bad : Bio → ℕ) (f : Follows bad) where
   legs_follow bio hand leg node (Leaf number sectors) lt = absurd (omega arith)
   legs_follow bio hand leg node (Split number kind sizes members) lt = absurd (omega arith)
 
-  module _ (scene : Scene) (s : State) (i : Kept scene s) (none : total_weight scene w s ≡ 0) where
+  module _ (scene : Scene) (s : State) (i : Invariant scene s) (none : total_weight scene w s ≡ 0) where
     stays : (m : Move) → Can scene s m → total_weight scene w (after scene s m) ≡ 0
     -- takes, misses and punts
     stays (moves.TakesFirst place writer todo later move) c = omega (arith, none, delta scene w s (moves.TakesFirst place writer todo later move) c)
@@ -150,7 +150,7 @@ module _ (bad : Bio → ℕ) (f : Follows bad) where
     stays (moves.Resized place pool min later duties) c = omega (arith, none, delta scene w s (moves.Resized place pool min later duties) c)
     stays (moves.Started place round later duties) c = omega (arith, none, delta scene w s (moves.Started place round later duties) c)
 
-pub no_misfits : (bad : Bio → ℕ) → Follows bad → (scene : Scene) (s : State) → Kept scene s → total_weight scene (misfits bad) s ≡ 0 → (m : Move) → Can scene s m
+pub no_misfits : (bad : Bio → ℕ) → Follows bad → (scene : Scene) (s : State) → Invariant scene s → total_weight scene (misfits bad) s ≡ 0 → (m : Move) → Can scene s m
     → total_weight scene (misfits bad) (after scene s m) ≡ 0
 no_misfits bad f scene s i none m c = stays bad f scene s i none m c
 

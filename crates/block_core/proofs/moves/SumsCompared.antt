@@ -13,7 +13,7 @@ use Rattle.run_machine.specs.Submissions.{Want, Takes, Punts, Links, Driving, To
 use Rattle.run_machine.specs.Tasks.{Todo, Gathered, NoBio, HasBio, HasBoth, Carried, Empty, Brings, Carries, Fails, TaskState, Writer, Rescuer, Completer, Keeper}
 use Rattle.run_machine.specs.Runs.{State}
 use Rattle.block_core.specs.Weights.{Weight, Spot, Lined, Rescued, Pending, Brought, total_weight, sum_at, weigh_option, want_weight, ask_weight, doing_weight, submission_weight, gathered_weight, carried_weight, task_weight, book_weight}
-use Rattle.block_core.proofs.sound.Facts.{DoingFits, TaskFits, Kept}
+use Rattle.block_core.proofs.sound.Invariant.{DoingFits, TaskFits, Invariant}
 use Rattle.block_core.proofs.moves.Totals.{part_of}
 
 -- whatever the weight, this is a part of the sum
@@ -50,7 +50,7 @@ list_under {X = X} u v (x ∷ xs) le =
       list_under u v xs (λ y part. le y (λ (g : X → ℕ). omega (arith, sum_by-cons g x xs, part g))),
     )
 
-module _ (scene : Scene) (s : State) (i : Kept scene s) (u v : Weight) (le : IsUnder scene s u v) where
+module _ (scene : Scene) (s : State) (i : Invariant scene s) (u v : Weight) (le : IsUnder scene s u v) where
   want_under : (want : Want) → want_weight u want ≤ want_weight v want
   want_under (Takes waits) = omega arith
   want_under Punts = omega arith

@@ -13,7 +13,7 @@ use Rattle.run_machine.specs.Runs.{State}
 use Rattle.block_core.specs.Weights.{Weight, Spot, total_weight, one, names_node, under, legs_left}
 use Rattle.block_core.proofs.moves.References.{references, awaited_ends}
 use Rattle.block_core.proofs.moves.Sums.{upd-same, upd-other, one-same, same_or_not}
-use Rattle.block_core.proofs.sound.Facts.{Kept}
+use Rattle.block_core.proofs.sound.Invariant.{Invariant}
 use Rattle.block_core.proofs.moves.Deltas.{vacant_at}
 use Rattle.block_core.proofs.moves.SumsCompared.{under_in_all}
 
@@ -66,7 +66,7 @@ pub record IsUnmoved (u v : Weight) (writer key : ℕ) : Type 0 where
   pub node : (w k : ℕ) (node : Node) → (w ≢ writer) ⊎ (k ≢ key) → under writer key w (parent_of node.role) ≡ 0 → u.node w k node ≤ v.node w k node
   pub closed : (task w : ℕ) (closed : Closed) → under writer key w closed.parent ≡ 0 → u.closed task w closed ≤ v.closed task w closed
 
-module _ (scene : Scene) (s : State) (i : Kept scene s) (writer key : ℕ) (vacant : IsVacant (s.objects.book writer) key) where
+module _ (scene : Scene) (s : State) (i : Invariant scene s) (writer key : ℕ) (vacant : IsVacant (s.objects.book writer) key) where
   -- nothing refers to a vacant place
   pub no_ref : total_weight scene (references scene.setup writer key) s ≡ 0
   no_ref = sym (i.counts writer key) ∙ ap awaited_ends (vacant_at (s.objects.book writer) key vacant).0

@@ -16,12 +16,12 @@ use Rattle.block_core.specs.Weights.{total_weight, weigh_option, task_weight, ca
 use Rattle.block_core.proofs.moves.Sums.{apart}
 use Rattle.block_core.proofs.moves.Moves.{Move, Can, after, HasSubmission, with_submission, Releases}
 use Rattle.block_core.proofs.moves.Moves as moves
-use Rattle.block_core.proofs.sound.Facts.{Kept}
+use Rattle.block_core.proofs.sound.Invariant.{Invariant}
 use Rattle.block_core.proofs.sound.LevelsKept.{told_on}
 use Rattle.block_core.proofs.sound.OffLevels.{held_off, off_levels}
 use Rattle.block_core.proofs.moves.Totals.{part_of}
 use Rattle.block_core.proofs.sound.TaskSubmissions.{all-upd}
-use Rattle.block_core.proofs.start.FactsAtStart.{Begins}
+use Rattle.block_core.proofs.start.InvariantAtStart.{Begins}
 use Rattle.block_core.proofs.stuck.Idle.{node_part}
 
 pub on_level : (l : ℕ) (held : Holding) → held_off l held ≡ 0 → HoldsLevel l held
@@ -79,7 +79,7 @@ one_less old new number (inl (vector, has, share, is)) h = (h.0, subst (HoldsLev
 one_less old new number (inr (inl (bio, has, share, is))) h = (h.0, subst (HoldsLevel h.0) (sym is) (without_bio h.0 old h.1))
 one_less old new number (inr (inr (slip, has, share, is))) h = (h.0, subst (HoldsLevel h.0) (sym is) (without_slip h.0 old h.1))
 
-module _ (scene : Scene) (s : State) (i : Kept scene s) (level : ℕ → ℕ → ℕ) (off : total_weight scene (off_levels level) s ≡ 0) (all : (place : ℕ) → TaskOne (s.task place)) where
+module _ (scene : Scene) (s : State) (i : Invariant scene s) (level : ℕ → ℕ → ℕ) (off : total_weight scene (off_levels level) s ≡ 0) (all : (place : ℕ) → TaskOne (s.task place)) where
   goes : (place : ℕ) (y : TaskState) → TaskOne y → (other : ℕ) → TaskOne (upd s.task place y other)
   goes place y one = all-upd TaskOne s.task place y all one
 

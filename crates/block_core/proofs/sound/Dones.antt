@@ -28,7 +28,7 @@ use Rattle.block_core.specs.Dones.{unfinished_write, WritesAreUnfinishedUntilDon
 use Rattle.block_core.proofs.moves.Sums.{same_or_not, one-same, one-other, below_or}
 use Rattle.block_core.proofs.moves.Moves.{Move, Can, after, place_of}
 use Rattle.block_core.proofs.moves.Moves as moves
-use Rattle.block_core.proofs.sound.Facts.{Fair}
+use Rattle.block_core.proofs.sound.Invariant.{Fair}
 use Rattle.block_core.proofs.moves.Devices.{ground}
 use Rattle.block_core.proofs.stuck.NothingWaits.{one-eq}
 use Rattle.block_core.proofs.sound.DoneOnce.{stage, to_begin, asked, asked_by, done_by}

@@ -15,7 +15,7 @@ use Rattle.run_machine.specs.Tasks.{Carried, Empty, Brings, Carries, Fails, Task
 use Rattle.run_machine.specs.Runs.{State}
 use Rattle.block_core.specs.Weights.{Weight, Spot, Lined, Rescued, Pending, Brought, total_weight, doing_weight, submission_weight, task_weight, carried_weight}
 use Rattle.block_core.specs.EachBio.{DoingHas, SubmissionHas, CarriedHas, TaskHas, EachBio, DoingCopies, TaskCopies, EachCopied}
-use Rattle.block_core.proofs.sound.Facts.{DoingFits, TaskFits, Kept}
+use Rattle.block_core.proofs.sound.Invariant.{DoingFits, TaskFits, Invariant}
 use Rattle.block_core.proofs.moves.SumsCompared.{IsPart}
 use Rattle.block_core.proofs.moves.Totals.{part_of}
 
@@ -65,7 +65,7 @@ pub each_bio : (P : Item Pad → Type 0) (w : Weight) → ((spot : Spot) (item :
 each_bio P w is scene s none = each_part scene s P (λ spot item part. is spot item (omega (arith, none, part w)))
 
 -- and so it is with a bio that a mirror copies, of which a leg is left
-module _ (scene : Scene) (s : State) (i : Kept scene s) (P : Bio → ℕ → Type 0)
+module _ (scene : Scene) (s : State) (i : Invariant scene s) (P : Bio → ℕ → Type 0)
     (is : (bio : Bio) (master leg : ℕ) → leg < legs_of (tree_at scene.setup bio.dev) → IsPart scene s (λ w. w.copy bio master leg) → P bio master) where
   of_copying : (limit : ℕ) (doing : Doing) (lists : TaskLists) → DoingFits scene.setup doing lists → IsPart scene s (λ w. doing_weight w limit doing) → DoingCopies P doing
   of_copying limit Rests lists fits part = tt
@@ -82,6 +82,6 @@ module _ (scene : Scene) (s : State) (i : Kept scene s) (P : Bio → ℕ → Typ
   pub each_copied_part : EachCopied P scene s
   each_copied_part place lt = of_copier place (s.task place) (i.tasks place) (λ w. omega (arith, part_of (task_weight w) scene.tasks s.task place lt))
 
-pub each_copied : (P : Bio → ℕ → Type 0) (w : Weight) → ((bio : Bio) (master leg : ℕ) → w.copy bio master leg ≡ 0 → P bio master) → (scene : Scene) (s : State) → Kept scene s
+pub each_copied : (P : Bio → ℕ → Type 0) (w : Weight) → ((bio : Bio) (master leg : ℕ) → w.copy bio master leg ≡ 0 → P bio master) → (scene : Scene) (s : State) → Invariant scene s
     → total_weight scene w s ≡ 0 → EachCopied P scene s
 each_copied P w is scene s i none = each_copied_part scene s i P (λ bio master leg lt part. is bio master leg (omega (arith, none, part w)))

@@ -5,7 +5,7 @@ use Rattle.bio_books.specs.Books.{node_at}
 use Rattle.run_machine.specs.Scene.{Scene}
 use Rattle.run_machine.specs.Runs.{State}
 use Rattle.block_core.specs.Weights.{total_weight}
-use Rattle.block_core.proofs.sound.Facts.{Fair, Kept}
+use Rattle.block_core.proofs.sound.Invariant.{Fair, Invariant}
 use Rattle.block_core.proofs.sound.Orders.{Placed, Ground}
 use Rattle.run_machine.specs.Opened.{Scenario, scene, start, setup as setup_in}
 use Rattle.block_core.specs.Scenarios.{IsScenario}
@@ -14,7 +14,7 @@ use Rattle.block_core.specs.Dones.{times_done, EachIsDoneOnce}
 use Rattle.block_core.specs.Waits.{NoTaskWaitsForItself}
 use Rattle.run_machine.specs.declared.event.Event.{Event}
 use Rattle.run_machine.specs.Runs.{Steps, IsRun}
-use Rattle.block_core.proofs.start.FactsAtStart.{total_zero, opened_kept, start_opened}
+use Rattle.block_core.proofs.start.InvariantAtStart.{total_zero, opened_kept, start_opened}
 use Rattle.block_core.proofs.sound.DoneOnce.{stage}
 use Rattle.block_core.proofs.start.StagesAtStart.{stage_at_start}
 use Rattle.block_core.proofs.sound.Runs.{step_keeps, step_done}
@@ -37,7 +37,7 @@ use Rattle.block_core.proofs.start.WritesAtStart.{start_placed}
 
 -- all that stays in a run
 pub record Whole (scene : Scene) (s : State) : Type 0 where
-  pub kept : Kept scene s
+  pub kept : Invariant scene s
   pub placed : Placed scene.setup s
   pub alive : (w k : ℕ) → IsAlive (node_at (s.objects.book w) k)
 

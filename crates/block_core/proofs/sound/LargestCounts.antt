@@ -16,7 +16,7 @@ use Rattle.block_core.proofs.moves.References.{awaited_ends}
 use Rattle.block_core.specs.Scenarios.{IsScenario, IsNaming}
 use Rattle.block_core.specs.Breaks.{ElementsAreAllowed}
 use Rattle.block_core.specs.LargestCounts.{OutsAreWithinWhatWritesNeed, EndsAreWithinPlacesAndTasks, CountersAreSmall, NoCounterIsFull}
-use Rattle.block_core.proofs.sound.Facts.{Fair}
+use Rattle.block_core.proofs.sound.Invariant.{Fair}
 use Rattle.block_core.proofs.sound.Orders.{Ground}
 use Rattle.block_core.proofs.moves.Devices.{ground}
 use Rattle.block_core.proofs.unrefused.NodeNeeds.{Needs, needs_known}

@@ -28,7 +28,7 @@ use Rattle.block_core.specs.Orders.{IsLegOf}
 use Rattle.block_core.proofs.moves.Moves.{Move, place_of, Can, after, limit_of, with_submission, HasSubmission, Wants, with_want, filled_of, vector_of, cut_lists}
 use Rattle.block_core.proofs.moves.Moves as moves
 use Rattle.block_core.proofs.moves.Sums.{upd-same, upd-other, same_or_not, within_book}
-use Rattle.block_core.proofs.sound.Facts.{TaskFits, Kept}
+use Rattle.block_core.proofs.sound.Invariant.{TaskFits, Invariant}
 use Rattle.block_core.proofs.moves.Deltas.{other_place, vacant_at}
 use Rattle.block_core.proofs.sound.TaskSubmissions.{submission_fits}
 use Rattle.block_core.proofs.sound.Orders.{Placed, each_map, each_less, each_append}
@@ -200,7 +200,7 @@ wants_has s (Drives bio (ToMaster slip)) dev old new lists more h less d = absur
 wants_has s Rests dev old new lists more h less d = absurd h
 wants_has s (Breaks breach kept) dev old new lists more h less d = absurd h
 
-module _ (scene : Scene) (s : State) (i : Kept scene s) (p : Placed scene.setup s) (m : Move) (c : Can scene s m) (j : Kept scene (after scene s m)) where
+module _ (scene : Scene) (s : State) (i : Invariant scene s) (p : Placed scene.setup s) (m : Move) (c : Can scene s m) (j : Invariant scene (after scene s m)) where
   abbrev new : State
   new = after scene s m
 
@@ -248,12 +248,12 @@ module _ (scene : Scene) (s : State) (i : Kept scene s) (p : Placed scene.setup 
 pub record Legged (scene : Scene) (s : State) : Type 0 where
   pub tasks : (place : ℕ) → place < scene.tasks → TaskHasLegs s (s.task place)
 
-module _ (scene : Scene) (s : State) (i : Kept scene s) (p : Placed scene.setup s) (l : Legged scene s) where
+module _ (scene : Scene) (s : State) (i : Invariant scene s) (p : Placed scene.setup s) (l : Legged scene s) where
   has : (place : ℕ) (x : TaskState) (doing : Doing) (lists : TaskLists) → place < scene.tasks → s.task place ≡ x → HasSubmission x doing lists → HasLegs s doing lists
   has place x doing lists lt is h = submission_has s x doing lists (subst (TaskHasLegs s) is (l.tasks place lt)) h
 
   -- the task of the event goes on so, and the others as they were
-  goes : (m : Move) (c : Can scene s m) → Kept scene (after scene s m) → (y : TaskState) → (after scene s m).task ≡ upd s.task (place_of m) y → TaskHasLegs (after scene s m) y
+  goes : (m : Move) (c : Can scene s m) → Invariant scene (after scene s m) → (y : TaskState) → (after scene s m).task ≡ upd s.task (place_of m) y → TaskHasLegs (after scene s m) y
       → Legged scene (after scene s m)
   goes m c j y is here = record {
     tasks = λ place lt. elim (same_or_not place (place_of m)) [
@@ -267,7 +267,7 @@ module _ (scene : Scene) (s : State) (i : Kept scene s) (p : Placed scene.setup 
   all_same : (s : State) (lists : TaskLists) (writer master : ℕ) → Each (IsLegOf s writer master) lists.list0 → Each (IsLegOf s writer master) lists.list0
   all_same s lists writer master legs = legs
 
-  pub stays_legged : (m : Move) (c : Can scene s m) → Kept scene (after scene s m) → Legged scene (after scene s m)
+  pub stays_legged : (m : Move) (c : Can scene s m) → Invariant scene (after scene s m) → Legged scene (after scene s m)
   -- takes and misses
   stays_legged (moves.TakesFirst place writer todo later move) c j =
       goes (moves.TakesFirst place writer todo later move) c j _ refl tt

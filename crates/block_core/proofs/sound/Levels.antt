@@ -7,7 +7,7 @@ use Rattle.run_machine.specs.Scene.{Scene}
 use Rattle.run_machine.specs.Runs.{State}
 use Rattle.block_core.specs.Weights.{total_weight, under}
 use Rattle.block_core.proofs.sound.OffLevels.{parent_off, held_off, held_level, below_off, off_levels}
-use Rattle.block_core.proofs.sound.Facts.{Kept}
+use Rattle.block_core.proofs.sound.Invariant.{Invariant}
 use Rattle.block_core.proofs.moves.VacantMarks.{with_mark, mark_other, mark_still, IsUnmoved, none_moves}
 
 module _ (level : ℕ → ℕ → ℕ) (writer key n : ℕ) where
@@ -38,5 +38,5 @@ module _ (level : ℕ → ℕ → ℕ) (writer key n : ℕ) where
   }
 
   -- so a level for a vacant place changes nothing
-  pub total_null : (scene : Scene) (s : State) → Kept scene s → IsVacant (s.objects.book writer) key → total_weight scene (off_levels level) s ≡ 0 → total_weight scene (off_levels new) s ≡ 0
+  pub total_null : (scene : Scene) (s : State) → Invariant scene s → IsVacant (s.objects.book writer) key → total_weight scene (off_levels level) s ≡ 0 → total_weight scene (off_levels new) s ≡ 0
   total_null scene s i vacant off = omega (arith, off, none_moves scene s i writer key vacant (off_levels new) (off_levels level) unmoved)

@@ -20,7 +20,7 @@ use Rattle.run_machine.specs.Tasks.{TaskState, Writer, Rescuer, Completer, Keepe
 use Rattle.run_machine.specs.Runs.{State}
 use Rattle.block_core.specs.Orders.{IsAbove, AreAbove, GoUp, IsSetOf, IsOwnBelow, IsLegOf, DoingInOrder, DoingBelow, AreBelow, TaskInOrder, AreInListOrder}
 use Rattle.block_core.specs.Hands.{GatheredIsRight, WantIsRight, AskIsRight, DoingIsRight, HandIsRight, HandsAreRight}
-use Rattle.block_core.proofs.sound.Facts.{HandFits, DoingFits, TaskFits, Kept}
+use Rattle.block_core.proofs.sound.Invariant.{HandFits, DoingFits, TaskFits, Invariant}
 use Rattle.block_core.proofs.sound.Orders.{Above, Ordered, IsPlaced, IsOwn, WantFits, AskFits, DoingPlaced, HandHome, TaskPlaced, Placed}
 use Rattle.block_core.proofs.sound.LegLists.{HasLegs, TaskHasLegs, Legged}
 use Rattle.block_core.proofs.sound.CarriedLevels.{TaskOne}
@@ -129,7 +129,7 @@ module _ (setup : Setup) where
   taken_right (HasBio item) submission fits home = (home, fits)
   taken_right (HasBoth item vector) submission fits home = (home.0, home.1, fits)
 
-module _ (scene : Scene) (s : State) (i : Kept scene s) (p : Placed scene.setup s) where
+module _ (scene : Scene) (s : State) (i : Invariant scene s) (p : Placed scene.setup s) where
   pub hands_right : (ends : Fragment → Status) → ((place : ℕ) → HasEnding ends (s.task place)) → ((place : ℕ) → TaskOne (s.task place)) → HandsAreRight scene ends s
   hands_right ends endings ones place = by_task (s.task place) (i.tasks place) (p.tasks place) (endings place) (ones place)
     where

@@ -21,7 +21,7 @@ use Rattle.block_core.proofs.status.Marks.{yes, mismatch}
 use Rattle.block_core.proofs.moves.Moves.{Move, Can, after, lost, gained, limit_of, filled_of, cut_lists}
 use Rattle.block_core.proofs.moves.Moves as moves
 use Rattle.block_core.proofs.moves.Sums.{upd-same, upd-other}
-use Rattle.block_core.proofs.sound.Facts.{TaskFits, Kept}
+use Rattle.block_core.proofs.sound.Invariant.{TaskFits, Invariant}
 use Rattle.block_core.proofs.sound.TaskSubmissions.{submission_fits}
 use Rattle.block_core.proofs.moves.Deltas.{other_place, delta}
 use Rattle.block_core.proofs.sound.SumParts.{copies_weight, unless, unless_none, cut_weight, submission_part}
@@ -84,7 +84,7 @@ module _ (mark : ℕ → ℕ → Bool) (was_master : ℕ → Bool) (writer key :
   }
 
   -- a vacant place may have any mark
-  vacant_placed : (scene : Scene) (s : State) → Kept scene s → IsVacant (s.objects.book writer) key → total_weight scene (misplaced mark was_master) s ≡ 0
+  vacant_placed : (scene : Scene) (s : State) → Invariant scene s → IsVacant (s.objects.book writer) key → total_weight scene (misplaced mark was_master) s ≡ 0
       → total_weight scene (misplaced new was_master) s ≡ 0
   vacant_placed scene s i vacant off = omega (arith, off, none_moves scene s i writer key vacant (misplaced new was_master) (misplaced mark was_master) unmoved)
 
@@ -114,7 +114,7 @@ above_parent mark (role.Chain parent) = omega arith
 above_parent mark (role.Master parent) = omega arith
 above_parent mark (role.Leg parent) = omega arith
 
-module _ (scene : Scene) (s : State) (i : Kept scene s) (was_master : ℕ → Bool) (mark : ℕ → ℕ → Bool) (none : total_weight scene (misplaced mark was_master) s ≡ 0) where
+module _ (scene : Scene) (s : State) (i : Invariant scene s) (was_master : ℕ → Bool) (mark : ℕ → ℕ → Bool) (none : total_weight scene (misplaced mark was_master) s ≡ 0) where
   abbrev w : (ℕ → ℕ → Bool) → Weight
   w m = misplaced m was_master
 

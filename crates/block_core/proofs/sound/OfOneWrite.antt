@@ -21,7 +21,7 @@ use Rattle.block_core.specs.OfOneWrite.{AreOfOneWrite, AllAreOfOneWrite}
 use Rattle.block_core.proofs.moves.Sums.{apart}
 use Rattle.block_core.proofs.moves.Moves.{Move, Can, after, lost, gained, limit_of, HasSubmission, filled_of, cut_lists}
 use Rattle.block_core.proofs.moves.Moves as moves
-use Rattle.block_core.proofs.sound.Facts.{TaskFits, Fair, Kept}
+use Rattle.block_core.proofs.sound.Invariant.{TaskFits, Fair, Invariant}
 use Rattle.block_core.proofs.sound.TaskSubmissions.{submission_fits}
 use Rattle.block_core.proofs.sound.Orders.{Ground}
 use Rattle.block_core.proofs.sound.EachBio.{each_bio, each_copied}
@@ -34,7 +34,7 @@ use Rattle.block_core.proofs.moves.VacantMarks.{with_mark, mark_here, mark_other
 use Rattle.block_core.proofs.stuck.Idle.{node_part}
 use Rattle.block_core.proofs.moves.Totals.{task_part}
 use Rattle.block_core.proofs.moves.StepMoves.{step_is_move}
-use Rattle.block_core.proofs.start.FactsAtStart.{total_zero, start_opened}
+use Rattle.block_core.proofs.start.InvariantAtStart.{total_zero, start_opened}
 use Rattle.block_core.proofs.sound.EveryRun.{Whole, runs_whole, start_whole}
 
 blind_strays : (write_of : ℕ → ℕ → ℕ) → IsBlind (strays write_of)
@@ -62,7 +62,7 @@ module _ (write_of : ℕ → ℕ → ℕ) (writer key n : ℕ) where
   }
 
   -- so a vacant place may have any
-  pub vacant_strays : (scene : Scene) (s : State) → Kept scene s → IsVacant (s.objects.book writer) key → total_weight scene (strays write_of) s ≡ 0 → total_weight scene (strays new) s ≡ 0
+  pub vacant_strays : (scene : Scene) (s : State) → Invariant scene s → IsVacant (s.objects.book writer) key → total_weight scene (strays write_of) s ≡ 0 → total_weight scene (strays new) s ≡ 0
   vacant_strays scene s i vacant off = omega (arith, off, none_moves scene s i writer key vacant (strays new) (strays write_of) unmoved)
 
 begun_of_write : (write_of : ℕ → ℕ → ℕ) (writer : ℕ) (todo : Todo) (item : Item Pad) (vector : Option VectorItem) (key : ℕ) → write_of writer key ≡ todo.number
@@ -75,7 +75,7 @@ leg_of_write write_of bio hand leg key (Leaf number sectors) lt is = absurd (ome
 leg_of_write write_of bio hand leg key (Split number kind sizes members) lt is = absurd (omega (arith, lt))
 leg_of_write write_of bio hand leg key (Mirrored number sizes members) lt is = omega (arith, is)
 
-module _ (scene : Scene) (s : State) (i : Kept scene s) (write_of : ℕ → ℕ → ℕ) (none : total_weight scene (strays write_of) s ≡ 0) where
+module _ (scene : Scene) (s : State) (i : Invariant scene s) (write_of : ℕ → ℕ → ℕ) (none : total_weight scene (strays write_of) s ≡ 0) where
   -- the writes stay
   same : (m : Move) → Can scene s m → gained scene (strays write_of) s m ≤ lost scene (strays write_of) s m → NoneStrays scene (after scene s m)
   same m c le = (write_of, omega (arith, none, delta scene (strays write_of) s m c, le))
@@ -199,7 +199,7 @@ module _ (scene : Scene) (s : State) (i : Kept scene s) (write_of : ℕ → ℕ 
       omega (arith, none, same, node_part scene s i (strays write_of) writer key child at, node_write writer parent node up)
 
 -- the writes of places of which all is, as facts
-module _ (scene : Scene) (s : State) (i : Kept scene s) (write_of : ℕ → ℕ → ℕ) (none : total_weight scene (strays write_of) s ≡ 0) where
+module _ (scene : Scene) (s : State) (i : Invariant scene s) (write_of : ℕ → ℕ → ℕ) (none : total_weight scene (strays write_of) s ≡ 0) where
   are_of_one_write : AreOfOneWrite scene s
   are_of_one_write = record {
     write_of = write_of;

@@ -24,7 +24,7 @@ use Rattle.run_machine.specs.Runs.{State}
 use Rattle.block_core.proofs.moves.Moves.{Move, Can, after, with_submission, HasSubmission, gathered_of, IsTake}
 use Rattle.block_core.proofs.moves.Moves as moves
 use Rattle.block_core.proofs.moves.Sums.{upd-same, upd-other, same_or_not}
-use Rattle.block_core.proofs.sound.Facts.{Suits, TaskFits, Kept}
+use Rattle.block_core.proofs.sound.Invariant.{Suits, TaskFits, Invariant}
 use Rattle.block_core.proofs.sound.TaskSubmissions.{submission_fits}
 use Rattle.block_core.proofs.sound.Rounds.{TaskRounds, Tallied}
 use Rattle.block_core.proofs.stuck.NothingWaits.{IsPool}
@@ -88,7 +88,7 @@ pub record Posted (ids : ℕ → TaskId) (keeper : ℕ) (scene : Scene) (s : Sta
   -- only disks have bios
   pub disks : (dev : ℕ) → ((s.objects.disk dev).pending ≡ []) ⊎ (is_disk scene.setup dev ≡ true)
 
-module _ (rounds : List ℕ) (ids : ℕ → TaskId) (keeper : ℕ) (scene : Scene) (s : State) (k : Kept scene s) (r : Tallied rounds keeper scene s) (i : Posted ids keeper scene s) where
+module _ (rounds : List ℕ) (ids : ℕ → TaskId) (keeper : ℕ) (scene : Scene) (s : State) (k : Invariant scene s) (r : Tallied rounds keeper scene s) (i : Posted ids keeper scene s) where
   abbrev Post : TallyState → ℕ → TaskState → Type 0
   Post = AtPost ids keeper scene
 

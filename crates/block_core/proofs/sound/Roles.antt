@@ -17,7 +17,7 @@ use Rattle.block_core.specs.Touches.{is_master}
 use Rattle.block_core.specs.Roles.{is_leg, named, masters, children, legs_to_make, WaitsForParts, IsUnderOpen, HasRoles}
 use Rattle.block_core.proofs.status.Marks.{yes, mismatch, kind_is}
 use Rattle.block_core.proofs.moves.Sums.{same_or_not, one-same, one-other}
-use Rattle.block_core.proofs.sound.Facts.{own_part, own_of, Kept}
+use Rattle.block_core.proofs.sound.Invariant.{own_part, own_of, Invariant}
 use Rattle.block_core.proofs.moves.BookMaps.{made}
 use Rattle.block_core.proofs.sound.Splitting.{total_sum}
 use Rattle.block_core.proofs.sound.Misplaced.{wrong_parent, wrong_above, misplaced}
@@ -81,7 +81,7 @@ waits_by (role.Chain parent) (Some bio) count bios standing below legs all own o
 waits_by (role.Leg parent) None count bios standing below legs all own one_each alone made = let z = made refl in ((sym own, omega (arith, one_each)), z, omega (arith, all, z))
 waits_by (role.Leg parent) (Some bio) count bios standing below legs all own one_each alone made = let z = made refl in ((sym own, omega (arith, one_each)), z, omega (arith, all, z))
 
-module _ (scene : Scene) (s : State) (was_master : ℕ → Bool) (i : Kept scene s) (t : Stands scene was_master s) where
+module _ (scene : Scene) (s : State) (was_master : ℕ → Bool) (i : Invariant scene s) (t : Stands scene was_master s) where
   abbrev mark : ℕ → ℕ → Bool
   mark = t.right.0
 

@@ -4,27 +4,27 @@ use Rattle.run_machine.specs.Scene.{Scene}
 use Rattle.run_machine.specs.Runs.{State}
 use Rattle.block_core.specs.Weights.{total_weight}
 use Rattle.block_core.proofs.moves.Moves.{place_of, after}
-use Rattle.block_core.proofs.sound.Facts.{IsIn, Fair, Kept}
+use Rattle.block_core.proofs.sound.Invariant.{IsIn, Fair, Invariant}
 use Rattle.run_machine.specs.declared.event.Event.{Event}
 use Rattle.run_machine.specs.Events.{what_of}
 use Rattle.run_machine.specs.Tasks.{request}
 use Rattle.run_machine.specs.Runs.{Steps}
 use Rattle.block_core.specs.Dones.{done_in}
 use Rattle.block_core.proofs.moves.StepMoves.{step_is_move}
-use Rattle.block_core.proofs.sound.FactsKept.{keeps}
+use Rattle.block_core.proofs.sound.InvariantKept.{keeps}
 use Rattle.block_core.proofs.sound.DoneOnce.{stage, staged, asked, asked_by, done_of, told_done}
 
 -- one event: what it keeps
-pub step_keeps : (scene : Scene) (s : State) → Fair scene → Kept scene s → (place : ℕ) (event : Event) (new : State) → Steps scene s place event new
-    → ((other : ℕ) → IsIn scene.setup (new.task other)) → Kept scene new
+pub step_keeps : (scene : Scene) (s : State) → Fair scene → Invariant scene s → (place : ℕ) (event : Event) (new : State) → Steps scene s place event new
+    → ((other : ℕ) → IsIn scene.setup (new.task other)) → Invariant scene new
 step_keeps scene s f i place event new steps isin =
     let moved = step_is_move scene s f i place event new steps in
     let at_new : (other : ℕ) → IsIn scene.setup ((after scene s moved.move).task other) =
     λ other. subst (λ (x : State). IsIn scene.setup (x.task other)) moved.is (isin other) in
-    subst (Kept scene) (sym moved.is) (keeps scene s f i moved.move moved.can at_new)
+    subst (Invariant scene) (sym moved.is) (keeps scene s f i moved.move moved.can at_new)
 
 -- and whether it tells a write done
-pub step_done : (scene : Scene) (s : State) (w : ℕ) → Fair scene → Kept scene s → (place : ℕ) (event : Event) (new : State) → Steps scene s place event new
+pub step_done : (scene : Scene) (s : State) (w : ℕ) → Fair scene → Invariant scene s → (place : ℕ) (event : Event) (new : State) → Steps scene s place event new
     → done_in w event.what + total_weight scene (stage w) new ≡ total_weight scene (stage w) s
 step_done scene s w f i place event new steps =
     let moved = step_is_move scene s f i place event new steps in

@@ -16,8 +16,8 @@ use Rattle.block_core.proofs.sound.OffLevels.{parent_off, held_level, below_off,
 use Rattle.block_core.specs.Levels.{HasLevels}
 use Rattle.block_core.specs.Images.{HasItsWord}
 use Rattle.block_core.specs.Sound.{EveryRunIsSound}
-use Rattle.block_core.proofs.sound.Facts.{own_of, Fair, Kept}
-use Rattle.block_core.proofs.start.FactsAtStart.{Begins, IsStartState, total_zero, start_opened}
+use Rattle.block_core.proofs.sound.Invariant.{own_of, Fair, Invariant}
+use Rattle.block_core.proofs.start.InvariantAtStart.{Begins, IsStartState, total_zero, start_opened}
 use Rattle.block_core.proofs.moves.Devices.{ground}
 use Rattle.block_core.proofs.sound.EveryRun.{runs_whole, run_tallied, start_whole, start_leveled, none_waits_for_itself}
 use Rattle.block_core.proofs.sound.Lasting.{runs_keep}
@@ -43,7 +43,7 @@ use Rattle.block_core.specs.Roles.{masters}
 use Rattle.block_core.specs.Touches.{were_masters, none_was}
 
 -- the levels that all is on, as facts
-module _ (scene : Scene) (s : State) (i : Kept scene s) (level : ℕ → ℕ → ℕ) (off : total_weight scene (off_levels level) s ≡ 0) where
+module _ (scene : Scene) (s : State) (i : Invariant scene s) (level : ℕ → ℕ → ℕ) (off : total_weight scene (off_levels level) s ≡ 0) where
   pools_rise : HasLevels scene s
   pools_rise = record {
     level = level;

@@ -21,7 +21,7 @@ use Rattle.block_core.specs.Roles.{named, masters, children, legs_to_make}
 use Rattle.block_core.proofs.moves.Moves.{Move, place_of, touch_by, Can, after, lost, gained, limit_of, filled_of, vector_of, cut_lists, TellsNode}
 use Rattle.block_core.proofs.moves.Moves as moves
 use Rattle.block_core.proofs.moves.Sums.{upd-same, upd-other, same_or_not, one-same, one-other}
-use Rattle.block_core.proofs.sound.Facts.{own_part, own_of, Fair, Kept}
+use Rattle.block_core.proofs.sound.Invariant.{own_part, own_of, Fair, Invariant}
 use Rattle.block_core.proofs.sound.Orders.{Ground}
 use Rattle.block_core.proofs.sound.EveryRun.{Whole, step_whole}
 use Rattle.block_core.proofs.moves.StepMoves.{step_is_move}
@@ -68,7 +68,7 @@ less_own writer key status part carried node t none = omega (arith, told_own wri
 abbrev pub AreStoodFor : Scene → State → (ℕ → Bool) → Type 0
 AreStoodFor scene s was_master = (w k : ℕ) → total_weight scene (masters was_master w k) s + own_of (node_at (s.objects.book w) k) ≤ 1
 
-module _ (scene : Scene) (s : State) (i : Kept scene s) (was_master : ℕ → Bool) (all : AreStoodFor scene s was_master) where
+module _ (scene : Scene) (s : State) (i : Invariant scene s) (was_master : ℕ → Bool) (all : AreStoodFor scene s was_master) where
   abbrev w_of : ℕ → ℕ → Weight
   w_of w k = masters was_master w k
 
@@ -210,7 +210,7 @@ pub record Stands (scene : Scene) (was_master : ℕ → Bool) (s : State) : Type
   pub right : ArePlaced scene s was_master
   pub all : AreStoodFor scene s was_master
 
-pub stays_standing : (scene : Scene) (s : State) (was_master : ℕ → Bool) → Kept scene s → Stands scene was_master s → (m : Move) → Can scene s m
+pub stays_standing : (scene : Scene) (s : State) (was_master : ℕ → Bool) → Invariant scene s → Stands scene was_master s → (m : Move) → Can scene s m
     → Stands scene (was_after was_master m) (after scene s m)
 stays_standing scene s was_master i t m c = record {
   right = stays_right scene s i was_master t.right.0 t.right.1 m c;

@@ -27,7 +27,7 @@ use Rattle.block_core.proofs.moves.Sums.{weight-upd, one-same}
 use Rattle.block_core.proofs.moves.Totals.{task_part, submission_part as submission_in_task}
 use Rattle.block_core.proofs.moves.SubmissionWeights.{IsBlind, goes_weight, first_weight}
 use Rattle.block_core.specs.Roles.{named}
-use Rattle.block_core.proofs.sound.Facts.{away, own_part, own_of, Kept}
+use Rattle.block_core.proofs.sound.Invariant.{away, own_part, own_of, Invariant}
 
 taken_out : (pool : PoolState) (move : PoolMove) → IsTake move → (after_move pool move).facts.out ≡ pool.facts.out + 1
 taken_out pool takes_ordinary h = refl
@@ -103,7 +103,7 @@ submission_part scene w s place x doing lists lt is h =
     omega (arith, submission_in_task w place x doing lists h, task_part scene w s place x lt is)
 
 -- A bio that a task's driver has names a node whose own part is away, and which is no master.
-pub named_away : (scene : Scene) (s : State) (bio : Item Pad) (node : Node) → Kept scene s → node_at (s.objects.book bio.bio.writer) bio.bio.node ≡ Some node
+pub named_away : (scene : Scene) (s : State) (bio : Item Pad) (node : Node) → Invariant scene s → node_at (s.objects.book bio.bio.writer) bio.bio.node ≡ Some node
     → names_node bio.bio.writer bio.bio.node bio ≤ total_weight scene (named bio.bio.writer bio.bio.node) s → (node.held.bio ≡ None) × (own_part node.role None ≡ 1)
 named_away scene s bio node i at part =
     let a : names_node bio.bio.writer bio.bio.node bio ≡ 1 = rw (one-same bio.bio.writer, one-same bio.bio.node) refl in
@@ -122,7 +122,7 @@ named_away scene s bio node i at part =
     by_part (role.Leg parent) held h = (by_away held h, refl)
 
 -- so does one that a completer brings
-pub brought_away : (scene : Scene) (s : State) (place : ℕ) (disk : DevId) (bio : Item Pad) (status : Status) (node : Node) → Kept scene s
+pub brought_away : (scene : Scene) (s : State) (place : ℕ) (disk : DevId) (bio : Item Pad) (status : Status) (node : Node) → Invariant scene s
     → place < scene.tasks → s.task place ≡ Completer disk (Brings bio status) → node_at (s.objects.book bio.bio.writer) bio.bio.node ≡ Some node
     → (node.held.bio ≡ None) × (own_part node.role None ≡ 1)
 brought_away scene s place disk bio status node i lt is at =
@@ -138,7 +138,7 @@ told_elements q writer key status part (Carries of closed) node t none = rw (t.3
 told_elements q writer key status part Empty node t none = absurd t
 told_elements q writer key status part (Fails breach kept) node t none = absurd t
 
-pub is_away : (scene : Scene) (s : State) (place : ℕ) (disk : DevId) (carried : Carried) (writer key : ℕ) (status : Status) (part : Option (Item Pad)) (node : Node) → Kept scene s
+pub is_away : (scene : Scene) (s : State) (place : ℕ) (disk : DevId) (carried : Carried) (writer key : ℕ) (status : Status) (part : Option (Item Pad)) (node : Node) → Invariant scene s
     → place < scene.tasks → s.task place ≡ Completer disk carried → TellsNode carried writer key status part → node_at (s.objects.book writer) key ≡ Some node
     → (bio : Item Pad) (ending : Status) → carried ≡ Brings bio ending → (node.held.bio ≡ None) × (own_part node.role None ≡ 1)
 is_away scene s place disk carried writer key status part node i lt is t at bio ending same =

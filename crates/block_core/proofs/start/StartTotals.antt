@@ -19,7 +19,7 @@ use Rattle.run_machine.proofs.Passing.{filter_sum, none_passes}
 use Rattle.block_core.specs.Weights.{Weight, Pending, Rescued, total_weight, sum_at, one, task_weight, book_weight}
 use Rattle.block_core.specs.Scenarios.{IsScenario}
 use Rattle.block_core.proofs.moves.Sums.{one-same, one-other, same_or_not}
-use Rattle.block_core.proofs.start.FactsAtStart.{Begins, start_opened, nodes_zero, sum_at-zero, todos_all}
+use Rattle.block_core.proofs.start.InvariantAtStart.{Begins, start_opened, nodes_zero, sum_at-zero, todos_all}
 
 -- sums over lists
 pub map_sum : {X Y : Type 0} (g : Y → ℕ) (f : X → Y) (xs : List X) → sum_by g (map f xs) ≡ sum_by (λ x. g (f x)) xs

@@ -20,7 +20,7 @@ use Rattle.block_core.specs.Scenarios.{IsScenario}
 use Rattle.block_core.specs.Rounds.{round_of, is_of_round, all_worth, unfinished_of, begun_of}
 use Rattle.run_machine.proofs.FromRounds.{from_next}
 use Rattle.block_core.proofs.sound.Rounds.{TodosFit, DutiesFit, TaskRounds, Tallied}
-use Rattle.block_core.proofs.start.FactsAtStart.{start_opened, total_zero}
+use Rattle.block_core.proofs.start.InvariantAtStart.{start_opened, total_zero}
 use Rattle.block_core.proofs.start.StartTotals.{writer_tasks, rescuer_tasks, completer_tasks, opened_total}
 
 -- tasks, one after the other, from this place on

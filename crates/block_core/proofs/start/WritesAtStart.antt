@@ -14,7 +14,7 @@ use Rattle.layout_model.specs.Writes.{IsWrite}
 use Rattle.run_machine.specs.Scene.{is_disk}
 use Rattle.run_machine.specs.Opened.{Scenario, start, tasks as opened_tasks, todos, todos_of, is_by, writers, duties, keepers, no_task, setup as setup_in, at as device_at}
 use Rattle.block_core.specs.Scenarios.{IsScenario}
-use Rattle.block_core.proofs.start.FactsAtStart.{all_map, todos_all}
+use Rattle.block_core.proofs.start.InvariantAtStart.{all_map, todos_all}
 
 -- a fact of each element, as a product
 pub each_of : {X : Type 0} (P : X → Type 0) (xs : List X) → All P xs → Each P xs

@@ -28,7 +28,7 @@ use Rattle.block_core.specs.Weights.{Weight, Lined, Rescued, total_weight, names
 use Rattle.block_core.proofs.status.Marks.{is, bio_may, leg_may, todo_may, Mark, allowed, allowed_by, mismatch, above, unallowed, IsMarked}
 use Rattle.block_core.proofs.moves.Moves.{Move, Can, after, lost, gained, limit_of, HasSubmission, filled_of, cut_lists, piece}
 use Rattle.block_core.proofs.moves.Moves as moves
-use Rattle.block_core.proofs.sound.Facts.{TaskFits, own_part, Kept}
+use Rattle.block_core.proofs.sound.Invariant.{TaskFits, own_part, Invariant}
 use Rattle.block_core.specs.Roles.{named}
 use Rattle.block_core.proofs.sound.TaskSubmissions.{submission_fits}
 use Rattle.block_core.proofs.moves.Deltas.{delta}
@@ -70,7 +70,7 @@ module _ (scene : Scene) (ends : Fragment → Status) (written : ℕ → Status 
         v.lands item.bio end there,
       )
 
-  module _ (s : State) (g : Ground setup) (i : Kept scene s) (a : Placed setup s) (counted : total_weight scene (misfits over) s ≡ 0) (endings : (place : ℕ) → HasEnding ends (s.task place))
+  module _ (s : State) (g : Ground setup) (i : Invariant scene s) (a : Placed setup s) (counted : total_weight scene (misfits over) s ≡ 0) (endings : (place : ℕ) → HasEnding ends (s.task place))
       (mark : ℕ → ℕ → Mark) (h : IsMarked scene ends written mark s) where
     -- a node that a driven bio names is no master
     driven_node : (place : ℕ) (x : TaskState) (bio : Item Pad) (doing : Doing) (lists : TaskLists) (node : Node) → place < scene.tasks → s.task place ≡ x → HasSubmission x doing lists

@@ -43,12 +43,12 @@ use Rattle.block_core.specs.DoneWrites.{WriteMayEnd, StatusesAreGiven, HasGivenS
 use Rattle.block_core.proofs.moves.Sums.{one-same, one-other, same_or_not}
 use Rattle.block_core.proofs.moves.Moves.{Move, place_of, touch_by, Can, after, with_submission, HasSubmission}
 use Rattle.block_core.proofs.moves.Moves as moves
-use Rattle.block_core.proofs.sound.Facts.{Fair}
+use Rattle.block_core.proofs.sound.Invariant.{Fair}
 use Rattle.block_core.proofs.sound.TaskSubmissions.{all-upd}
 use Rattle.block_core.proofs.sound.Orders.{Ground}
 use Rattle.block_core.proofs.moves.Devices.{ground}
 use Rattle.block_core.proofs.moves.StepMoves.{step_is_move}
-use Rattle.block_core.proofs.start.FactsAtStart.{Begins, start_opened}
+use Rattle.block_core.proofs.start.InvariantAtStart.{Begins, start_opened}
 use Rattle.block_core.proofs.sound.DoneOnce.{done_of, told_done, done_by, asked_by, to_begin, stage, staged}
 use Rattle.block_core.proofs.sound.EveryRun.{Whole, runs_whole, start_whole, run_tallied}
 use Rattle.block_core.proofs.moves.Totals.{IsWithin, within, task_part}

@@ -20,7 +20,7 @@ use Rattle.block_core.proofs.status.Marks.{is, bio_may, leg_may, Mark, IsMark, a
 use Rattle.block_core.proofs.moves.Moves.{Can, after, TellsNode}
 use Rattle.block_core.proofs.moves.Moves as moves
 use Rattle.block_core.proofs.moves.Sums.{upd-same, one-same}
-use Rattle.block_core.proofs.sound.Facts.{Kept}
+use Rattle.block_core.proofs.sound.Invariant.{Invariant}
 use Rattle.block_core.proofs.moves.Deltas.{delta}
 use Rattle.block_core.proofs.moves.Totals.{IsWithin, within, task_part}
 use Rattle.block_core.proofs.stuck.Idle.{node_part}
@@ -42,7 +42,7 @@ HasEnding ends (Rescuer dev submission) = Unit {0}
 HasEnding ends (Completer disk carried) = BringsRight ends disk carried
 HasEnding ends (Keeper keeping) = Unit {0}
 
-module _ (scene : Scene) (ends : Fragment → Status) (written : ℕ → Status → ℕ) (s : State) (i : Kept scene s) (endings : (place : ℕ) → HasEnding ends (s.task place))
+module _ (scene : Scene) (ends : Fragment → Status) (written : ℕ → Status → ℕ) (s : State) (i : Invariant scene s) (endings : (place : ℕ) → HasEnding ends (s.task place))
     (mark : ℕ → ℕ → Mark) (h : IsMarked scene ends written mark s) where
   abbrev setup : Setup
   setup = scene.setup

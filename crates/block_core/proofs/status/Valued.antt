@@ -33,7 +33,7 @@ use Rattle.block_core.specs.Values.{BioMayEnd, LegMayEnd, TodoMayEnd, IsAllowed,
 use Rattle.block_core.specs.Weights.{Weight, one, names_node, under, legs_left, doing_weight, total_weight}
 use Rattle.block_core.proofs.moves.Sums.{apart}
 use Rattle.block_core.proofs.moves.Totals.{task_part}
-use Rattle.block_core.proofs.sound.Facts.{Kept}
+use Rattle.block_core.proofs.sound.Invariant.{Invariant}
 use Rattle.block_core.proofs.stuck.Idle.{node_part}
 use Rattle.block_core.proofs.stuck.NothingWaits.{both, one-eq}
 use Rattle.block_core.proofs.status.PartsWeigh.{in_range, some_in_range, in_disk, is_brought, submission_within, at_work, Weighs, IsOfWork, some_weighs}
@@ -106,7 +106,7 @@ status_fact status end le = sym (is_same end status le)
 status_one : (status end : Status) → status ≡ end → is end status ≡ 1
 status_one status end same = ap (is end) same ∙ is_itself end
 
-module _ (s : Scenario) (scene : Scene) (bios : ℕ → ℕ → Bio) (state : State) (i : Kept scene state) (mark : ℕ → ℕ → Mark)
+module _ (s : Scenario) (scene : Scene) (bios : ℕ → ℕ → Bio) (state : State) (i : Invariant scene state) (mark : ℕ → ℕ → Mark)
     (tied : AreOfBios scene.setup (fault_of s.stack) mark bios) (h : IsMarked scene (fault_of s.stack) (write_may s) mark state) where
   abbrev ends : Fragment → Status
   ends = fault_of s.stack

@@ -18,7 +18,7 @@ use Rattle.block_core.proofs.moves.References.{references}
 use Rattle.block_core.proofs.moves.Moves.{with_pool, with_book}
 use Rattle.block_core.proofs.moves.Totals.{task_part}
 use Rattle.block_core.proofs.moves.Sums.{upd-same, one-same, below_or}
-use Rattle.block_core.proofs.sound.Facts.{Kept}
+use Rattle.block_core.proofs.sound.Invariant.{Invariant}
 use Rattle.std.specs.Prelude.{IsSome}
 use Rattle.stack_base.specs.Fault.{status_eq, fault}
 use Rattle.stack_base.specs.declared.ids.Status.TheVariants.{Ok}
@@ -34,7 +34,7 @@ use Rattle.run_machine.specs.Runs.{HasFree}
 use Rattle.block_core.proofs.stuck.Idle.{open_at}
 use Rattle.block_core.proofs.stuck.FreeEvents.{free_of, drop_serves}
 
-module _ (scene : Scene) (s : State) (k : Kept scene s) where
+module _ (scene : Scene) (s : State) (k : Invariant scene s) where
   abbrev setup : Setup
   setup = scene.setup
 

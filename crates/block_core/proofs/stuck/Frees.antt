@@ -19,7 +19,7 @@ use Rattle.block_core.proofs.moves.References.{references}
 use Rattle.block_core.proofs.moves.Moves.{with_pool, with_book}
 use Rattle.block_core.proofs.moves.Totals.{task_part}
 use Rattle.block_core.proofs.moves.Sums.{upd-same, one-same, below_or}
-use Rattle.block_core.proofs.sound.Facts.{DoingFits, SubmissionFits, TaskFits, Kept}
+use Rattle.block_core.proofs.sound.Invariant.{DoingFits, SubmissionFits, TaskFits, Invariant}
 use Rattle.block_core.proofs.sound.TaskSubmissions.{IsBusy}
 use Rattle.block_core.proofs.sound.Orders.{TaskPlaced, Placed}
 use Rattle.std.specs.Prelude.{nat_le, sum_by}
@@ -42,7 +42,7 @@ use Rattle.block_core.proofs.stuck.FreeEvents.{HasNumbers, some_needs, free_of, 
 use Rattle.block_core.proofs.stuck.SubmissionsFree.{submission_free}
 use Rattle.block_core.proofs.stuck.CompletersFree.{complete_free, drop_free, carries_free}
 
-module _ (scene : Scene) (s : State) (n : Needs scene.setup) (k : Kept scene s) (p : Placed scene.setup s) (r : HasRoomInBooks scene s) (numbers : HasNumbers s) where
+module _ (scene : Scene) (s : State) (n : Needs scene.setup) (k : Invariant scene s) (p : Placed scene.setup s) (r : HasRoomInBooks scene s) (numbers : HasNumbers s) where
   abbrev setup : Setup
   setup = scene.setup
 

@@ -18,8 +18,8 @@ use Rattle.block_core.specs.Weights.{Weight, Rescued, Pending, total_weight, sum
 use Rattle.block_core.proofs.moves.References.{references, awaited_ends}
 use Rattle.block_core.proofs.moves.Moves.{HasSubmission}
 use Rattle.block_core.proofs.moves.Sums.{one-same, within_book, below_or}
-use Rattle.block_core.proofs.sound.Facts.{DoingFits, TaskFits, Kept}
-use Rattle.block_core.proofs.start.FactsAtStart.{nodes_zero}
+use Rattle.block_core.proofs.sound.Invariant.{DoingFits, TaskFits, Invariant}
+use Rattle.block_core.proofs.start.InvariantAtStart.{nodes_zero}
 use Rattle.block_core.proofs.moves.Totals.{part_of, task_part, submission_part}
 
 -- sums of nothing
@@ -42,7 +42,7 @@ pub record NoneBegun (scene : Scene) (s : State) : Type 0 where
   pub hands : (place number : ℕ) (todos : List Todo) (taken : Gathered) (submission : Submission) → place < scene.tasks → s.task place ≡ Writer number todos taken submission → taken ≡ NoBio
 
 -- a book with an open node is one of the books, and the node is a part of all
-pub open_in_books : (scene : Scene) (s : State) → Kept scene s → (writer key : ℕ) (node : Node) → node_at (s.objects.book writer) key ≡ Some node → writer < scene.books
+pub open_in_books : (scene : Scene) (s : State) → Invariant scene s → (writer key : ℕ) (node : Node) → node_at (s.objects.book writer) key ≡ Some node → writer < scene.books
 open_in_books scene s i writer key node at = elim (below_or writer scene.books) [
   | inl lt ↦ lt
   | inr ge ↦
@@ -51,7 +51,7 @@ open_in_books scene s i writer key node at = elim (below_or writer scene.books) 
 ]
 
 -- what is referred to is open, and waits for an end
-pub open_at : (scene : Scene) (s : State) → Kept scene s → (writer key : ℕ) → 1 ≤ total_weight scene (references scene.setup writer key) s
+pub open_at : (scene : Scene) (s : State) → Invariant scene s → (writer key : ℕ) → 1 ≤ total_weight scene (references scene.setup writer key) s
     → (node : Node) × (node_at (s.objects.book writer) key ≡ Some node) × (1 ≤ node.count)
 open_at scene s i writer key some = by_node (node_at (s.objects.book writer) key) refl
   where
@@ -61,7 +61,7 @@ open_at scene s i writer key some = by_node (node_at (s.objects.book writer) key
         let count : awaited_ends (node_at (s.objects.book writer) key) ≡ node.count = ap awaited_ends at in
         (node, at, omega (arith, some, count, i.counts writer key))
 
-pub node_part : (scene : Scene) (s : State) → Kept scene s → (w : Weight) (writer key : ℕ) (node : Node) → node_at (s.objects.book writer) key ≡ Some node
+pub node_part : (scene : Scene) (s : State) → Invariant scene s → (w : Weight) (writer key : ℕ) (node : Node) → node_at (s.objects.book writer) key ≡ Some node
     → w.node writer key node ≤ total_weight scene w s
 node_part scene s i w writer key node at =
     let same : weigh_option (w.node writer key) (node_at (s.objects.book writer) key) ≡ w.node writer key node = ap (weigh_option (w.node writer key)) at in
@@ -76,7 +76,7 @@ node_part scene s i w writer key node at =
 pub names_one : (item : Item Pad) → names_node item.bio.writer item.bio.node item ≡ 1
 names_one item = ap (λ n. n * one item.bio.node item.bio.node) (one-same item.bio.writer) ∙ ap (λ n. 1 * n) (one-same item.bio.node)
 
-module _ (scene : Scene) (s : State) (i : Kept scene s) (level : ℕ → ℕ → ℕ) (down : GoesDown s level) (none : NoneBegun scene s) where
+module _ (scene : Scene) (s : State) (i : Invariant scene s) (level : ℕ → ℕ → ℕ) (down : GoesDown s level) (none : NoneBegun scene s) where
   -- no level in a book is above all of them together, so a way up from node to node would come to a top
   no_way_up : (fuel writer key : ℕ) (node : Node) → node_at (s.objects.book writer) key ≡ Some node
       → sum_at (λ place (found : Option Node). level writer place) (length (s.objects.book writer).nodes) (node_at (s.objects.book writer)) < level writer key + fuel → ⊥

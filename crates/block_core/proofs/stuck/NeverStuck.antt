@@ -14,12 +14,12 @@ use Rattle.block_core.specs.Stuck.{NoStateIsStuck, NoAllowedStateIsStuck, EachRu
 use Rattle.block_core.proofs.moves.References.{awaited_ends}
 use Rattle.block_core.proofs.moves.Devices.{ground}
 use Rattle.block_core.proofs.moves.StepMoves.{step_is_move}
-use Rattle.block_core.proofs.sound.Facts.{Fair}
+use Rattle.block_core.proofs.sound.Invariant.{Fair}
 use Rattle.block_core.proofs.sound.Orders.{Ground}
 use Rattle.block_core.proofs.sound.Counters.{Counted, stays_counted}
 use Rattle.block_core.proofs.sound.LargestCounts.{no_counter_is_full}
 use Rattle.block_core.proofs.sound.EveryRun.{Whole, step_whole, runs_whole, runs_tallied, runs_posted, runs_long, runs_leveled, runs_waiting, start_whole, start_leveled}
-use Rattle.block_core.proofs.start.FactsAtStart.{start_opened}
+use Rattle.block_core.proofs.start.InvariantAtStart.{start_opened}
 use Rattle.block_core.proofs.start.PostsAtStart.{ids_of, start_posted, start_crew}
 use Rattle.block_core.proofs.start.TallyAtStart.{keeper_place, start_tallied, from_none}
 use Rattle.block_core.proofs.unrefused.NodeNeeds.{needs_known}

@@ -16,7 +16,7 @@ use Rattle.run_machine.specs.Tasks.{TaskState, Writer, Rescuer, Completer, Keepe
 use Rattle.run_machine.specs.Runs.{State}
 use Rattle.block_core.specs.Weights.{Weight, Lined, sum_at, one, submission_weight}
 use Rattle.block_core.proofs.moves.Sums.{one-other, same_or_not}
-use Rattle.block_core.proofs.sound.Facts.{Suits, DoingFits}
+use Rattle.block_core.proofs.sound.Invariant.{Suits, DoingFits}
 use Rattle.block_core.proofs.sound.TaskSubmissions.{IsBusy}
 use Rattle.block_core.proofs.sound.Orders.{Above, DoingPlaced, Ground}
 use Rattle.std.specs.Prelude.{min}

@@ -19,7 +19,7 @@ use Rattle.layout_model.proofs.ByShape.{cuts_is, copies_is, keeps_is}
 use Rattle.run_machine.specs.Scene.{setup_of, rescuer_at}
 use Rattle.block_core.proofs.moves.Geometry.{at_device}
 use Rattle.block_core.proofs.stuck.Waits.{TaskWaits, Waits, AreRescued}
-use Rattle.block_core.proofs.start.FactsAtStart.{Begins, IsStartState}
+use Rattle.block_core.proofs.start.InvariantAtStart.{Begins, IsStartState}
 
 module _ (stack : Stack) (good : IsStack stack) (places : ℕ → ℕ) (rescuers : HasRescuers stack) where
   pub are_rescued : AreRescued (setup_of stack places)

@@ -9,8 +9,8 @@ use Rattle.block_core.specs.Ending.{RunsEndWithTheirWrites, StartedRoundsAreTher
 use Rattle.block_core.proofs.images.EndedRuns.{zero_at}
 use Rattle.block_core.proofs.moves.Devices.{ground}
 use Rattle.block_core.proofs.unrefused.NoneFails.{runs_on, begins_on}
-use Rattle.block_core.proofs.sound.Facts.{Fair}
-use Rattle.block_core.proofs.start.FactsAtStart.{start_opened}
+use Rattle.block_core.proofs.sound.Invariant.{Fair}
+use Rattle.block_core.proofs.start.InvariantAtStart.{start_opened}
 use Rattle.block_core.proofs.sound.Posts.{AtPost, Posted}
 use Rattle.block_core.proofs.start.PostsAtStart.{ids_of, start_posted}
 use Rattle.block_core.proofs.unrefused.Resizes.{home_between}

@@ -18,7 +18,7 @@ use Rattle.run_machine.specs.Opened.{from_round}
 use Rattle.block_core.specs.Weights.{Weight, Pending, Rescued, sum_at, weigh_option, task_weight, gathered_weight, book_weight}
 use Rattle.block_core.proofs.moves.Moves.{with_pool}
 use Rattle.block_core.proofs.moves.Sums.{one-other, same_or_not}
-use Rattle.block_core.proofs.sound.Facts.{DoingFits, TaskFits}
+use Rattle.block_core.proofs.sound.Invariant.{DoingFits, TaskFits}
 use Rattle.block_core.proofs.sound.TaskSubmissions.{IsBusy}
 use Rattle.block_core.proofs.sound.Orders.{DoingPlaced, TaskPlaced, each_map}
 use Rattle.run_machine.specs.Scene.{is_disk}

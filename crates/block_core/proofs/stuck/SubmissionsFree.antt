@@ -19,7 +19,7 @@ use Rattle.block_core.specs.Weights.{one, doing_weight, legs_left}
 use Rattle.block_core.proofs.moves.References.{references}
 use Rattle.block_core.proofs.moves.Moves.{limit_of, HasSubmission, with_pool, with_book}
 use Rattle.block_core.proofs.moves.Sums.{one-same}
-use Rattle.block_core.proofs.sound.Facts.{DoingFits, Kept}
+use Rattle.block_core.proofs.sound.Invariant.{DoingFits, Invariant}
 use Rattle.block_core.proofs.sound.TaskSubmissions.{IsBusy}
 use Rattle.block_core.proofs.sound.Orders.{DoingPlaced}
 use Rattle.mempool_core.specs.Position.{uses_entry}
@@ -39,7 +39,7 @@ use Rattle.block_core.proofs.stuck.NothingWaits.{spares, StillWant, StillDoing}
 use Rattle.block_core.proofs.stuck.Idle.{open_in_books, open_at}
 use Rattle.block_core.proofs.stuck.FreeEvents.{HasNumbers, some_needs, free_submission, link_serves}
 
-module _ (scene : Scene) (s : State) (n : Needs scene.setup) (k : Kept scene s) (r : HasRoomInBooks scene s) (numbers : HasNumbers s) where
+module _ (scene : Scene) (s : State) (n : Needs scene.setup) (k : Invariant scene s) (r : HasRoomInBooks scene s) (numbers : HasNumbers s) where
   abbrev setup : Setup
   setup = scene.setup
 

@@ -16,7 +16,7 @@ use Rattle.run_machine.specs.Runs.{State}
 use Rattle.block_core.specs.Weights.{Weight, Pending, Rescued, Lined, total_weight, sum_at, one, weigh_option, doing_weight, task_weight, submission_weight, book_weight, elements_of_pool, holding_elements, names_node, under, legs_left}
 use Rattle.block_core.proofs.moves.References.{references, awaited_ends}
 use Rattle.block_core.proofs.moves.Sums.{apart}
-use Rattle.block_core.proofs.sound.Facts.{DoingFits, SubmissionFits, TaskFits, Kept}
+use Rattle.block_core.proofs.sound.Invariant.{DoingFits, SubmissionFits, TaskFits, Invariant}
 use Rattle.block_core.proofs.sound.TaskSubmissions.{IsBusy}
 use Rattle.block_core.proofs.sound.Orders.{IsOwn, DoingPlaced, TaskPlaced, Placed, Ground}
 use Rattle.std.specs.Prelude.{min}
@@ -30,7 +30,7 @@ use Rattle.block_core.proofs.stuck.NothingWaits.{IsPool, spares, StillDoing, Sti
 -- what holds of a state of a run, so far as no task waits for itself
 pub record Known (scene : Scene) (s : State) (level : ℕ → ℕ → ℕ) : Type 0 where
   pub ground : Ground scene.setup
-  pub kept : Kept scene s
+  pub kept : Invariant scene s
   pub placed : Placed scene.setup s
   pub waits : Waits scene.setup s
   pub alive : (w k : ℕ) → IsAlive (node_at (s.objects.book w) k)

@@ -25,7 +25,7 @@ use Rattle.run_machine.specs.Runs.{State}
 use Rattle.run_machine.proofs.Frames.{upd_keeps}
 use Rattle.block_core.proofs.moves.Moves.{Move, Can, after, limit_of, with_submission, HasSubmission, Wants, with_want, filled_of, cut_lists}
 use Rattle.block_core.proofs.moves.Moves as moves
-use Rattle.block_core.proofs.sound.Facts.{TaskFits, Kept}
+use Rattle.block_core.proofs.sound.Invariant.{TaskFits, Invariant}
 use Rattle.block_core.proofs.moves.Geometry.{IsThere}
 use Rattle.block_core.proofs.sound.TaskSubmissions.{all-upd, submission_fits}
 use Rattle.block_core.proofs.sound.Orders.{Above, IsPlaced, IsOwn, DoingPlaced, TaskPlaced, Placed, Ground, of_set}
@@ -177,7 +177,7 @@ relined setup (Rescuer dev submission) new n = n
 relined setup (Completer disk carried) new n = tt
 relined setup (Keeper keeping) new n = tt
 
-module _ (scene : Scene) (s : State) (g : Ground scene.setup) (r : AreRescued scene.setup) (k : Kept scene s) (p : Placed scene.setup s) (i : Waits scene.setup s) where
+module _ (scene : Scene) (s : State) (g : Ground scene.setup) (r : AreRescued scene.setup) (k : Invariant scene s) (p : Placed scene.setup s) (i : Waits scene.setup s) where
   goes : (place : ℕ) (y : TaskState) → TaskWaits scene.setup y → (j : ℕ) → TaskWaits scene.setup (upd s.task place y j)
   goes place y fits = all-upd (TaskWaits scene.setup) s.task place y i.tasks fits
 

@@ -23,7 +23,7 @@ use Rattle.block_core.proofs.moves.Moves.{Move, Can, after, lost, gained, limit_
 use Rattle.block_core.proofs.moves.Moves as moves
 use Rattle.block_core.proofs.moves.Sums.{upd-same, upd-other, same_or_not}
 use Rattle.block_core.proofs.moves.SubmissionWeights.{landed_same}
-use Rattle.block_core.proofs.sound.Facts.{TaskFits, Kept}
+use Rattle.block_core.proofs.sound.Invariant.{TaskFits, Invariant}
 use Rattle.block_core.proofs.moves.Geometry.{IsThere}
 use Rattle.block_core.proofs.sound.Orders.{IsOwn, TodoThere, TaskPlaced, Placed, Ground}
 use Rattle.block_core.proofs.moves.Deltas.{delta}
@@ -71,7 +71,7 @@ kept_places f places writer book all same w = elim (same_or_not w writer) [
 two_places : (book : BookState) (key place : ℕ) (new other : Option Node) → length (with_node (with_node book key new) place other).nodes ≡ length book.nodes
 two_places book key place new other = length-set (with_node book key new).nodes place other ∙ length-set book.nodes key new
 
-module _ (scene : Scene) (s : State) (g : Ground scene.setup) (n : Needs scene.setup) (i : Kept scene s) (a : Placed scene.setup s) where
+module _ (scene : Scene) (s : State) (g : Ground scene.setup) (n : Needs scene.setup) (i : Invariant scene s) (a : Placed scene.setup s) where
   -- an event that opens a node has one less to open
   abbrev Spends : ℕ → (ℕ → ℕ) → Move → Type 0
   Spends w worth m =

@@ -10,11 +10,11 @@ use Rattle.run_machine.specs.Opened.{scene, todos, duties}
 use Rattle.run_machine.specs.Runs.{State, IsRun}
 use Rattle.block_core.proofs.moves.Moves.{Move, Can, after, HasSubmission, with_submission}
 use Rattle.block_core.proofs.moves.Moves as moves
-use Rattle.block_core.proofs.sound.Facts.{Fair}
+use Rattle.block_core.proofs.sound.Invariant.{Fair}
 use Rattle.block_core.proofs.sound.Orders.{Ground}
 use Rattle.block_core.proofs.sound.TaskSubmissions.{all-upd}
 use Rattle.block_core.proofs.moves.StepMoves.{step_is_move}
-use Rattle.block_core.proofs.start.FactsAtStart.{Begins}
+use Rattle.block_core.proofs.start.InvariantAtStart.{Begins}
 use Rattle.block_core.proofs.sound.EveryRun.{Whole, runs_whole}
 
 -- something is taken for a write alone

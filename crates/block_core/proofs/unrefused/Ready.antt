@@ -29,7 +29,7 @@ use Rattle.block_core.specs.Breaks.{is_refusal}
 use Rattle.block_core.proofs.moves.Moves.{HasSubmission}
 use Rattle.block_core.proofs.moves.Sums.{one-same}
 use Rattle.block_core.specs.Roles.{named}
-use Rattle.block_core.proofs.sound.Facts.{own_part, own_of, TaskFits, Kept}
+use Rattle.block_core.proofs.sound.Invariant.{own_part, own_of, TaskFits, Invariant}
 use Rattle.block_core.proofs.sound.Orders.{Placed}
 use Rattle.block_core.proofs.moves.Deltas.{vacant_at}
 use Rattle.block_core.proofs.sound.TaskSubmissions.{submission_fits}
@@ -212,7 +212,7 @@ abbrev pub IsSmall : Scene → Type 0
 IsSmall scene = (writer : ℕ) → 1 + scene.setup.places writer + scene.tasks < 2 ^ 64 - 1
 
 -- no node waits for more ends than its own part, one for each place of its book, and one for each task
-pub ends_few : (scene : Scene) (s : State) → Kept scene s → HasRoomInBooks scene s → (writer key : ℕ)
+pub ends_few : (scene : Scene) (s : State) → Invariant scene s → HasRoomInBooks scene s → (writer key : ℕ)
     → awaited_ends (node_at (s.objects.book writer) key) ≤ 1 + scene.setup.places writer + scene.tasks
 ends_few scene s i r writer key =
     omega (
@@ -225,7 +225,7 @@ ends_few scene s i r writer key =
       carried_few scene s,
     )
 
-module _ (scene : Scene) (s : State) (n : Needs scene.setup) (small : IsSmall scene) (i : Kept scene s) (a : Placed scene.setup s) (r : HasRoomInBooks scene s)
+module _ (scene : Scene) (s : State) (n : Needs scene.setup) (small : IsSmall scene) (i : Invariant scene s) (a : Placed scene.setup s) (r : HasRoomInBooks scene s)
     (place : ℕ) (here : place < scene.tasks) where
   -- a node that a task refers to is open
   is_open : (x : TaskState) (writer key : ℕ) → s.task place ≡ x → 1 ≤ task_weight (references scene.setup writer key) place x → IsOpenAt (s.objects.book writer) key

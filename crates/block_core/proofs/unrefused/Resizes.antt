@@ -16,20 +16,20 @@ use Rattle.block_core.proofs.sound.OffLevels.{AreLeveled, off_levels, parent_off
 use Rattle.block_core.proofs.sound.EventStages.{top_is}
 use Rattle.block_core.specs.Rounds.{round_of, is_of_round, tops, tops_left, unfinished_of, begun_of}
 use Rattle.block_core.proofs.moves.Sums.{one-same}
-use Rattle.block_core.proofs.sound.Facts.{Kept}
+use Rattle.block_core.proofs.sound.Invariant.{Invariant}
 use Rattle.block_core.proofs.moves.Totals.{task_part}
 use Rattle.block_core.proofs.sound.Rounds.{Tallied, TaskRounds}
 use Rattle.block_core.proofs.stuck.Idle.{GoesDown, NoneBegun, node_part, all_home}
 use Rattle.block_core.proofs.unrefused.NoneFails.{GoesOnCarrying}
 
 -- levels go down from each node to those under it
-module _ (scene : Scene) (s : State) (i : Kept scene s) where
+module _ (scene : Scene) (s : State) (i : Invariant scene s) where
   pub goes_down : (level : ℕ → ℕ → ℕ) → total_weight scene (off_levels level) s ≡ 0 → GoesDown s level
   goes_down level on writer key node parent at is =
       let off : parent_off level writer key (parent_of node.role) ≡ parent_off level writer key (Some parent) = ap (parent_off level writer key) is in
       omega (arith, on, off, node_part scene s i (off_levels level) writer key node at)
 
-module _ (rounds : List ℕ) (keeper : ℕ) (scene : Scene) (s : State) (i : Kept scene s) (t : Tallied rounds keeper scene s)
+module _ (rounds : List ℕ) (keeper : ℕ) (scene : Scene) (s : State) (i : Invariant scene s) (t : Tallied rounds keeper scene s)
     (on : (place : ℕ) → GoesOnCarrying (s.task place)) (past : slice_index_or s.objects.tally.left s.objects.tally.round 0 ≡ 0) where
   -- no write of the rounds up to the present one is unfinished, and nothing is begun of a later one
   abbrev IsOver : ℕ → Type 0
@@ -96,7 +96,7 @@ seen_left : (scene : Scene) (s : State) (pool : PoolId) (min later : ℕ) (dutie
 seen_left scene s pool min later duties (requests.LeftOver count, served, lets_it) = let a = lets_it in let same = served.0 in search (a, same, arith)
 seen_left scene s pool min later duties (_, served, lets_it) = absurd served
 
-pub nothing_out : (rounds : List ℕ) (keeper : ℕ) (scene : Scene) (s : State) → Kept scene s → Tallied rounds keeper scene s → ((place : ℕ) → GoesOnCarrying (s.task place))
+pub nothing_out : (rounds : List ℕ) (keeper : ℕ) (scene : Scene) (s : State) → Invariant scene s → Tallied rounds keeper scene s → ((place : ℕ) → GoesOnCarrying (s.task place))
     → AreLeveled scene s → (place : ℕ) (pool : PoolId) (min later : ℕ) (duties : List Duty) → s.task place ≡ Keeper (Keeps (Resizes pool min later ∷ duties))
     → IsLet scene.ledger s.objects (Keeper (Keeps (Resizes pool min later ∷ duties))) (Some requests.LookLeft) → (q : ℕ) → (s.objects.pool q).facts.out ≡ 0
 nothing_out rounds keeper scene s i t on levels place pool min later duties is see q =

@@ -22,10 +22,10 @@ use Rattle.run_machine.proofs.Apart.{one_keeper}
 use Rattle.run_machine.proofs.Passing.{filter_sum}
 use Rattle.block_core.specs.Scenarios.{IsScenario, IsNaming}
 use Rattle.block_core.specs.Breaks.{ElementsAreAllowed, GoesUnrefused, NoTaskBreaks}
-use Rattle.block_core.proofs.sound.Facts.{DoingFits, TaskFits, Fair}
+use Rattle.block_core.proofs.sound.Invariant.{DoingFits, TaskFits, Fair}
 use Rattle.block_core.proofs.moves.Devices.{ground}
 use Rattle.block_core.proofs.unrefused.NodeNeeds.{needs_known}
-use Rattle.block_core.proofs.start.FactsAtStart.{start_opened}
+use Rattle.block_core.proofs.start.InvariantAtStart.{start_opened}
 use Rattle.block_core.proofs.bound.ChargesAtStart.{zip_sum}
 use Rattle.block_core.proofs.start.StartTotals.{map_sum}
 use Rattle.block_core.proofs.sound.EveryRun.{runs_tallied, runs_leveled, start_leveled, runs_whole, start_whole}

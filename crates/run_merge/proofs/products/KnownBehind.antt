@@ -13,7 +13,7 @@ use Rattle.block_core.specs.Dones.{times_done}
 use Rattle.block_core.specs.Weights.{total_weight, one}
 use Rattle.block_core.proofs.sound.DoneOnce.{stage}
 use Rattle.block_core.proofs.moves.Devices.{ground}
-use Rattle.block_core.proofs.sound.Facts.{Fair}
+use Rattle.block_core.proofs.sound.Invariant.{Fair}
 use Rattle.block_core.proofs.sound.Orders.{Ground}
 use Rattle.block_core.proofs.sound.Rounds.{DutiesFit, TaskRounds, Tallied}
 use Rattle.block_core.proofs.start.TallyAtStart.{keeper_place, start_tallied}

@@ -14,7 +14,7 @@ use Rattle.block_core.specs.Scenarios.{IsScenario}
 use Rattle.block_core.specs.Weights.{total_weight, one}
 use Rattle.block_core.proofs.sound.DoneOnce.{to_begin, stage}
 use Rattle.block_core.proofs.sound.Dones.{stage_is}
-use Rattle.block_core.proofs.sound.Facts.{Kept}
+use Rattle.block_core.proofs.sound.Invariant.{Invariant}
 use Rattle.block_core.proofs.moves.SumsCompared.{under_in_all}
 use Rattle.block_core.proofs.start.TallyAtStart.{numbered, unfinished_at_start}
 use Rattle.block_core.proofs.moves.Sums.{one-same, one-other, same_or_not}
@@ -60,7 +60,7 @@ todos_within : (g h : ℕ → ℕ) → ((n : ℕ) → g n ≤ h n) → (ts : Lis
 todos_within g h le [] = omega arith
 todos_within g h le (todo ∷ ts) = omega (arith, le todo.number, todos_within g h le ts)
 
-pub stage_within : (scene : Scene) (s : State) (i : Kept scene s) (f : ℕ → ℕ) (w : ℕ) → ((n : ℕ) → one n w ≤ f n) → total_weight scene (stage w) s ≤ total_weight scene (unfinished_of f) s
+pub stage_within : (scene : Scene) (s : State) (i : Invariant scene s) (f : ℕ → ℕ) (w : ℕ) → ((n : ℕ) → one n w ≤ f n) → total_weight scene (stage w) s ≤ total_weight scene (unfinished_of f) s
 stage_within scene s i f w le =
     let is = ap (λ u. total_weight scene u s) (stage_is w) in
     omega (
@@ -91,7 +91,7 @@ none_on_top : (worth top : ℕ) → (worth ≡ 0) ⊎ (1 ≤ worth) → (1 ≤ w
 none_on_top worth top (inl z) none = let a = ap (λ n. top * n) z in omega (arith, a)
 none_on_top worth top (inr some) none = let a = ap (λ n. n * worth) (none some) in omega (arith, a)
 
-pub worth_nothing : (scene : Scene) (s : State) (i : Kept scene s) (f : ℕ → ℕ) (w : ℕ) → ((n : ℕ) → 1 ≤ f n → total_weight scene (stage n) s ≡ 0)
+pub worth_nothing : (scene : Scene) (s : State) (i : Invariant scene s) (f : ℕ → ℕ) (w : ℕ) → ((n : ℕ) → 1 ≤ f n → total_weight scene (stage n) s ≡ 0)
     → total_weight scene (unfinished_of f) s ≤ total_weight scene (stage w) s
 worth_nothing scene s i f w none = under_in_all scene s i (unfinished_of f) (stage w) (record {
   todo = λ writer ts taken part.

@@ -19,7 +19,7 @@ use Rattle.block_core.proofs.moves.References.{references}
 use Rattle.block_core.proofs.moves.VacantMarks.{with_mark, mark_still, mark_other, no_ref, elsewhere, no_factor}
 use Rattle.block_core.proofs.moves.Totals.{part_of}
 use Rattle.block_core.proofs.stuck.Idle.{node_part}
-use Rattle.block_core.proofs.sound.Facts.{Kept}
+use Rattle.block_core.proofs.sound.Invariant.{Invariant}
 use Rattle.trace_replay.specs.Names.{Names}
 use Rattle.trace_replay.proofs.renaming.Renaming.{Places, share_to, item_to, want_to, ask_to, taken_to, holding_to, doing_to, submission_to, carried_to, task_to, role_to, node_to}
 use Rattle.trace_replay.proofs.renaming.Replies.{HasLeg, TaskHasLeg}
@@ -103,7 +103,7 @@ book_still to new named opened book other alike same like = record {
   none = alike.none;
 }
 
-module _ (scene : Scene) (s other : State) (i : Kept scene s) (to : Places) (names : Names) (alike : StatesAlike scene to names s other)
+module _ (scene : Scene) (s other : State) (i : Invariant scene s) (to : Places) (names : Names) (alike : StatesAlike scene to names s other)
     (writer key : ℕ) (vacant : IsVacant (s.objects.book writer) key) (place : ℕ) where
   abbrev none : total_weight scene (references scene.setup writer key) s ≡ 0
   none = no_ref scene s i writer key vacant

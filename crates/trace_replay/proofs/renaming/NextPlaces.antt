@@ -21,10 +21,10 @@ use Rattle.block_core.proofs.moves.Moves.{Move, Can, after, touch_by}
 use Rattle.block_core.proofs.moves.Moves as moves
 use Rattle.block_core.proofs.moves.StepMoves.{step_is_move}
 use Rattle.block_core.proofs.moves.Sums.{upd-same, upd-other, same_or_not, one-same}
-use Rattle.block_core.proofs.sound.Facts.{Fair}
+use Rattle.block_core.proofs.sound.Invariant.{Fair}
 use Rattle.block_core.proofs.sound.Orders.{Ground}
 use Rattle.block_core.proofs.sound.EveryRun.{Whole, step_whole, start_whole}
-use Rattle.block_core.proofs.start.FactsAtStart.{start_opened}
+use Rattle.block_core.proofs.start.InvariantAtStart.{start_opened}
 use Rattle.block_core.proofs.start.RoomAtStart.{start_roomy}
 use Rattle.block_core.proofs.unrefused.NodeNeeds.{Needs, needs_known}
 use Rattle.block_core.proofs.unrefused.RoomKept.{runs_roomy}

@@ -15,10 +15,10 @@ use Rattle.block_core.specs.Touches.{touch_of}
 use Rattle.block_core.specs.Rooms.{HasRoomInBooks}
 use Rattle.block_core.proofs.moves.Devices.{ground}
 use Rattle.block_core.proofs.moves.VacantMarks.{with_mark, mark_here}
-use Rattle.block_core.proofs.sound.Facts.{Fair}
+use Rattle.block_core.proofs.sound.Invariant.{Fair}
 use Rattle.block_core.proofs.sound.Orders.{Ground}
 use Rattle.block_core.proofs.sound.EveryRun.{Whole, step_whole, start_whole}
-use Rattle.block_core.proofs.start.FactsAtStart.{Begins, start_opened}
+use Rattle.block_core.proofs.start.InvariantAtStart.{Begins, start_opened}
 use Rattle.block_core.proofs.start.RoomAtStart.{start_roomy}
 use Rattle.block_core.proofs.unrefused.NodeNeeds.{Needs, needs_known}
 use Rattle.block_core.proofs.unrefused.RoomKept.{runs_roomy}

@@ -19,7 +19,7 @@ use Rattle.run_machine.specs.Objects.{Objects, Serves}
 use Rattle.run_machine.specs.Events.{id_of, what_of}
 use Rattle.run_machine.specs.Runs.{State, IsLet, Steps}
 use Rattle.block_core.proofs.moves.Sums.{upd-same, upd-other, same_or_not}
-use Rattle.block_core.proofs.sound.Facts.{DoingFits, TaskFits}
+use Rattle.block_core.proofs.sound.Invariant.{DoingFits, TaskFits}
 use Rattle.plain_core.specs.objects.Ledgers.{ledger_of}
 use Rattle.trace_replay.specs.Names.{Names, names_after}
 use Rattle.trace_replay.proofs.renaming.Renaming.{Places, task_to, request_to, writer_in, reply_to, what_to, event_to}

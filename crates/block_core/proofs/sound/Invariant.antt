@@ -1,4 +1,4 @@
--- What every event keeps.
+-- The invariant of a run's states: what every event keeps.
 use Rattle.std.proofs.Common.{◌≡◌, ◌<◌, ◌≤◌, ℕ, [], Option, None, Some}
 use Rattle.stack_base.specs.Tree.{Tree, Leaf, Split, Mirrored}
 use Rattle.mempool_core.specs.Facts.{AddsUp}
@@ -83,7 +83,7 @@ IsIn setup (Keeper keeping) = Unit {0}
 pub record Fair (scene : Scene) : Type 0 where
   pub named : (n : ℕ) → (scene.ledger n).no ≡ n
 
-pub record Kept (scene : Scene) (s : State) : Type 0 where
+pub record Invariant (scene : Scene) (s : State) : Type 0 where
   -- each pool adds up, and has as many elements out as there are in all places
   pub pools : (p : ℕ) → AddsUp (s.objects.pool p).facts
   pub outs : (p : ℕ) → (s.objects.pool p).facts.out ≡ total_weight scene (elements_of_pool p) s

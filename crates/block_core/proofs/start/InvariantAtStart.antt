@@ -1,4 +1,4 @@
--- The state in which runs begin keeps all facts.
+-- The state in which runs begin has the invariant.
 use Rattle.std.proofs.Common.{◌≡◌, ◌<◌, ◌≤◌, ◌++◌, ℕ, zero, suc, false, List, [], ◌∷◌, length, map, filter, Option, None, inl, inr, refl, sym, ◌∙◌, ap, subst, arith, get_or}
 use Rattle.std.specs.Prelude.{sum_by}
 use Rattle.std.proofs.lemmas.List.{get_or_past}
@@ -14,7 +14,7 @@ use Rattle.block_core.specs.Weights.{Weight, Pending, Rescued, total_weight, sum
 use Rattle.block_core.proofs.moves.References.{references, awaited_ends}
 use Rattle.block_core.specs.Roles.{named}
 use Rattle.block_core.proofs.moves.Sums.{below_or}
-use Rattle.block_core.proofs.sound.Facts.{own_of, GoesOn, TaskFits, IsIn, Kept}
+use Rattle.block_core.proofs.sound.Invariant.{own_of, GoesOn, TaskFits, IsIn, Invariant}
 use Rattle.std.specs.Prelude.{All, replicate, zip}
 use Rattle.std.proofs.lemmas.List.{get_or-replicate, length-replicate}
 use Rattle.std.proofs.lemmas.List.Elements.{All-nil, All-cons, All-head, All-tail, All-map, All-append, All-filter, All-get_or}
@@ -89,7 +89,7 @@ begins_in scene (Rescuer dev submission) h = rw (h.1) tt
 begins_in scene (Completer disk carried) h = tt
 begins_in scene (Keeper keeping) h = tt
 
-pub opened_kept : (scene : Scene) (s : State) → IsStartState scene s → Kept scene s
+pub opened_kept : (scene : Scene) (s : State) → IsStartState scene s → Invariant scene s
 opened_kept scene s o = record {
   pools = o.add_up;
   outs = λ p. o.pools p ∙ sym (total_zero scene s (elements_of_pool p) (λ n todos. refl) o);

@@ -1,4 +1,4 @@
--- Each event keeps all facts.
+-- Each event keeps the invariant.
 use Rattle.std.proofs.Common.{◌≡◌, ◌+◌, ◌*◌, ◌<◌, ◌≤◌, ℕ, [], Some, ◌∙◌, ap, arith}
 use Rattle.stack_base.specs.PoolId.{pool_number}
 use Rattle.mempool_core.specs.Facts.{AddsUp}
@@ -10,14 +10,14 @@ use Rattle.run_machine.specs.Runs.{State}
 use Rattle.block_core.proofs.moves.Moves.{Move, Can, after, vector_of}
 use Rattle.block_core.proofs.moves.Moves as moves
 use Rattle.block_core.proofs.moves.Sums.{upd-other}
-use Rattle.block_core.proofs.sound.Facts.{IsIn, Fair, Kept}
+use Rattle.block_core.proofs.sound.Invariant.{IsIn, Fair, Invariant}
 use Rattle.mempool_core.proofs.MoveLemmas.{after_move_adds_up}
 use Rattle.block_core.proofs.sound.Outs.{outs}
 use Rattle.block_core.proofs.sound.Counts.{counts}
 use Rattle.block_core.proofs.sound.Owns.{owns}
 use Rattle.block_core.proofs.sound.TaskSubmissions.{tasks, all-upd}
 
-module _ (scene : Scene) (s : State) (f : Fair scene) (i : Kept scene s) where
+module _ (scene : Scene) (s : State) (f : Fair scene) (i : Invariant scene s) where
   other_book : (writer : ℕ) (b : BookState) → writer < scene.books → (w : ℕ) → scene.books ≤ w → (upd s.objects.book writer b w).nodes ≡ []
   other_book writer b lt w ge = ap (λ (book : BookState). book.nodes) (upd-other s.objects.book writer b w (λ q. omega arith)) ∙ i.inside w ge
 
@@ -79,7 +79,7 @@ module _ (scene : Scene) (s : State) (f : Fair scene) (i : Kept scene s) where
   -- rounds: pools stay as they are
   pools (moves.Started place round later duties) c = i.pools
 
-  pub keeps : (m : Move) → Can scene s m → ((place : ℕ) → IsIn scene.setup ((after scene s m).task place)) → Kept scene (after scene s m)
+  pub keeps : (m : Move) → Can scene s m → ((place : ℕ) → IsIn scene.setup ((after scene s m).task place)) → Invariant scene (after scene s m)
   keeps m c isin = record {
     pools = pools m c;
     outs = outs scene s f i m c;
