@@ -1,8 +1,8 @@
 pub mod Invariant
 pub mod SumParts
-pub mod Outs
+pub mod ElementsOut
 pub mod Counts
-pub mod Owns
+pub mod OwnParts
 pub mod TaskSubmissions
 pub mod InvariantKept
 pub mod DoneOnce
@@ -23,7 +23,7 @@ pub mod OfOneWrite
 pub mod Elements
 pub mod LargestCounts
 pub mod Splitting
-pub mod Lasting
+pub mod RunInduction
 pub mod Misplaced
 pub mod StoodFor
 pub mod Strays

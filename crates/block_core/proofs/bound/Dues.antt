@@ -28,7 +28,7 @@ use Rattle.block_core.proofs.sound.SumParts.{unless}
 use Rattle.block_core.proofs.unrefused.NodeNeeds.{Needs}
 use Rattle.block_core.proofs.images.FragmentCounts.{Divided, worth, legs_none}
 use Rattle.block_core.proofs.images.MasterRecords.{bare_slip}
-use Rattle.block_core.proofs.sound.Owns.{brought}
+use Rattle.block_core.proofs.sound.OwnParts.{brought}
 use Rattle.block_core.proofs.bound.RoleHoldings.{odd_holding}
 
 -- each fragment counts one

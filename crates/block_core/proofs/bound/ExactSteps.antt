@@ -43,7 +43,7 @@ use Rattle.block_core.proofs.sound.Orders.{Ground}
 use Rattle.block_core.proofs.start.InvariantAtStart.{Begins, total_zero, start_opened, todos_all}
 use Rattle.block_core.proofs.moves.Devices.{ground}
 use Rattle.block_core.proofs.sound.EveryRun.{Whole, step_whole, runs_whole, start_whole, run_tallied}
-use Rattle.block_core.proofs.sound.Lasting.{runs_keep}
+use Rattle.block_core.proofs.sound.RunInduction.{runs_keep}
 use Rattle.block_core.proofs.moves.StepMoves.{step_is_move}
 use Rattle.block_core.proofs.unrefused.NodeNeeds.{Needs, needs_known}
 use Rattle.block_core.proofs.images.FragmentCounts.{Divided, divided}

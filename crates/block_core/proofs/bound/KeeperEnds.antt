@@ -22,7 +22,7 @@ use Rattle.block_core.proofs.moves.Devices.{ground}
 use Rattle.block_core.proofs.moves.Moves.{Move, Can, after, HasSubmission, with_submission}
 use Rattle.block_core.proofs.moves.Moves as moves
 use Rattle.block_core.proofs.sound.Invariant.{Fair}
-use Rattle.block_core.proofs.sound.Lasting.{runs_keep}
+use Rattle.block_core.proofs.sound.RunInduction.{runs_keep}
 use Rattle.block_core.proofs.sound.Rounds.{TaskRounds}
 use Rattle.block_core.proofs.sound.TaskSubmissions.{all-upd}
 use Rattle.block_core.proofs.sound.EveryRun.{runs_tallied, start_whole}

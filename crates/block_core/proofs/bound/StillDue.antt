@@ -34,7 +34,7 @@ use Rattle.block_core.proofs.moves.Misfits.{misfits, cut_fits}
 use Rattle.block_core.proofs.images.StillToCome.{over}
 use Rattle.block_core.proofs.bound.TaskCharges.{on_tasks, on_submission, released_charge, all_duties}
 use Rattle.block_core.proofs.images.MasterRecords.{zeros}
-use Rattle.block_core.proofs.sound.Owns.{closing_own}
+use Rattle.block_core.proofs.sound.OwnParts.{closing_own}
 use Rattle.block_core.proofs.bound.RoleHoldings.{odd, odd_holding}
 use Rattle.block_core.proofs.stuck.Idle.{node_part}
 use Rattle.block_core.proofs.bound.Dues.{one_each, bio_due, due, in_hand, IsHad, blind, bare_none, later_due, tells_due, carried_hand, closes_one, lands, copies_due}

@@ -1,4 +1,4 @@
--- Every run of every scenario keeps all facts, and tells no write done twice.
+-- Every run of every scenario keeps the invariant, and tells no write done twice.
 use Rattle.std.proofs.Common.{◌≡◌, ◌+◌, ◌≤◌, ℕ, List, [], ◌∷◌, length, refl, sym, ◌∙◌, ap, subst, arith}
 use Rattle.elem_ledger.specs.Ledger.{LedgerId}
 use Rattle.bio_books.specs.Books.{node_at}

@@ -12,9 +12,9 @@ use Rattle.block_core.proofs.moves.Moves as moves
 use Rattle.block_core.proofs.moves.Sums.{upd-other}
 use Rattle.block_core.proofs.sound.Invariant.{IsIn, Fair, Invariant}
 use Rattle.mempool_core.proofs.MoveLemmas.{after_move_adds_up}
-use Rattle.block_core.proofs.sound.Outs.{outs}
+use Rattle.block_core.proofs.sound.ElementsOut.{outs}
 use Rattle.block_core.proofs.sound.Counts.{counts}
-use Rattle.block_core.proofs.sound.Owns.{owns}
+use Rattle.block_core.proofs.sound.OwnParts.{owns}
 use Rattle.block_core.proofs.sound.TaskSubmissions.{tasks, all-upd}
 
 module _ (scene : Scene) (s : State) (f : Fair scene) (i : Invariant scene s) where

@@ -20,7 +20,7 @@ use Rattle.block_core.proofs.sound.Invariant.{own_of, Fair, Invariant}
 use Rattle.block_core.proofs.start.InvariantAtStart.{Begins, IsStartState, total_zero, start_opened}
 use Rattle.block_core.proofs.moves.Devices.{ground}
 use Rattle.block_core.proofs.sound.EveryRun.{runs_whole, run_tallied, start_whole, start_leveled, none_waits_for_itself}
-use Rattle.block_core.proofs.sound.Lasting.{runs_keep}
+use Rattle.block_core.proofs.sound.RunInduction.{runs_keep}
 use Rattle.block_core.proofs.sound.EachBio.{each_bio, each_copied}
 use Rattle.block_core.proofs.stuck.Idle.{node_part}
 use Rattle.block_core.proofs.sound.Misplaced.{misplaced}

@@ -29,7 +29,7 @@ use Rattle.block_core.proofs.moves.Deltas.{vacant_at, delta}
 use Rattle.block_core.proofs.sound.SumParts.{copies_weight, unless_none, is_away}
 use Rattle.block_core.proofs.moves.BookMaps.{made, became, chained}
 use Rattle.block_core.proofs.moves.SubmissionWeights.{IsBlind, first_weight, goes_weight}
-use Rattle.block_core.proofs.sound.Owns.{brought, told_own, own_some}
+use Rattle.block_core.proofs.sound.OwnParts.{brought, told_own, own_some}
 use Rattle.block_core.proofs.moves.VacantMarks.{no_ref}
 use Rattle.block_core.proofs.sound.Splitting.{IsSumOf, total_sum, IsSameButClosed, total_but}
 use Rattle.block_core.proofs.sound.Misplaced.{ArePlaced, was_after, stays_right}

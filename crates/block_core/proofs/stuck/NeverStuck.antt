@@ -27,7 +27,7 @@ use Rattle.block_core.proofs.unrefused.RoomKept.{run_roomy}
 use Rattle.block_core.proofs.stuck.FreeEvents.{HasNumbers}
 use Rattle.block_core.proofs.stuck.Rescuers.{are_rescued, opened_waits}
 use Rattle.block_core.proofs.stuck.Stuck.{goes_on_or_ended}
-use Rattle.block_core.proofs.stuck.WaitersBelow.{Known}
+use Rattle.block_core.proofs.stuck.WaitersBelow.{WaitInvariant}
 
 -- no counter is above the number of events, and eight
 module _ (scene : Scene) (f : Fair scene) (g : Ground scene.setup) where
@@ -72,7 +72,7 @@ module _ (s : Scenario) (ledger : ℕ → LedgerId) (good : IsScenario s) (namin
       let w = runs_waiting sc fair g (are_rescued s.stack good.stack places rescuers) (start s) events state whole (opened_waits sc (start s) (start_opened s good ledger)) run in
       let long = runs_long sc fair g s.rounds ids keeper (start s) events state whole run ∙ length-map-range_with_len (writes_in s) 0 (round_count s) in
       let none : from_round s.rounds (length state.objects.tally.left) ≡ 0 = ap (from_round s.rounds) long ∙ (from_none s.rounds 0 (round_count s) (omega arith)).1 in
-      let known : Known sc state l.0 = record { ground = g; kept = i.kept; placed = i.placed; waits = w; alive = i.alive; levels = l.1; mins = p.mins } in
+      let known : WaitInvariant sc state l.0 = record { ground = g; kept = i.kept; placed = i.placed; waits = w; alive = i.alive; levels = l.1; mins = p.mins } in
       goes_on_or_ended sc state l.0 known ids keeper p (start_crew s good ledger reserves ordered) s.rounds t none (needs_known s.stack good.stack places) r numbers
 
   -- a run that has ended has no unfinished write

@@ -36,7 +36,7 @@ use Rattle.block_core.proofs.sound.Rounds.{TodosFit, TaskRounds, Tallied}
 use Rattle.block_core.proofs.unrefused.NodeNeeds.{Needs}
 use Rattle.block_core.proofs.sound.Posts.{ByRounds, starts, AtPost, Posted}
 use Rattle.block_core.proofs.stuck.NothingWaits.{IsPool, spares, StillDoing, StillTaken, StillWriter, IsStill, AllStill, some_place, submission_below}
-use Rattle.block_core.proofs.stuck.WaitersBelow.{Known, none_open, all_home, has_spare}
+use Rattle.block_core.proofs.stuck.WaitersBelow.{WaitInvariant, none_open, all_home, has_spare}
 use Rattle.block_core.proofs.stuck.Frees.{task_free}
 use Rattle.block_core.proofs.stuck.FreeEvents.{HasNumbers, free_of}
 
@@ -83,7 +83,7 @@ pub record Crew (ids : ℕ → TaskId) (keeper : ℕ) (scene : Scene) : Type 0 w
   pub disks : (dev : ℕ) → is_disk scene.setup dev ≡ true → (place : ℕ) × (place < scene.tasks) × (ids place ≡ id.Completer (record { 0 = dev }))
   pub keeps : ids keeper ≡ id.Keeper
 
-module _ (scene : Scene) (s : State) (level : ℕ → ℕ → ℕ) (known : Known scene s level) (ids : ℕ → TaskId) (keeper : ℕ) (posted : Posted ids keeper scene s) (crew : Crew ids keeper scene)
+module _ (scene : Scene) (s : State) (level : ℕ → ℕ → ℕ) (known : WaitInvariant scene s level) (ids : ℕ → TaskId) (keeper : ℕ) (posted : Posted ids keeper scene s) (crew : Crew ids keeper scene)
     (rounds : List ℕ) (tallied : Tallied rounds keeper scene s) (no_more : from_round rounds (length s.objects.tally.left) ≡ 0)
     (n : Needs scene.setup) (r : HasRoomInBooks scene s) (numbers : HasNumbers s) where
   abbrev setup : Setup

@@ -28,7 +28,7 @@ use Rattle.block_core.proofs.stuck.Waits.{DoingWaits, TaskWaits, Waits}
 use Rattle.block_core.proofs.stuck.NothingWaits.{IsPool, spares, StillDoing, StillWriter, StillRescuer, IsStill, AllStill, Below, lower, some_place, some_one, one-eq, both, Found, submission_found, submission_below}
 
 -- what holds of a state of a run, so far as no task waits for itself
-pub record Known (scene : Scene) (s : State) (level : ℕ → ℕ → ℕ) : Type 0 where
+pub record WaitInvariant (scene : Scene) (s : State) (level : ℕ → ℕ → ℕ) : Type 0 where
   pub ground : Ground scene.setup
   pub kept : Invariant scene s
   pub placed : Placed scene.setup s
@@ -38,7 +38,7 @@ pub record Known (scene : Scene) (s : State) (level : ℕ → ℕ → ℕ) : Typ
   -- each pool that a task can wait at keeps an element
   pub mins : (number : ℕ) → IsPool scene.setup number → 1 ≤ (s.objects.pool number).facts.min
 
-module _ (scene : Scene) (s : State) (level : ℕ → ℕ → ℕ) (known : Known scene s level) (c : AllStill scene s) where
+module _ (scene : Scene) (s : State) (level : ℕ → ℕ → ℕ) (known : WaitInvariant scene s level) (c : AllStill scene s) where
   abbrev setup : Setup
   setup = scene.setup
 
