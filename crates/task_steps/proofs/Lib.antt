@@ -6,7 +6,7 @@ pub mod Fits
 pub mod TaskStays
 pub mod RouteOf
 pub mod Opening
-pub mod Parts
+pub mod PartsWithin
 pub mod SubmissionHomes
 pub mod TaskHomes
 pub mod KeeperLemmas

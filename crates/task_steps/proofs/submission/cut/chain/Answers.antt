@@ -1,7 +1,7 @@
 use Rattle.std.proofs.Common.{rules}
 use Rattle.bio_records.specs.Items.{item_of}
 use Rattle.task_steps.specs.Routed.{routing_setup}
-use Rattle.task_steps.proofs.Parts.{both_within}
+use Rattle.task_steps.proofs.PartsWithin.{both_within}
 use Rattle.task_steps.proofs.submission.cut.chain.Goals as goal
 
 -- both parts are within their devices

@@ -1,5 +1,5 @@
 use Rattle.bio_records.specs.Items.{item_of}
-use Rattle.task_steps.proofs.Parts.{one_within}
+use Rattle.task_steps.proofs.PartsWithin.{one_within}
 use Rattle.task_steps.proofs.submission.mirror.leg.Goals as goal
 
 -- the leg is within its member
