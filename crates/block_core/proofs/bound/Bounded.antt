@@ -16,8 +16,8 @@ use Rattle.block_core.proofs.moves.PaidKinds.{kind_of}
 use Rattle.block_core.proofs.sound.Misplaced.{was_after}
 use Rattle.block_core.proofs.sound.Splitting.{total_like}
 use Rattle.block_core.proofs.sound.StoodFor.{closed_so}
-use Rattle.block_core.proofs.sound.Invariant.{Fair}
-use Rattle.block_core.proofs.sound.Orders.{Ground}
+use Rattle.block_core.proofs.sound.Invariant.{LedgersAreNumbered}
+use Rattle.block_core.proofs.sound.Orders.{DeviceGeometry}
 use Rattle.block_core.proofs.moves.Devices.{ground}
 use Rattle.block_core.proofs.moves.StepMoves.{step_is_move}
 use Rattle.block_core.proofs.bound.DeviceCharges.{Priced, priced}
@@ -50,7 +50,7 @@ one_price was_master scene s =
     by_kind true (Some parent) = refl
     by_kind false (Some parent) = refl
 
-module _ (scene : Scene) (f : Fair scene) (g : Ground scene.setup) (p : (price : Paid → ℕ) → Priced price scene.setup) where
+module _ (scene : Scene) (f : LedgersAreNumbered scene) (g : DeviceGeometry scene.setup) (p : (price : Paid → ℕ) → Priced price scene.setup) where
   -- one event
   step_costs : (price : Paid → ℕ) (was_master : ℕ → Bool) (s : State) (place : ℕ) (event : Event) (new : State) → Whole scene s → Steps scene s place event new
       → price (paid_as (end_told (was_master place) (s.task place)) event.what) + charged price (masters_after s place (touch_of event.what) was_master) scene new + spent_charges price scene s
@@ -94,8 +94,8 @@ module _ (scene : Scene) (f : Fair scene) (g : Ground scene.setup) (p : (price :
       )
 
 module _ (s : Scenario) (ledger : ℕ → LedgerId) (good : IsScenario s) (naming : IsNaming ledger) where
-  fair : Fair (scene s ledger)
-  fair = record { named = naming }
+  numbered : LedgersAreNumbered (scene s ledger)
+  numbered = record { named = naming }
 
   run_uses_up : (before later : List Event) (old new : State) → IsRun (scene s ledger) (start s) before old → (run : IsRun (scene s ledger) old later new)
       → (price : Paid → ℕ) (was_master : ℕ → Bool)
@@ -104,9 +104,9 @@ module _ (s : Scenario) (ledger : ℕ → LedgerId) (good : IsScenario s) (namin
   run_uses_up before later old new first run price was_master =
       let g = ground s.stack good.stack (setup_in s).places in
       let p : (price : Paid → ℕ) → Priced price (setup_in s) = λ price. priced price s.stack good.stack (setup_in s).places in
-      let i = runs_whole (scene s ledger) fair g (start s) before old (start_whole s ledger good naming) first in
-      let j = runs_whole (scene s ledger) fair g old later new i run in
-      runs_use_up (scene s ledger) fair g p price was_master old later new i j run
+      let i = runs_whole (scene s ledger) numbered g (start s) before old (start_whole s ledger good naming) first in
+      let j = runs_whole (scene s ledger) numbered g old later new i run in
+      runs_use_up (scene s ledger) numbered g p price was_master old later new i j run
 
   run_lowers : (before later : List Event) (old new : State) → IsRun (scene s ledger) (start s) before old → IsRun (scene s ledger) old later new
       → length later + state_rank (scene s ledger) new ≤ state_rank (scene s ledger) old
@@ -122,7 +122,7 @@ module _ (s : Scenario) (ledger : ℕ → LedgerId) (good : IsScenario s) (namin
       → spent_charges price (scene s ledger) state ≤ charged price was_master (scene s ledger) state
   run_covers events state run price was_master =
       let g = ground s.stack good.stack (setup_in s).places in
-      let j = runs_whole (scene s ledger) fair g (start s) events state (start_whole s ledger good naming) run in
+      let j = runs_whole (scene s ledger) numbered g (start s) events state (start_whole s ledger good naming) run in
       covers price was_master (scene s ledger) state (priced price s.stack good.stack (setup_in s).places) j.kept j.placed
 
   run_bounded : (events : List Event) (state : State) → IsRun (scene s ledger) (start s) events state → length events ≤ most_steps s
@@ -135,10 +135,10 @@ module _ (s : Scenario) (ledger : ℕ → LedgerId) (good : IsScenario s) (namin
       let i = start_whole s ledger good naming in
       let g = ground s.stack good.stack (setup_in s).places in
       let p : (price : Paid → ℕ) → Priced price (setup_in s) = λ price. priced price s.stack good.stack (setup_in s).places in
-      let j = runs_whole (scene s ledger) fair g (start s) events state i run in
+      let j = runs_whole (scene s ledger) numbered g (start s) events state i run in
       omega (
         arith,
-        runs_cost (scene s ledger) fair g p price none_was (start s) events state i run,
+        runs_cost (scene s ledger) numbered g p price none_was (start s) events state i run,
         covers price (were_masters (scene s ledger) (start s) events state run none_was) (scene s ledger) state (p price) j.kept j.placed,
         start_charge s good ledger price,
         start_spent s good ledger price,

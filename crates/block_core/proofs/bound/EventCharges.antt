@@ -31,7 +31,7 @@ use Rattle.block_core.proofs.moves.Sums.{upd-same, upd-other}
 use Rattle.block_core.proofs.sound.Misplaced.{was_after}
 use Rattle.block_core.proofs.sound.Splitting.{IsSameButClosed, total_but}
 use Rattle.block_core.proofs.sound.Invariant.{TaskFits, Invariant}
-use Rattle.block_core.proofs.sound.Orders.{IsOwn, AskFits, TodoThere, TaskPlaced, Placed, Ground}
+use Rattle.block_core.proofs.sound.Orders.{IsOwn, AskFits, TodoThere, TaskPlaced, Placed, DeviceGeometry}
 use Rattle.block_core.proofs.bound.TaskCharges.{charge_lands, copies_charge, pops_once, pops_not, punts_charge, later_charge, takes_spent, want_spends, new_spends, wants_below, on_tasks, on_submission, tells_charge, later_give, released_price}
 use Rattle.block_core.proofs.bound.PoolPayers.{is_write_bio, is_write_vector, is_piece_bio, is_record, leg_bio}
 use Rattle.block_core.proofs.bound.DeviceCharges.{Priced, leaf_charge, mirror_charge, legs_next}
@@ -51,7 +51,7 @@ costs_less each old new le = mul-le-mul_left each le
 costs_one : (each old new : ℕ) → new + 1 ≤ old → each * new + each ≤ each * old
 costs_one each old new le = let all : each * (new + 1) ≤ each * old = mul-le-mul_left each le in omega (arith, all, mul-add each new 1)
 
-module _ (price : Paid → ℕ) (was_master : ℕ → Bool) (scene : Scene) (s : State) (g : Ground scene.setup) (p : Priced price scene.setup) (i : Invariant scene s) (a : Placed scene.setup s) where
+module _ (price : Paid → ℕ) (was_master : ℕ → Bool) (scene : Scene) (s : State) (g : DeviceGeometry scene.setup) (p : Priced price scene.setup) (i : Invariant scene s) (a : Placed scene.setup s) where
   abbrev w : Weight
   w = charge price was_master scene.setup
 

@@ -38,8 +38,8 @@ use Rattle.block_core.specs.Fragments.{todo_fragments, HasNone, NothingComes}
 use Rattle.block_core.specs.Rounds.{round_of, is_of_round, tops_left, unfinished_of}
 use Rattle.block_core.specs.Scenarios.{IsScenario, IsNaming}
 use Rattle.block_core.proofs.stuck.Idle.{sum_none}
-use Rattle.block_core.proofs.sound.Invariant.{Fair, Invariant}
-use Rattle.block_core.proofs.sound.Orders.{Ground}
+use Rattle.block_core.proofs.sound.Invariant.{LedgersAreNumbered, Invariant}
+use Rattle.block_core.proofs.sound.Orders.{DeviceGeometry}
 use Rattle.block_core.proofs.start.InvariantAtStart.{Begins, total_zero, start_opened, todos_all}
 use Rattle.block_core.proofs.moves.Devices.{ground}
 use Rattle.block_core.proofs.sound.EveryRun.{Whole, step_whole, runs_whole, start_whole, run_tallied}
@@ -66,14 +66,14 @@ use Rattle.block_core.proofs.bound.KeeperEnds.{no_duties_left}
 use Rattle.layout_model.proofs.RangeSums.{sum_of_zero, sum_of_one}
 
 -- all that a state is known to have
-pub record Exactly (scene : Scene) (s : State) : Type 0 where
+pub record ExactInvariant (scene : Scene) (s : State) : Type 0 where
   pub whole : Whole scene s
   pub counted : total_weight scene (misfits over) s ≡ 0
   pub held : total_weight scene odd s ≡ 0
   pub none : NonePunts s
 
-module _ (scene : Scene) (f : Fair scene) (g : Ground scene.setup) (p : Needs scene.setup) (v : Divided scene.setup one_each) where
-  pub runs_take : (s : State) (events : List Event) (new : State) → Exactly scene s → IsRun scene s events new → NoneMissed events
+module _ (scene : Scene) (f : LedgersAreNumbered scene) (g : DeviceGeometry scene.setup) (p : Needs scene.setup) (v : Divided scene.setup one_each) where
+  pub runs_take : (s : State) (events : List Event) (new : State) → ExactInvariant scene s → IsRun scene s events new → NoneMissed events
       → length events + total_weight scene (due scene.setup) new + total_weight scene in_hand s + duties_left scene new
       ≡ total_weight scene (due scene.setup) s + total_weight scene in_hand new + duties_left scene s
   runs_take s [] new e run all =
@@ -84,7 +84,7 @@ module _ (scene : Scene) (f : Fair scene) (g : Ground scene.setup) (p : Needs sc
       let no_miss : is_miss event.what ≡ false = All-head (λ (event : Event). is_miss event.what ≡ false) event events all in
       let h = had scene s e.none place event next steps no_miss moved.move moved.can moved.is moved.at in
       let one_less = takes_one scene s f g p v i.kept i.placed e.counted e.held moved.move moved.can h in
-      let after_is : Exactly scene next = record {
+      let after_is : ExactInvariant scene next = record {
         whole = step_whole scene f g s place event next i steps;
         counted = ap (total_weight scene (misfits over)) moved.is ∙ no_misfits over over_follows scene s i.kept e.counted moved.move moved.can;
         held = ap (total_weight scene odd) moved.is ∙ none_odd scene s i.kept e.held moved.move moved.can;
@@ -175,7 +175,7 @@ module _ (s : Scenario) (good : IsScenario s) (ledger : ℕ → LedgerId) where
       keeper_duties [] = refl
       keeper_duties (duty ∷ ds) = omega arith
 
-  start_exactly : IsNaming ledger → Exactly (scene s ledger) (start s)
+  start_exactly : IsNaming ledger → ExactInvariant (scene s ledger) (start s)
   start_exactly naming =
       let o = start_opened s good ledger in
       record {
@@ -275,7 +275,7 @@ module _ (scene : Scene) (s : State) (i : Invariant scene s) (held : total_weigh
 pub steps_without_misses : StepsWithoutMisses
 steps_without_misses s ledger events state good naming run ended all =
     let sc = scene s ledger in
-    let f : Fair sc = record { named = naming } in
+    let f : LedgersAreNumbered sc = record { named = naming } in
     let places = (setup_in s).places in
     let g = ground s.stack good.stack places in
     let first = start_exactly s good ledger naming in
@@ -296,5 +296,5 @@ steps_without_misses s ledger events state good naming run ended all =
       no_duties_left s good ledger naming events state run ended.writes,
     )
   where
-    runs_odd : (sc : Scene) → Fair sc → Ground sc.setup → (st : State) (events : List Event) (new : State) → Whole sc st → total_weight sc odd st ≡ 0 → IsRun sc st events new → total_weight sc odd new ≡ 0
+    runs_odd : (sc : Scene) → LedgersAreNumbered sc → DeviceGeometry sc.setup → (st : State) (events : List Event) (new : State) → Whole sc st → total_weight sc odd st ≡ 0 → IsRun sc st events new → total_weight sc odd new ≡ 0
     runs_odd sc f g st events new i none run = runs_keep sc f g (λ x. total_weight sc odd x ≡ 0) (λ old m before after can none. none_odd sc old before.kept none m can) st events new i none run

@@ -21,7 +21,7 @@ use Rattle.block_core.proofs.moves.Sums.{below_or}
 use Rattle.block_core.proofs.moves.Devices.{ground}
 use Rattle.block_core.proofs.moves.Moves.{Move, Can, after, HasSubmission, with_submission}
 use Rattle.block_core.proofs.moves.Moves as moves
-use Rattle.block_core.proofs.sound.Invariant.{Fair}
+use Rattle.block_core.proofs.sound.Invariant.{LedgersAreNumbered}
 use Rattle.block_core.proofs.sound.RunInduction.{runs_keep}
 use Rattle.block_core.proofs.sound.Rounds.{TaskRounds}
 use Rattle.block_core.proofs.sound.TaskSubmissions.{all-upd}
@@ -149,12 +149,12 @@ module _ (s : Scenario) (good : IsScenario s) (ledger : ℕ → LedgerId) where
       → duties_left (scene s ledger) state ≡ 0
   no_duties_left naming events state run none =
       let sc = scene s ledger in
-      let fair : Fair sc = record { named = naming } in
+      let numbered : LedgersAreNumbered sc = record { named = naming } in
       let g = ground s.stack good.stack (setup_in s).places in
       let begun = start_whole s ledger good naming in
       let keeper = keeper_place s good ledger in
-      let t = runs_tallied sc fair g s.rounds keeper (start s) events state begun (start_tallied s good ledger) run in
-      let later = runs_keep sc fair g (λ st. (place : ℕ) → KeepsLater (st.task place)) (λ old m before after can held. stays_later sc old held m can) (start s) events state begun start_later run in
+      let t = runs_tallied sc numbered g s.rounds keeper (start s) events state begun (start_tallied s good ledger) run in
+      let later = runs_keep sc numbered g (λ st. (place : ℕ) → KeepsLater (st.task place)) (λ old m before after can held. stays_later sc old held m can) (start s) events state begun start_later run in
       let sums = t.tally.sums in
       let behind : from_round s.rounds (state.objects.tally.round + 1) ≡ 0 = omega (arith, none, sums) in
       sum_at-zero (λ place task. task_duties task) sc.tasks state.task (λ place. by_task keeper place (state.task place) behind (t.tasks place) (later place))

@@ -21,8 +21,8 @@ use Rattle.block_core.specs.Fragments.{leg_fragments}
 use Rattle.block_core.proofs.moves.Moves.{Move, Can, after, limit_of, with_want, filled_of, cut_lists}
 use Rattle.block_core.proofs.moves.Moves as moves
 use Rattle.block_core.proofs.moves.Deltas.{delta}
-use Rattle.block_core.proofs.sound.Invariant.{TaskFits, Fair, Invariant}
-use Rattle.block_core.proofs.sound.Orders.{AskFits, TaskPlaced, Placed, Ground}
+use Rattle.block_core.proofs.sound.Invariant.{TaskFits, LedgersAreNumbered, Invariant}
+use Rattle.block_core.proofs.sound.Orders.{AskFits, TaskPlaced, Placed, DeviceGeometry}
 use Rattle.block_core.proofs.sound.OrdersKept.{placed_at}
 use Rattle.block_core.proofs.sound.TaskSubmissions.{submission_fits}
 use Rattle.block_core.proofs.moves.SubmissionWeights.{first_weight, goes_weight}
@@ -39,7 +39,7 @@ use Rattle.block_core.proofs.bound.RoleHoldings.{odd, odd_holding}
 use Rattle.block_core.proofs.stuck.Idle.{node_part}
 use Rattle.block_core.proofs.bound.Dues.{one_each, bio_due, due, in_hand, IsHad, blind, bare_none, later_due, tells_due, carried_hand, closes_one, lands, copies_due}
 
-module _ (scene : Scene) (s : State) (f : Fair scene) (g : Ground scene.setup) (p : Needs scene.setup) (v : Divided scene.setup one_each) (i : Invariant scene s) (a : Placed scene.setup s)
+module _ (scene : Scene) (s : State) (f : LedgersAreNumbered scene) (g : DeviceGeometry scene.setup) (p : Needs scene.setup) (v : Divided scene.setup one_each) (i : Invariant scene s) (a : Placed scene.setup s)
     (counted : total_weight scene (misfits over) s ≡ 0) (held : total_weight scene odd s ≡ 0) where
   abbrev w : Weight
   w = due scene.setup

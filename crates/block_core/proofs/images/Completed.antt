@@ -17,8 +17,8 @@ use Rattle.run_machine.specs.Runs.{State, IsRun}
 use Rattle.block_core.specs.Weights.{total_weight}
 use Rattle.block_core.specs.Scenarios.{IsScenario}
 use Rattle.block_core.specs.Fragments.{todo_fragments, to_come, completed_by, completed, planned, FragmentsAddUp}
-use Rattle.block_core.proofs.sound.Invariant.{Fair}
-use Rattle.block_core.proofs.sound.Orders.{Ground}
+use Rattle.block_core.proofs.sound.Invariant.{LedgersAreNumbered}
+use Rattle.block_core.proofs.sound.Orders.{DeviceGeometry}
 use Rattle.block_core.proofs.moves.Devices.{ground}
 use Rattle.block_core.proofs.start.InvariantAtStart.{todos_all}
 use Rattle.block_core.proofs.start.StartTotals.{flat_sum, all_sum, opened_total}
@@ -60,7 +60,7 @@ module _ (s : Scenario) (good : IsScenario s) (ledger : ℕ → LedgerId) where
       opened_total s good ledger (to_come (setup_in s) value) (λ todo. sum_by value (todo_fragments (setup_in s) todo)) (λ n ts. refl)
       ∙ sym (flat_sum value (todo_fragments (setup_in s)) (todos s))
 
-module _ (scene : Scene) (f : Fair scene) (g : Ground scene.setup) (value : Fragment → ℕ) (v : Divided scene.setup value) where
+module _ (scene : Scene) (f : LedgersAreNumbered scene) (g : DeviceGeometry scene.setup) (value : Fragment → ℕ) (v : Divided scene.setup value) where
   pub runs_come : (s : State) (events : List Event) (new : State) → Whole scene s → total_weight scene (misfits over) s ≡ 0 → (run : IsRun scene s events new)
       → sum_by value (completed scene s events new run) + total_weight scene (to_come scene.setup value) new ≡ total_weight scene (to_come scene.setup value) s
   runs_come s [] new i counted run = let same = ap (total_weight scene (to_come scene.setup value)) run in omega (arith, same)
@@ -80,7 +80,7 @@ module _ (scene : Scene) (f : Fair scene) (g : Ground scene.setup) (value : Frag
 
 pub fragments_add_up : FragmentsAddUp
 fragments_add_up s ledger events state good naming run value =
-    let f : Fair (scene s ledger) = record { named = naming } in
+    let f : LedgersAreNumbered (scene s ledger) = record { named = naming } in
     let places = (setup_in s).places in
     runs_come (scene s ledger) f (ground s.stack good.stack places) value (divided s.stack good.stack places value) (start s) events state (start_whole s ledger good naming) (start_counted s good ledger) run
     ∙ start_comes s good ledger value

@@ -32,7 +32,7 @@ use Rattle.block_core.specs.Fragments.{offset_of, fragment_of, leg_fragments, to
 use Rattle.block_core.proofs.sound.Strays.{strays}
 use Rattle.block_core.specs.DoneWrites.{DoneIsCompleted}
 use Rattle.block_core.proofs.moves.Sums.{one-same}
-use Rattle.block_core.proofs.sound.Invariant.{Fair, Invariant}
+use Rattle.block_core.proofs.sound.Invariant.{LedgersAreNumbered, Invariant}
 use Rattle.block_core.proofs.moves.SumsCompared.{under_in_all}
 use Rattle.block_core.proofs.stuck.Idle.{GoesDown, open_at, node_part}
 use Rattle.block_core.proofs.unrefused.Resizes.{goes_down}
@@ -44,7 +44,7 @@ use Rattle.block_core.proofs.sound.EveryRun.{Whole, runs_whole, start_whole, run
 use Rattle.block_core.proofs.sound.OfOneWrite.{runs_of_one_write, start_of_one_write, node_write}
 use Rattle.block_core.proofs.images.Ancestors.{of_node, of_named}
 use Rattle.block_core.proofs.images.FragmentCounts.{divided}
-use Rattle.block_core.proofs.sound.Orders.{Ground}
+use Rattle.block_core.proofs.sound.Orders.{DeviceGeometry}
 use Rattle.block_core.proofs.moves.StepMoves.{step_is_move}
 use Rattle.block_core.proofs.moves.Misfits.{Follows, misfits, no_misfits}
 use Rattle.block_core.proofs.images.StillToCome.{over}
@@ -145,7 +145,7 @@ module _ (w : ℕ) (value : Fragment → ℕ) (other : (f : Fragment) → f.writ
             legs_none scene.setup bio (range_with_len leg (legs_left scene.setup bio leg)) ne
 
 -- no bio of a run becomes a misfit
-module _ (scene : Scene) (f : Fair scene) (g : Ground scene.setup) (bad : Bio → ℕ) (follows : Follows bad) where
+module _ (scene : Scene) (f : LedgersAreNumbered scene) (g : DeviceGeometry scene.setup) (bad : Bio → ℕ) (follows : Follows bad) where
   pub runs_fit : (s : State) (events : List Event) (new : State) → Whole scene s → total_weight scene (misfits bad) s ≡ 0 → IsRun scene s events new → total_weight scene (misfits bad) new ≡ 0
   runs_fit s [] new i none run = ap (total_weight scene (misfits bad)) run ∙ none
   runs_fit s (event ∷ events) new i none (next, (place, steps), run) =
@@ -167,7 +167,7 @@ module _ (s : Scenario) (ledger : ℕ → LedgerId) (events : List Event) (state
   -- behind the event the write is done
   all_done : total_weight sc (stage w) new ≡ 0
   all_done =
-      let f : Fair sc = record { named = naming } in
+      let f : LedgersAreNumbered sc = record { named = naming } in
       let g = ground s.stack good.stack (setup_in s).places in
       let begun = start_whole s ledger good naming in
       let i = runs_whole sc f g (start s) events state begun run in
@@ -184,7 +184,7 @@ module _ (s : Scenario) (ledger : ℕ → LedgerId) (events : List Event) (state
   pub none_left : (value : Fragment → ℕ) → ((f : Fragment) → f.write ≢ w → value f ≡ 0) → total_weight sc (to_come sc.setup value) state ≡ 0
   none_left value other =
       let places = (setup_in s).places in
-      let f : Fair sc = record { named = naming } in
+      let f : LedgersAreNumbered sc = record { named = naming } in
       let g = ground s.stack good.stack places in
       let v = divided s.stack good.stack places value in
       let begun = start_whole s ledger good naming in

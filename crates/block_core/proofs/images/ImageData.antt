@@ -41,9 +41,9 @@ use Rattle.block_core.proofs.moves.Totals.{part_of}
 use Rattle.block_core.proofs.moves.Moves.{Move, Can, after, limit_of}
 use Rattle.block_core.proofs.moves.Moves as moves
 use Rattle.block_core.proofs.moves.Geometry.{IsThere}
-use Rattle.block_core.proofs.sound.Orders.{DoingPlaced, Placed, Ground}
+use Rattle.block_core.proofs.sound.Orders.{DoingPlaced, Placed, DeviceGeometry}
 use Rattle.block_core.proofs.sound.OrdersKept.{placed_at}
-use Rattle.block_core.proofs.sound.Invariant.{Fair}
+use Rattle.block_core.proofs.sound.Invariant.{LedgersAreNumbered}
 use Rattle.block_core.proofs.moves.StepMoves.{step_is_move}
 use Rattle.block_core.proofs.sound.EveryRun.{Whole, runs_whole, start_whole}
 use Rattle.block_core.proofs.moves.Devices.{ground}
@@ -252,7 +252,7 @@ held_joined : (s : Scenario) (number x : ℕ) (first second : List Fragment) (he
 held_joined s number x [] second held = refl
 held_joined s number x (f ∷ first) second held = held_joined s number x first second (put s number x f held)
 
-module _ (s : Scenario) (ledger : ℕ → LedgerId) (f : Fair (scene s ledger)) (g : Ground (setup_in s)) where
+module _ (s : Scenario) (ledger : ℕ → LedgerId) (f : LedgersAreNumbered (scene s ledger)) (g : DeviceGeometry (setup_in s)) where
   pub runs_own : (st : State) (events : List Event) (new : State) → Whole (scene s ledger) st → ((number : ℕ) → IsOwn s number (st.objects.disk number))
       → IsRun (scene s ledger) st events new → (number : ℕ) → IsOwn s number (new.objects.disk number)
   runs_own st [] new i own run number = subst (λ (t : State). IsOwn s number (t.objects.disk number)) (sym run) (own number)
@@ -303,7 +303,7 @@ module _ (s : Scenario) (ledger : ℕ → LedgerId) (good : IsScenario s) where
 
 pub images_are_of_completed : ImagesAreOfCompleted
 images_are_of_completed s ledger events state good naming run number x lt =
-    let f : Fair (scene s ledger) = record { named = naming } in
+    let f : LedgersAreNumbered (scene s ledger) = record { named = naming } in
     let g = ground s.stack good.stack (setup_in s).places in
     runs_hold s ledger f g (start s) events state (start_whole s ledger good naming) (start_fits s ledger good) (start_own s ledger good) run number x
     ∙ ap (held_after s number x (completed (scene s ledger) (start s) events state run)) (get_or-replicate (size (tree s.stack number)) x zero_sector [] lt)

@@ -7,7 +7,7 @@ use Rattle.layout_model.proofs.OneWay.{one_way_a_round}
 use Rattle.run_machine.specs.Tasks.{Todo}
 use Rattle.run_machine.specs.Opened.{scene, start, todos, setup as setup_in}
 use Rattle.block_core.specs.Images.{OneFragmentASectorARound, ImagesAreLaidOut}
-use Rattle.block_core.proofs.sound.Invariant.{Fair}
+use Rattle.block_core.proofs.sound.Invariant.{LedgersAreNumbered}
 use Rattle.block_core.proofs.moves.Devices.{ground}
 use Rattle.block_core.proofs.sound.EveryRun.{start_whole}
 use Rattle.block_core.proofs.images.BioData.{own_writes}
@@ -32,7 +32,7 @@ one_fragment_a_sector_a_round s good apart disk at f g of_f of_g writes_f writes
 
 pub images_are_laid_out : ImagesAreLaidOut
 images_are_laid_out s ledger events state good apart naming run ended =
-    let f : Fair (scene s ledger) = record { named = naming } in
+    let f : LedgersAreNumbered (scene s ledger) = record { named = naming } in
     let g = ground s.stack good.stack (setup_in s).places in
     let own = runs_own s ledger f g (start s) events state (start_whole s ledger good naming) (start_own s ledger good) run in
     let none = (nothing_comes_where_ended s ledger events state good naming run ended).1 in

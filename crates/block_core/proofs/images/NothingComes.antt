@@ -26,8 +26,8 @@ use Rattle.layout_model.proofs.RangeSums.{sum_of_zero}
 use Rattle.run_machine.specs.declared.event.Event.{Event}
 use Rattle.run_machine.specs.Opened.{scene as opened_scene, start, todos, setup as setup_in}
 use Rattle.run_machine.specs.Runs.{IsRun}
-use Rattle.block_core.proofs.sound.Invariant.{Fair}
-use Rattle.block_core.proofs.sound.Orders.{Ground}
+use Rattle.block_core.proofs.sound.Invariant.{LedgersAreNumbered}
+use Rattle.block_core.proofs.sound.Orders.{DeviceGeometry}
 use Rattle.block_core.proofs.moves.Devices.{ground}
 use Rattle.block_core.proofs.moves.StepMoves.{step_is_move}
 use Rattle.block_core.proofs.sound.EveryRun.{Whole, runs_whole, start_whole}
@@ -179,7 +179,7 @@ module _ (scene : Scene) (s : State) (i : Invariant scene s) (slips : total_weig
     pending = disk_home;
   }
 
-module _ (scene : Scene) (f : Fair scene) (g : Ground scene.setup) where
+module _ (scene : Scene) (f : LedgersAreNumbered scene) (g : DeviceGeometry scene.setup) where
   runs_hold_slips : (s : State) (events : List Event) (new : State) → Whole scene s → total_weight scene bare s ≡ 0 → IsRun scene s events new → total_weight scene bare new ≡ 0
   runs_hold_slips s [] new i none run = ap (total_weight scene bare) run ∙ none
   runs_hold_slips s (event ∷ events) new i none (next, (place, steps), run) =
@@ -189,7 +189,7 @@ module _ (scene : Scene) (f : Fair scene) (g : Ground scene.setup) where
 
 pub nothing_comes_where_all_is_home : NothingComesWhereAllIsHome
 nothing_comes_where_all_is_home s ledger events state good naming run home =
-    let f : Fair (opened_scene s ledger) = record { named = naming } in
+    let f : LedgersAreNumbered (opened_scene s ledger) = record { named = naming } in
     let g = ground s.stack good.stack (setup_in s).places in
     let i = start_whole s ledger good naming in
     let opened = opened_total s good ledger bare (λ todo. 0) (λ n ts. sym (sum_of_zero ts)) ∙ sum_of_zero (todos s) in

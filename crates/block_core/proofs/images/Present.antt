@@ -12,7 +12,7 @@ use Rattle.block_core.specs.Weights.{one}
 use Rattle.block_core.specs.Rounds.{round_of, is_of_round, tops, tops_left, unfinished_of, begun_of}
 use Rattle.block_core.specs.Present.{IsOfPresent, WorkIsPresent}
 use Rattle.block_core.proofs.moves.Sums.{one-same}
-use Rattle.block_core.proofs.sound.Invariant.{Fair, Invariant}
+use Rattle.block_core.proofs.sound.Invariant.{LedgersAreNumbered, Invariant}
 use Rattle.block_core.proofs.sound.EventStages.{top_is}
 use Rattle.block_core.proofs.sound.Rounds.{Tallied}
 use Rattle.block_core.proofs.start.TallyAtStart.{keeper_place, start_tallied}
@@ -59,7 +59,7 @@ carried_present rounds keeper scene s t place disk writer closed here is top = b
 
 pub work_is_present : WorkIsPresent
 work_is_present s ledger events state good naming run =
-    let f : Fair (scene s ledger) = record { named = naming } in
+    let f : LedgersAreNumbered (scene s ledger) = record { named = naming } in
     let g = ground s.stack good.stack (setup_in s).places in
     let begun = start_whole s ledger good naming in
     let keeper = keeper_place s good ledger in

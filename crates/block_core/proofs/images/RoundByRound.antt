@@ -19,8 +19,8 @@ use Rattle.block_core.specs.Images.{round_at, RoundsComeInOrder}
 use Rattle.block_core.specs.Present.{IsOfPresent}
 use Rattle.block_core.proofs.moves.Moves.{Move, Can, after}
 use Rattle.block_core.proofs.moves.Moves as moves
-use Rattle.block_core.proofs.sound.Invariant.{Fair}
-use Rattle.block_core.proofs.sound.Orders.{Ground}
+use Rattle.block_core.proofs.sound.Invariant.{LedgersAreNumbered}
+use Rattle.block_core.proofs.sound.Orders.{DeviceGeometry}
 use Rattle.block_core.proofs.moves.Devices.{ground}
 use Rattle.block_core.proofs.start.InvariantAtStart.{all_map}
 use Rattle.block_core.proofs.moves.StepMoves.{step_is_move}
@@ -60,7 +60,7 @@ no_pairs R i j d lt within = absurd (omega (arith, within))
 one_pairs : (R : Fragment → Fragment → Type 0) (f : Fragment) → AllPairs R (f ∷ [])
 one_pairs R f i j d lt within = absurd (omega (arith, lt, within))
 
-module _ (s : Scenario) (ledger : ℕ → LedgerId) (f : Fair (scene s ledger)) (g : Ground (setup_in s)) where
+module _ (s : Scenario) (ledger : ℕ → LedgerId) (f : LedgersAreNumbered (scene s ledger)) (g : DeviceGeometry (setup_in s)) where
   abbrev here : Scene
   here = scene s ledger
 
@@ -107,7 +107,7 @@ module _ (s : Scenario) (ledger : ℕ → LedgerId) (f : Fair (scene s ledger)) 
 
 pub rounds_come_in_order : RoundsComeInOrder
 rounds_come_in_order s ledger events state good naming run =
-    let f : Fair (scene s ledger) = record { named = naming } in
+    let f : LedgersAreNumbered (scene s ledger) = record { named = naming } in
     let g = ground s.stack good.stack (setup_in s).places in
     (runs_rise s ledger f g (start s) events state (start_whole s ledger good naming) run
     (λ before between r. (work_is_present s ledger before between good naming r).bios.pending)).1

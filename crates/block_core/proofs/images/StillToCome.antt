@@ -25,7 +25,7 @@ use Rattle.block_core.proofs.sound.SumParts.{cut_weight, unless}
 use Rattle.block_core.proofs.moves.Deltas.{delta}
 use Rattle.block_core.proofs.sound.Invariant.{TaskFits, Invariant}
 use Rattle.block_core.proofs.sound.TaskSubmissions.{submission_fits}
-use Rattle.block_core.proofs.sound.Orders.{IsOwn, TaskPlaced, Placed, Ground}
+use Rattle.block_core.proofs.sound.Orders.{IsOwn, TaskPlaced, Placed, DeviceGeometry}
 use Rattle.block_core.proofs.sound.OrdersKept.{placed_at}
 use Rattle.block_core.proofs.images.FragmentCounts.{IsCounted, Divided, mirror_worth, legs_next, legs_none}
 use Rattle.block_core.proofs.moves.Misfits.{misfits, cut_fits}
@@ -73,7 +73,7 @@ carried_none setup value task (Brings bio status) = refl
 carried_none setup value task (Carries writer closed) = refl
 carried_none setup value task (Fails breach kept) = refl
 
-module _ (scene : Scene) (s : State) (value : Fragment → ℕ) (g : Ground scene.setup) (v : Divided scene.setup value) (i : Invariant scene s) (a : Placed scene.setup s)
+module _ (scene : Scene) (s : State) (value : Fragment → ℕ) (g : DeviceGeometry scene.setup) (v : Divided scene.setup value) (i : Invariant scene s) (a : Placed scene.setup s)
     (counted : total_weight scene (misfits over) s ≡ 0) where
   abbrev w : Weight
   w = to_come scene.setup value

@@ -14,7 +14,7 @@ use Rattle.block_core.specs.Paying.{end_told}
 use Rattle.block_core.specs.Payers.{Paid}
 use Rattle.block_core.proofs.moves.Moves.{TellsNode}
 use Rattle.block_core.proofs.moves.Moves as moves
-use Rattle.block_core.proofs.sound.Invariant.{TaskFits, Fair, Invariant}
+use Rattle.block_core.proofs.sound.Invariant.{TaskFits, LedgersAreNumbered, Invariant}
 use Rattle.bio_books.specs.Drops.{DropOutcome, DropsAt}
 use Rattle.bio_books.specs.Drops as end
 use Rattle.run_machine.specs.declared.event.What.{What}
@@ -26,7 +26,7 @@ use Rattle.run_machine.specs.Objects.{Serves}
 use Rattle.block_core.proofs.stuck.Idle.{open_in_books}
 use Rattle.block_core.proofs.moves.StepsTold.{IsMove, touch_in, paid_in, state_is}
 
-module _ (scene : Scene) (s : State) (f : Fair scene) (i : Invariant scene s) (place : ℕ) (here : place < scene.tasks) (what : What) (new : State) where
+module _ (scene : Scene) (s : State) (f : LedgersAreNumbered scene) (i : Invariant scene s) (place : ℕ) (here : place < scene.tasks) (what : What) (new : State) where
   -- the kind of an end that the task tells next
   abbrev its_end : Bool → Paid
   its_end was_master = end_told was_master (s.task place)

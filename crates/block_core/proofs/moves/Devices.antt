@@ -1,12 +1,12 @@
 -- What is known of the devices of a stack.
 use Rattle.std.proofs.Common.{ℕ}
 use Rattle.block_core.proofs.moves.Geometry.{lands, cuts, legs, copied}
-use Rattle.block_core.proofs.sound.Orders.{Ground}
+use Rattle.block_core.proofs.sound.Orders.{DeviceGeometry}
 use Rattle.stack_base.specs.declared.stack.Stack.{Stack}
 use Rattle.stack_base.specs.Stack.{IsStack}
 use Rattle.run_machine.specs.Scene.{setup_of}
 
-pub ground : (stack : Stack) → IsStack stack → (places : ℕ → ℕ) → Ground (setup_of stack places)
+pub ground : (stack : Stack) → IsStack stack → (places : ℕ → ℕ) → DeviceGeometry (setup_of stack places)
 ground stack good places = record {
   few = good.few;
   lands = lands stack good places;

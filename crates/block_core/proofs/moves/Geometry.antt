@@ -21,7 +21,7 @@ use Rattle.stack_base.specs.declared.stack.Device.{Device}
 use Rattle.stack_base.specs.declared.stack.Kind.TheVariants as kind
 use Rattle.stack_base.specs.declared.stack.Stack.{Stack}
 use Rattle.stack_base.specs.Stack.{IsStack, HasShape}
-use Rattle.stack_base.specs.Tree.{Shape, Keeps as Keeping_, Cuts, Copies as Copying_, shape_of, member_at, sizes_at, tree}
+use Rattle.stack_base.specs.Tree.{Shape, Keeps as KeeperManned, Cuts, Copies as Copying_, shape_of, member_at, sizes_at, tree}
 use Rattle.stack_base.proofs.KindCuts.{kind_cuts}
 use Rattle.stack_base.proofs.Pieces.{is_piece}
 use Rattle.layout_model.specs.Pieces.{IsFirstRun}
@@ -111,7 +111,7 @@ module _ (stack : Stack) (good : IsStack stack) (places : ℕ → ℕ) where
   of_each_shape P number there leaf split mirror = let d = at_device number there in by_shape d.0 d.1 (shape_of d.0.kind) refl
     where
       by_shape : (device : Device) → slice_get stack.devices.items number ≡ Some device → (shape : Shape) → shape_of device.kind ≡ shape → P (tree stack number)
-      by_shape device found (Keeping_ sectors) e = subst P (sym (keeps_is stack good number device found sectors e)) (leaf sectors)
+      by_shape device found (KeeperManned sectors) e = subst P (sym (keeps_is stack good number device found sectors e)) (leaf sectors)
       by_shape device found Cuts e = subst P (sym (cuts_is stack good number device found e)) (split device found e)
       by_shape device found Copying_ e = subst P (sym (copies_is stack good number device found e)) (mirror device found e)
 
@@ -180,7 +180,7 @@ module _ (stack : Stack) (good : IsStack stack) (places : ℕ → ℕ) where
 
       by_shape : (device : Device) → slice_get stack.devices.items bio.dev.0 ≡ Some device → (shape : Shape) → shape_of device.kind ≡ shape
           → ((next : Bio) → next.dev.0 < bound → IsThere setup next → Falls value next (landed (tree stack next.dev.0) next)) → Falls value bio (landed (tree stack bio.dev.0) bio)
-      by_shape device found (Keeping_ sectors) e again =
+      by_shape device found (KeeperManned sectors) e again =
           let leaf = keeps_is stack good bio.dev.0 device found sectors e in
           stays (subst (λ t. Settles t bio.range) (sym leaf) tt) (ap (λ t. landed t bio) leaf)
       by_shape device found Copying_ e again =

@@ -21,7 +21,7 @@ use Rattle.block_core.proofs.moves.Moves.{cut_lists, piece}
 use Rattle.block_core.proofs.moves.SubmissionWeights.{asks_weight, order_weight}
 use Rattle.block_core.proofs.sound.SumParts.{unless}
 use Rattle.block_core.proofs.moves.Geometry.{IsThere}
-use Rattle.block_core.proofs.sound.Orders.{IsPlaced, IsOwn, AskFits, DoingPlaced, Ground, each_map, each_less, each_append}
+use Rattle.block_core.proofs.sound.Orders.{IsPlaced, IsOwn, AskFits, DoingPlaced, DeviceGeometry, each_map, each_less, each_append}
 
 abbrev pub AreThere : Setup → List (Item Pad) → Type 0
 AreThere setup items = Each (λ (item : Item Pad). IsThere setup item.bio) items
@@ -77,7 +77,7 @@ module _ (setup : Setup) (limit : ℕ) where
   pub none_there : (lists : TaskLists) → lists.list0 ≡ [] → AreThere setup lists.list0
   none_there lists none = subst (AreThere setup) (sym none) tt
 
-  module _ (g : Ground setup) where
+  module _ (g : DeviceGeometry setup) where
     -- with the parts of a bio that is cut
     pub cut_there : (bio hand : Item Pad) (lists : TaskLists) (key number : ℕ) (kind : Kind) (sizes : List ℕ) (members : ℕ → Tree)
         → DoingPlaced setup limit (Drives bio (ToCut (Links hand))) lists → tree_at setup bio.bio.dev ≡ Split number kind sizes members

@@ -17,7 +17,7 @@ use Rattle.run_machine.specs.Runs.{State}
 use Rattle.block_core.specs.Paying.{end_told}
 use Rattle.block_core.specs.Payers.{Paid}
 use Rattle.block_core.proofs.moves.Moves as moves
-use Rattle.block_core.proofs.sound.Invariant.{TaskFits, Fair, Invariant}
+use Rattle.block_core.proofs.sound.Invariant.{TaskFits, LedgersAreNumbered, Invariant}
 use Rattle.run_machine.specs.declared.event.Event.{Event}
 use Rattle.run_machine.specs.declared.event.What.{What}
 use Rattle.run_machine.specs.Events.{what_of, resize_of}
@@ -31,7 +31,7 @@ use Rattle.block_core.proofs.moves.SubmissionSteps.{submits}
 use Rattle.block_core.proofs.moves.WriterSteps.{writes}
 use Rattle.block_core.proofs.moves.CompleterSteps.{completes, ends_bio, carries}
 
-module _ (scene : Scene) (s : State) (f : Fair scene) (i : Invariant scene s) (place : ℕ) (here : place < scene.tasks) (what : What) (new : State) where
+module _ (scene : Scene) (s : State) (f : LedgersAreNumbered scene) (i : Invariant scene s) (place : ℕ) (here : place < scene.tasks) (what : What) (new : State) where
   -- the kind of an end that the task tells next
   abbrev its_end : Bool → Paid
   its_end was_master = end_told was_master (s.task place)
@@ -95,7 +95,7 @@ module _ (scene : Scene) (s : State) (f : Fair scene) (i : Invariant scene s) (p
   moved (Completer disk (Fails breach kept)) is fits see reply told serves goes = absurd serves
   moved (Keeper keeping) is fits see reply told serves goes = keeps_on keeping is fits see reply told serves goes
 
-pub step_is_move : (scene : Scene) (s : State) → Fair scene → Invariant scene s → (place : ℕ) (event : Event) (new : State)
+pub step_is_move : (scene : Scene) (s : State) → LedgersAreNumbered scene → Invariant scene s → (place : ℕ) (event : Event) (new : State)
     → Steps scene s place event new → IsMove scene s place event.what new
 step_is_move scene s f i place event new steps =
     moved scene s f i place steps.here event.what new (s.task place) refl (i.tasks place) steps.is_let steps.reply steps.told steps.serves steps.goes_on

@@ -22,7 +22,7 @@ use Rattle.block_core.specs.Paying.{end_told}
 use Rattle.block_core.specs.Payers.{Paid}
 use Rattle.block_core.proofs.moves.Moves.{IsTaking, with_submission, HasSubmission, Wants, with_want}
 use Rattle.block_core.proofs.moves.Moves as moves
-use Rattle.block_core.proofs.sound.Invariant.{Suits, TaskFits, DoingIsIn, IsIn, Fair, Invariant}
+use Rattle.block_core.proofs.sound.Invariant.{Suits, TaskFits, DoingIsIn, IsIn, LedgersAreNumbered, Invariant}
 use Rattle.bio_books.specs.Links.{Made, NoRoom, Stray, ChainsAt, MastersAt, LegsAt}
 use Rattle.run_machine.specs.declared.event.Got.{Got}
 use Rattle.run_machine.specs.declared.event.Got.TheVariants as got
@@ -96,7 +96,7 @@ asks_submission setup (Rescuer dev submission) doing lists h busy = ap (λ l. re
 asks_submission setup (Completer disk carried) doing lists h busy = absurd h
 asks_submission setup (Keeper keeping) doing lists h busy = absurd h
 
-module _ (scene : Scene) (s : State) (f : Fair scene) (i : Invariant scene s) (place : ℕ) (here : place < scene.tasks) (what : What) (new : State) where
+module _ (scene : Scene) (s : State) (f : LedgersAreNumbered scene) (i : Invariant scene s) (place : ℕ) (here : place < scene.tasks) (what : What) (new : State) where
   -- the kind of an end that the task tells next
   abbrev its_end : Bool → Paid
   its_end was_master = end_told was_master (s.task place)

@@ -18,7 +18,7 @@ use Rattle.block_core.specs.Paying.{end_told}
 use Rattle.block_core.specs.Payers.{Paid}
 use Rattle.block_core.proofs.moves.Moves.{IsTaking}
 use Rattle.block_core.proofs.moves.Moves as moves
-use Rattle.block_core.proofs.sound.Invariant.{TaskFits, Fair, Invariant}
+use Rattle.block_core.proofs.sound.Invariant.{TaskFits, LedgersAreNumbered, Invariant}
 use Rattle.bio_books.specs.Links.{Made, NoRoom, Stray}
 use Rattle.run_machine.specs.declared.event.Got.TheVariants as got
 use Rattle.run_machine.specs.declared.event.What.{What}
@@ -31,7 +31,7 @@ use Rattle.run_machine.specs.Runs.{IsLet}
 use Rattle.block_core.proofs.moves.StepsTold.{IsMove, touch_in, paid_in, miss_passes, state_is, used_told, miss_pays}
 use Rattle.block_core.proofs.moves.SubmissionSteps.{submits}
 
-module _ (scene : Scene) (s : State) (f : Fair scene) (i : Invariant scene s) (place : ℕ) (here : place < scene.tasks) (what : What) (new : State) where
+module _ (scene : Scene) (s : State) (f : LedgersAreNumbered scene) (i : Invariant scene s) (place : ℕ) (here : place < scene.tasks) (what : What) (new : State) where
   -- the kind of an end that the task tells next
   abbrev its_end : Bool → Paid
   its_end was_master = end_told was_master (s.task place)

@@ -13,7 +13,7 @@ use Rattle.block_core.proofs.moves.Moves as moves
 use Rattle.block_core.proofs.moves.Sums.{within_book, with_node_is}
 use Rattle.block_core.proofs.moves.Geometry.{IsCopied}
 use Rattle.block_core.proofs.sound.TaskSubmissions.{all-upd}
-use Rattle.block_core.proofs.sound.Orders.{AskFits, Placed, Ground}
+use Rattle.block_core.proofs.sound.Orders.{AskFits, Placed, DeviceGeometry}
 use Rattle.block_core.proofs.sound.OrdersKept.{placed_at}
 use Rattle.block_core.proofs.moves.Deltas.{vacant_at}
 
@@ -41,7 +41,7 @@ two_all P book key parent node child new v at all c n k =
     let same : length second.nodes ≡ length book.nodes = length-set book.nodes key (Some child) in
     nodes_all P second parent (Some new) (omega (arith, b, same)) (nodes_all P book key (Some child) a.1 all c) n k
 
-module _ (scene : Scene) (s : State) (g : Ground scene.setup) (p : Placed scene.setup s) (i : (w k : ℕ) → IsAlive (node_at (s.objects.book w) k)) where
+module _ (scene : Scene) (s : State) (g : DeviceGeometry scene.setup) (p : Placed scene.setup s) (i : (w k : ℕ) → IsAlive (node_at (s.objects.book w) k)) where
   of_book : (writer : ℕ) (book : BookState) → ((k : ℕ) → IsAlive (node_at book k)) → (w k : ℕ) → IsAlive (node_at (upd s.objects.book writer book w) k)
   of_book writer book here = books_all IsAlive s.objects.book writer book i here
 

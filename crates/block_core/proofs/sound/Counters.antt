@@ -14,7 +14,7 @@ use Rattle.block_core.proofs.moves.Moves as moves
 use Rattle.block_core.proofs.moves.Sums.{within_book}
 use Rattle.block_core.proofs.moves.Geometry.{IsCopied}
 use Rattle.block_core.proofs.sound.TaskSubmissions.{all-upd}
-use Rattle.block_core.proofs.sound.Orders.{Placed, Ground}
+use Rattle.block_core.proofs.sound.Orders.{Placed, DeviceGeometry}
 use Rattle.block_core.proofs.moves.Deltas.{vacant_at}
 use Rattle.block_core.proofs.sound.OrdersKept.{placed_at}
 use Rattle.block_core.proofs.sound.Alive.{nodes_all, books_all, two_all}
@@ -31,7 +31,7 @@ one_out pool (misses used) = omega arith
 one_out pool gives = omega arith
 one_out pool (resizes min) = omega arith
 
-module _ (scene : Scene) (s : State) (g : Ground scene.setup) (p : Placed scene.setup s) (n : ℕ) (i : Counted n s) where
+module _ (scene : Scene) (s : State) (g : DeviceGeometry scene.setup) (p : Placed scene.setup s) (n : ℕ) (i : Counted n s) where
   stays : (q : ℕ) → (s.objects.pool q).facts.out ≤ n + 1
   stays q = omega (arith, i.outs q)
 

@@ -21,7 +21,7 @@ use Rattle.block_core.proofs.moves.Moves.{Move, Can, after, lost, gained, limit_
 use Rattle.block_core.proofs.moves.Moves as moves
 use Rattle.block_core.proofs.moves.SubmissionWeights.{IsBlind, goes_weight, first_weight, landed_same}
 use Rattle.block_core.proofs.moves.Deltas.{delta}
-use Rattle.block_core.proofs.sound.Invariant.{SubmissionFits, TaskFits, Fair, Invariant}
+use Rattle.block_core.proofs.sound.Invariant.{SubmissionFits, TaskFits, LedgersAreNumbered, Invariant}
 use Rattle.block_core.proofs.sound.SumParts.{cut_weight, copies_weight, unless}
 use Rattle.block_core.proofs.moves.BookMaps.{made, became, chained}
 
@@ -78,7 +78,7 @@ makes_leg scene s place x bio master leg want lists i is h = by_task x h (subst 
     by_task (Completer disk carried) h fits = absurd h
     by_task (Keeper keeping) h fits = absurd h
 
-module _ (scene : Scene) (s : State) (f : Fair scene) (i : Invariant scene s) where
+module _ (scene : Scene) (s : State) (f : LedgersAreNumbered scene) (i : Invariant scene s) where
   -- events that neither open nor close nodes, nor move bios into or out of them
   same : (m : Move) → Can scene s m → (w k : ℕ) → (after scene s m).objects.book ≡ s.objects.book
       → lost scene (references scene.setup w k) s m ≡ gained scene (references scene.setup w k) s m

@@ -28,7 +28,7 @@ use Rattle.block_core.specs.Dones.{unfinished_write, WritesAreUnfinishedUntilDon
 use Rattle.block_core.proofs.moves.Sums.{same_or_not, one-same, one-other, below_or}
 use Rattle.block_core.proofs.moves.Moves.{Move, Can, after, place_of}
 use Rattle.block_core.proofs.moves.Moves as moves
-use Rattle.block_core.proofs.sound.Invariant.{Fair}
+use Rattle.block_core.proofs.sound.Invariant.{LedgersAreNumbered}
 use Rattle.block_core.proofs.moves.Devices.{ground}
 use Rattle.block_core.proofs.stuck.NothingWaits.{one-eq}
 use Rattle.block_core.proofs.sound.DoneOnce.{stage, to_begin, asked, asked_by, done_by}
@@ -54,12 +54,12 @@ stage_is w = λ i. record no_weight {
 }
 
 module _ (s : Scenario) (ledger : ℕ → LedgerId) (good : IsScenario s) (naming : IsNaming ledger) where
-  fair : Fair (scene s ledger)
-  fair = record { named = naming }
+  numbered : LedgersAreNumbered (scene s ledger)
+  numbered = record { named = naming }
 
   runs_to_done : (events : List Event) (state : State) → IsRun (scene s ledger) (start s) events state → (w : ℕ)
       → times_done w events + total_weight (scene s ledger) (stage w) state ≡ total_weight (scene s ledger) (stage w) (start s)
-  runs_to_done events state run w = runs_done (scene s ledger) fair (ground s.stack good.stack (setup_in s).places) w (start s) events state (start_whole s ledger good naming) run
+  runs_to_done events state run w = runs_done (scene s ledger) numbered (ground s.stack good.stack (setup_in s).places) w (start s) events state (start_whole s ledger good naming) run
 
 pub unfinished_until_done : WritesAreUnfinishedUntilDone
 unfinished_until_done s ledger events state good naming run w lt =

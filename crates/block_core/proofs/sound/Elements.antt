@@ -24,7 +24,7 @@ use Rattle.block_core.proofs.moves.Moves.{Move, Can, after, lost, gained, limit_
 use Rattle.block_core.proofs.moves.Moves as moves
 use Rattle.block_core.proofs.sound.Invariant.{DoingFits, SubmissionFits, TaskFits, Invariant}
 use Rattle.block_core.proofs.moves.Geometry.{IsThere}
-use Rattle.block_core.proofs.sound.Orders.{IsOwn, DoingPlaced, SubmissionPlaced, TodoThere, TaskPlaced, Placed, Ground}
+use Rattle.block_core.proofs.sound.Orders.{IsOwn, DoingPlaced, SubmissionPlaced, TodoThere, TaskPlaced, Placed, DeviceGeometry}
 use Rattle.block_core.proofs.moves.Deltas.{delta}
 use Rattle.block_core.proofs.sound.TaskSubmissions.{submission_fits}
 use Rattle.block_core.proofs.sound.OrdersKept.{placed_at}
@@ -85,7 +85,7 @@ tells_worth setup place (Carries of closed) writer key status part t = let same 
 tells_worth setup place Empty writer key status part t = absurd t
 tells_worth setup place (Fails breach kept) writer key status part t = absurd t
 
-module _ (scene : Scene) (s : State) (g : Ground scene.setup) (n : Needs scene.setup) (i : Invariant scene s) (a : Placed scene.setup s) where
+module _ (scene : Scene) (s : State) (g : DeviceGeometry scene.setup) (n : Needs scene.setup) (i : Invariant scene s) (a : Placed scene.setup s) where
   -- no event needs more elements than it had
   abbrev Fits : Move → Type 0
   Fits m = gained scene (worth scene.setup) s m ≤ lost scene (worth scene.setup) s m

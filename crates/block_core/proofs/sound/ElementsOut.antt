@@ -17,10 +17,10 @@ use Rattle.block_core.proofs.moves.Sums.{weight-upd}
 use Rattle.block_core.proofs.moves.SubmissionWeights.{goes_weight, first_weight}
 use Rattle.block_core.proofs.moves.Deltas.{delta}
 use Rattle.block_core.specs.Roles.{named}
-use Rattle.block_core.proofs.sound.Invariant.{Fair, Invariant}
+use Rattle.block_core.proofs.sound.Invariant.{LedgersAreNumbered, Invariant}
 use Rattle.block_core.proofs.sound.SumParts.{out_more, out_same, out_less, cut_weight, blind_elements, begun_elements, released_elements, copies_weight, unless_none, submission_part, named_away, told_elements, is_away}
 
-module _ (scene : Scene) (s : State) (f : Fair scene) (i : Invariant scene s) where
+module _ (scene : Scene) (s : State) (f : LedgersAreNumbered scene) (i : Invariant scene s) where
   pub outs : (m : Move) → Can scene s m → (q : ℕ) → ((after scene s m).objects.pool q).facts.out ≡ total_weight scene (elements_of_pool q) (after scene s m)
   -- takes
   outs (moves.TakesFirst place writer todo later move) c q =

@@ -5,8 +5,8 @@ use Rattle.bio_books.specs.Books.{node_at}
 use Rattle.run_machine.specs.Scene.{Scene}
 use Rattle.run_machine.specs.Runs.{State}
 use Rattle.block_core.specs.Weights.{total_weight}
-use Rattle.block_core.proofs.sound.Invariant.{Fair, Invariant}
-use Rattle.block_core.proofs.sound.Orders.{Placed, Ground}
+use Rattle.block_core.proofs.sound.Invariant.{LedgersAreNumbered, Invariant}
+use Rattle.block_core.proofs.sound.Orders.{Placed, DeviceGeometry}
 use Rattle.run_machine.specs.Opened.{Scenario, scene, start, setup as setup_in}
 use Rattle.block_core.specs.Scenarios.{IsScenario}
 use Rattle.block_core.specs.Scenarios.{IsNaming}
@@ -41,7 +41,7 @@ pub record Whole (scene : Scene) (s : State) : Type 0 where
   pub placed : Placed scene.setup s
   pub alive : (w k : ℕ) → IsAlive (node_at (s.objects.book w) k)
 
-module _ (scene : Scene) (f : Fair scene) (g : Ground scene.setup) where
+module _ (scene : Scene) (f : LedgersAreNumbered scene) (g : DeviceGeometry scene.setup) where
   step_placed : (s : State) (place : ℕ) (event : Event) (new : State) → Whole scene s → Steps scene s place event new → Placed scene.setup new
   step_placed s place event new i steps =
       let moved = step_is_move scene s f i.kept place event new steps in
@@ -68,7 +68,7 @@ module _ (scene : Scene) (f : Fair scene) (g : Ground scene.setup) where
       omega (arith, runs_done w next events new (step_whole s place event next i steps) run, step_done scene s w f i.kept place event next steps)
 
 -- the tally stays right
-module _ (scene : Scene) (f : Fair scene) (g : Ground scene.setup) (rounds : List ℕ) (keeper : ℕ) where
+module _ (scene : Scene) (f : LedgersAreNumbered scene) (g : DeviceGeometry scene.setup) (rounds : List ℕ) (keeper : ℕ) where
   pub runs_tallied : (s : State) (events : List Event) (new : State) → Whole scene s → Tallied rounds keeper scene s → IsRun scene s events new → Tallied rounds keeper scene new
   runs_tallied s [] new i t run = subst (Tallied rounds keeper scene) (sym run) t
   runs_tallied s (event ∷ events) new i t (next, (place, steps), run) =
@@ -77,7 +77,7 @@ module _ (scene : Scene) (f : Fair scene) (g : Ground scene.setup) (rounds : Lis
       (subst (Tallied rounds keeper scene) (sym moved.is) (stays_tallied rounds keeper scene s t moved.move moved.can)) run
 
 -- each task stays at its post, and no round is added
-module _ (scene : Scene) (f : Fair scene) (g : Ground scene.setup) (rounds : List ℕ) (ids : ℕ → TaskId) (keeper : ℕ) where
+module _ (scene : Scene) (f : LedgersAreNumbered scene) (g : DeviceGeometry scene.setup) (rounds : List ℕ) (ids : ℕ → TaskId) (keeper : ℕ) where
   pub runs_posted : (s : State) (events : List Event) (new : State) → Whole scene s → Tallied rounds keeper scene s → Posted ids keeper scene s → IsRun scene s events new → Posted ids keeper scene new
   runs_posted s [] new i t p run = subst (Posted ids keeper scene) (sym run) p
   runs_posted s (event ∷ events) new i t p (next, (place, steps), run) =
@@ -94,7 +94,7 @@ module _ (scene : Scene) (f : Fair scene) (g : Ground scene.setup) (rounds : Lis
       ∙ ap (λ (x : State). length x.objects.tally.left) moved.is ∙ left_long scene s moved.move
 
 -- nodes stay on levels
-module _ (scene : Scene) (f : Fair scene) (g : Ground scene.setup) where
+module _ (scene : Scene) (f : LedgersAreNumbered scene) (g : DeviceGeometry scene.setup) where
   pub runs_leveled : (s : State) (events : List Event) (new : State) → Whole scene s → AreLeveled scene s → IsRun scene s events new → AreLeveled scene new
   runs_leveled s [] new i t run = subst (AreLeveled scene) (sym run) t
   runs_leveled s (event ∷ events) new i t (next, (place, steps), run) =
@@ -103,7 +103,7 @@ module _ (scene : Scene) (f : Fair scene) (g : Ground scene.setup) where
       (subst (AreLeveled scene) (sym moved.is) (stays_leveled scene s g i.kept i.placed t.0 t.1 moved.move moved.can)) run
 
 -- and no task waits for itself
-module _ (scene : Scene) (f : Fair scene) (g : Ground scene.setup) (r : AreRescued scene.setup) where
+module _ (scene : Scene) (f : LedgersAreNumbered scene) (g : DeviceGeometry scene.setup) (r : AreRescued scene.setup) where
   pub runs_waiting : (s : State) (events : List Event) (new : State) → Whole scene s → Waits scene.setup s → IsRun scene s events new → Waits scene.setup new
   runs_waiting s [] new i t run = subst (Waits scene.setup) (sym run) t
   runs_waiting s (event ∷ events) new i t (next, (place, steps), run) =
@@ -112,8 +112,8 @@ module _ (scene : Scene) (f : Fair scene) (g : Ground scene.setup) (r : AreRescu
       (subst (Waits scene.setup) (sym moved.is) (stays_waiting scene s g r i.kept i.placed t moved.move moved.can)) run
 
 module _ (s : Scenario) (ledger : ℕ → LedgerId) (good : IsScenario s) (naming : IsNaming ledger) where
-  fair : Fair (scene s ledger)
-  fair = record { named = naming }
+  numbered : LedgersAreNumbered (scene s ledger)
+  numbered = record { named = naming }
 
   pub start_whole : Whole (scene s ledger) (start s)
   start_whole =
@@ -131,20 +131,20 @@ module _ (s : Scenario) (ledger : ℕ → LedgerId) (good : IsScenario s) (namin
   pub run_tallied : (events : List Event) (state : State) → IsRun (scene s ledger) (start s) events state → RoundsAreTallied s.rounds (scene s ledger) state
   run_tallied events state run =
       let g = ground s.stack good.stack (setup_in s).places in
-      let t = runs_tallied (scene s ledger) fair g s.rounds (keeper_place s good ledger) (start s) events state start_whole (start_tallied s good ledger) run in
+      let t = runs_tallied (scene s ledger) numbered g s.rounds (keeper_place s good ledger) (start s) events state start_whole (start_tallied s good ledger) run in
       record { left = t.left; past = t.tally.past; later = t.later }
 
   run_waiting : HasRescuers s.stack → (events : List Event) (state : State) → IsRun (scene s ledger) (start s) events state → NoneWaitsForItself (scene s ledger) state
   run_waiting rescuers events state run =
       let g = ground s.stack good.stack (setup_in s).places in
-      let i = runs_whole (scene s ledger) fair g (start s) events state start_whole run in
+      let i = runs_whole (scene s ledger) numbered g (start s) events state start_whole run in
       none_waits (scene s ledger) state i.placed
-      (runs_waiting (scene s ledger) fair g (are_rescued s.stack good.stack (setup_in s).places rescuers) (start s) events state start_whole
+      (runs_waiting (scene s ledger) numbered g (are_rescued s.stack good.stack (setup_in s).places rescuers) (start s) events state start_whole
       (opened_waits (scene s ledger) (start s) (start_opened s good ledger)) run)
 
   run_done : (events : List Event) (state : State) → IsRun (scene s ledger) (start s) events state → (w : ℕ) → times_done w events ≤ 1
   run_done events state run w =
-      omega (arith, stage_once w, runs_done (scene s ledger) fair (ground s.stack good.stack (setup_in s).places) w (start s) events state start_whole run)
+      omega (arith, stage_once w, runs_done (scene s ledger) numbered (ground s.stack good.stack (setup_in s).places) w (start s) events state start_whole run)
 
 pub each_is_done_once : EachIsDoneOnce
 each_is_done_once s ledger events state good naming run = run_done s ledger good naming events state run

@@ -79,8 +79,8 @@ IsIn setup (Rescuer dev submission) = DoingIsIn setup submission.doing
 IsIn setup (Completer disk carried) = Unit {0}
 IsIn setup (Keeper keeping) = Unit {0}
 
--- what is known of ledgers
-pub record Fair (scene : Scene) : Type 0 where
+-- each ledger has the number that it is found by
+pub record LedgersAreNumbered (scene : Scene) : Type 0 where
   pub named : (n : ℕ) → (scene.ledger n).no ≡ n
 
 pub record Invariant (scene : Scene) (s : State) : Type 0 where

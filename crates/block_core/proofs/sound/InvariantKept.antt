@@ -10,14 +10,14 @@ use Rattle.run_machine.specs.Runs.{State}
 use Rattle.block_core.proofs.moves.Moves.{Move, Can, after, vector_of}
 use Rattle.block_core.proofs.moves.Moves as moves
 use Rattle.block_core.proofs.moves.Sums.{upd-other}
-use Rattle.block_core.proofs.sound.Invariant.{IsIn, Fair, Invariant}
+use Rattle.block_core.proofs.sound.Invariant.{IsIn, LedgersAreNumbered, Invariant}
 use Rattle.mempool_core.proofs.MoveLemmas.{after_move_adds_up}
 use Rattle.block_core.proofs.sound.ElementsOut.{outs}
 use Rattle.block_core.proofs.sound.Counts.{counts}
 use Rattle.block_core.proofs.sound.OwnParts.{owns}
 use Rattle.block_core.proofs.sound.TaskSubmissions.{tasks, all-upd}
 
-module _ (scene : Scene) (s : State) (f : Fair scene) (i : Invariant scene s) where
+module _ (scene : Scene) (s : State) (f : LedgersAreNumbered scene) (i : Invariant scene s) where
   other_book : (writer : ℕ) (b : BookState) → writer < scene.books → (w : ℕ) → scene.books ≤ w → (upd s.objects.book writer b w).nodes ≡ []
   other_book writer b lt w ge = ap (λ (book : BookState). book.nodes) (upd-other s.objects.book writer b w (λ q. omega arith)) ∙ i.inside w ge
 

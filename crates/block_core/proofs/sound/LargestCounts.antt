@@ -16,8 +16,8 @@ use Rattle.block_core.proofs.moves.References.{awaited_ends}
 use Rattle.block_core.specs.Scenarios.{IsScenario, IsNaming}
 use Rattle.block_core.specs.Breaks.{ElementsAreAllowed}
 use Rattle.block_core.specs.LargestCounts.{OutsAreWithinWhatWritesNeed, EndsAreWithinPlacesAndTasks, CountersAreSmall, NoCounterIsFull}
-use Rattle.block_core.proofs.sound.Invariant.{Fair}
-use Rattle.block_core.proofs.sound.Orders.{Ground}
+use Rattle.block_core.proofs.sound.Invariant.{LedgersAreNumbered}
+use Rattle.block_core.proofs.sound.Orders.{DeviceGeometry}
 use Rattle.block_core.proofs.moves.Devices.{ground}
 use Rattle.block_core.proofs.unrefused.NodeNeeds.{Needs, needs_known}
 use Rattle.block_core.proofs.moves.StepMoves.{step_is_move}
@@ -29,7 +29,7 @@ use Rattle.block_core.proofs.unrefused.Ready.{ends_few}
 use Rattle.block_core.proofs.unrefused.Unbroken.{small}
 use Rattle.block_core.proofs.sound.Elements.{write_need, worth, outs_within, stays_within}
 
-module _ (scene : Scene) (f : Fair scene) (g : Ground scene.setup) (n : Needs scene.setup) where
+module _ (scene : Scene) (f : LedgersAreNumbered scene) (g : DeviceGeometry scene.setup) (n : Needs scene.setup) where
   pub runs_within : (s : State) (events : List Event) (new : State) → Whole scene s → IsRun scene s events new
       → total_weight scene (worth scene.setup) new ≤ total_weight scene (worth scene.setup) s
   runs_within s [] new i run = let same = ap (total_weight scene (worth scene.setup)) run in omega (arith, same)

@@ -21,7 +21,7 @@ use Rattle.block_core.proofs.moves.Moves.{Move, Can, after, lost, gained, limit_
 use Rattle.block_core.proofs.moves.Moves as moves
 use Rattle.block_core.proofs.sound.Invariant.{TaskFits, Invariant}
 use Rattle.block_core.proofs.sound.TaskSubmissions.{submission_fits}
-use Rattle.block_core.proofs.sound.Orders.{AskFits, HandHome, TaskPlaced, Placed, Ground}
+use Rattle.block_core.proofs.sound.Orders.{AskFits, HandHome, TaskPlaced, Placed, DeviceGeometry}
 use Rattle.std.specs.Prelude.{min}
 use Rattle.block_core.proofs.sound.OrdersKept.{placed_at}
 use Rattle.block_core.proofs.moves.Deltas.{other_place, delta}
@@ -123,7 +123,7 @@ begun_on : (level : ℕ → ℕ → ℕ) (writer : ℕ) (todo : Todo) (item : It
 begun_on level writer todo item None key home is = rw (is, home) (omega arith)
 begun_on level writer todo item (Some vector) key home is = rw (is, home.0) (omega arith)
 
-module _ (scene : Scene) (s : State) (g : Ground scene.setup) (i : Invariant scene s) (p : Placed scene.setup s) (level : ℕ → ℕ → ℕ) (off : total_weight scene (off_levels level) s ≡ 0) where
+module _ (scene : Scene) (s : State) (g : DeviceGeometry scene.setup) (i : Invariant scene s) (p : Placed scene.setup s) (level : ℕ → ℕ → ℕ) (off : total_weight scene (off_levels level) s ≡ 0) where
   -- the levels stay
   same : (m : Move) → Can scene s m → gained scene (off_levels level) s m ≤ lost scene (off_levels level) s m → AreLeveled scene (after scene s m)
   same m c le = (level, omega (arith, off, delta scene (off_levels level) s m c, le))

@@ -21,9 +21,9 @@ use Rattle.block_core.specs.OfOneWrite.{AreOfOneWrite, AllAreOfOneWrite}
 use Rattle.block_core.proofs.moves.Sums.{apart}
 use Rattle.block_core.proofs.moves.Moves.{Move, Can, after, lost, gained, limit_of, HasSubmission, filled_of, cut_lists}
 use Rattle.block_core.proofs.moves.Moves as moves
-use Rattle.block_core.proofs.sound.Invariant.{TaskFits, Fair, Invariant}
+use Rattle.block_core.proofs.sound.Invariant.{TaskFits, LedgersAreNumbered, Invariant}
 use Rattle.block_core.proofs.sound.TaskSubmissions.{submission_fits}
-use Rattle.block_core.proofs.sound.Orders.{Ground}
+use Rattle.block_core.proofs.sound.Orders.{DeviceGeometry}
 use Rattle.block_core.proofs.sound.EachBio.{each_bio, each_copied}
 use Rattle.block_core.proofs.sound.Strays.{bio_strays, parent_strays, strays, NoneStrays}
 use Rattle.block_core.proofs.moves.Devices.{ground}
@@ -217,7 +217,7 @@ module _ (scene : Scene) (s : State) (i : Invariant scene s) (write_of : ℕ →
   }
 
 -- every run keeps it
-module _ (scene : Scene) (f : Fair scene) (g : Ground scene.setup) where
+module _ (scene : Scene) (f : LedgersAreNumbered scene) (g : DeviceGeometry scene.setup) where
   pub runs_of_one_write : (s : State) (events : List Event) (new : State) → Whole scene s → NoneStrays scene s → IsRun scene s events new → NoneStrays scene new
   runs_of_one_write s [] new i t run = subst (NoneStrays scene) (sym run) t
   runs_of_one_write s (event ∷ events) new i t (next, (place, steps), run) =

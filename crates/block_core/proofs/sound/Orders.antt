@@ -89,7 +89,7 @@ pub record Placed (setup : Setup) (s : State) : Type 0 where
   pub rescued : (dev : ℕ) → Each (IsOwn setup dev dev) (s.objects.rescue dev)
 
 -- what is known of devices
-pub record Ground (setup : Setup) : Type 0 where
+pub record DeviceGeometry (setup : Setup) : Type 0 where
   pub few : setup.count ≤ 32
   pub lands : (bio : Bio) → IsThere setup bio → Lands setup bio (landed (tree_at setup bio.dev) bio)
   pub cut_piece : (bio hand : Item Pad) (key number : ℕ) (kind : Kind) (sizes : List ℕ) (members : ℕ → Tree) → IsThere setup bio.bio
@@ -152,7 +152,7 @@ two_order : (dev : DevId) (a b : Item Pad) (list1 : List (Item Pad)) → (a.bio.
     → filter (is_lower dev) (a ∷ b ∷ []) ++ (filter (is_for_device dev) (a ∷ b ∷ []) ++ list1) ≡ a ∷ b ∷ list1
 two_order dev a b list1 p q = rw (p, q) refl
 
-module _ (setup : Setup) (g : Ground setup) where
+module _ (setup : Setup) (g : DeviceGeometry setup) where
   asks_placed : (limit : ℕ) (it : Item Pad) (lists : TaskLists) (t : Tree) → tree_at setup it.bio.dev ≡ t → Settles t it.bio.range → lists.list0 ≡ []
       → Each (IsPlaced setup limit) (it ∷ lists.list1) → Ordered (it ∷ lists.list1) → DoingPlaced setup limit (asks_at setup lists it t) lists
   asks_placed limit it lists (Leaf number sectors) same settles none placed ordered =

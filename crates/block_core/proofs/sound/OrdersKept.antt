@@ -23,9 +23,9 @@ use Rattle.run_machine.specs.Runs.{State}
 use Rattle.run_machine.proofs.Frames.{upd_keeps}
 use Rattle.block_core.proofs.moves.Moves.{Move, Can, after, limit_of, with_submission, HasSubmission, gathered_of}
 use Rattle.block_core.proofs.moves.Moves as moves
-use Rattle.block_core.proofs.sound.Invariant.{TaskFits, DoingIsIn, IsIn, Fair, Invariant}
+use Rattle.block_core.proofs.sound.Invariant.{TaskFits, DoingIsIn, IsIn, LedgersAreNumbered, Invariant}
 use Rattle.block_core.proofs.sound.TaskSubmissions.{all-upd, submission_fits}
-use Rattle.block_core.proofs.sound.Orders.{IsPlaced, IsOwn, AskFits, DoingPlaced, SubmissionPlaced, HandHome, TaskPlaced, Placed, Ground, each_map, each_filter, each_append, of_set, first_placed, pushed_placed, cut_placed, copies_placed, begun_placed, wants_placed, punts_placed, waiting_placed}
+use Rattle.block_core.proofs.sound.Orders.{IsPlaced, IsOwn, AskFits, DoingPlaced, SubmissionPlaced, HandHome, TaskPlaced, Placed, DeviceGeometry, each_map, each_filter, each_append, of_set, first_placed, pushed_placed, cut_placed, copies_placed, begun_placed, wants_placed, punts_placed, waiting_placed}
 
 -- the submission of a task, in order, and of the task at a place
 submission_placed : (setup : Setup) (x : TaskState) (doing : Doing) (lists : TaskLists) → TaskPlaced setup x → HasSubmission x doing lists → DoingPlaced setup (limit_of x) doing lists
@@ -44,7 +44,7 @@ relined setup (Rescuer dev submission) new t n = n
 relined setup (Completer disk carried) new t n = tt
 relined setup (Keeper keeping) new t n = tt
 
-module _ (scene : Scene) (s : State) (f : Fair scene) (g : Ground scene.setup) (i : Invariant scene s) (p : Placed scene.setup s) where
+module _ (scene : Scene) (s : State) (f : LedgersAreNumbered scene) (g : DeviceGeometry scene.setup) (i : Invariant scene s) (p : Placed scene.setup s) where
   at_task : (place : ℕ) (x : TaskState) → s.task place ≡ x → TaskPlaced scene.setup x
   at_task place x is = subst (TaskPlaced scene.setup) is (p.tasks place)
 

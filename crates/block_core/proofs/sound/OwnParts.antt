@@ -22,7 +22,7 @@ use Rattle.block_core.proofs.moves.Sums.{one-same}
 use Rattle.block_core.proofs.moves.SubmissionWeights.{IsBlind, goes_weight, first_weight, landed_same}
 use Rattle.block_core.proofs.moves.Deltas.{delta}
 use Rattle.block_core.specs.Roles.{named}
-use Rattle.block_core.proofs.sound.Invariant.{own_part, own_of, Fair, Invariant}
+use Rattle.block_core.proofs.sound.Invariant.{own_part, own_of, LedgersAreNumbered, Invariant}
 use Rattle.block_core.proofs.sound.SumParts.{cut_weight, copies_weight, unless_none, submission_part, named_away, is_away}
 use Rattle.block_core.proofs.moves.BookMaps.{made, became, chained}
 use Rattle.block_core.proofs.sound.Counts.{begun_names, tells_refs, leg_named, makes_leg}
@@ -121,7 +121,7 @@ told_own writer key status part (Carries of closed) node t none =
 told_own writer key status part Empty node t none = absurd t
 told_own writer key status part (Fails breach kept) node t none = absurd t
 
-module _ (scene : Scene) (s : State) (f : Fair scene) (i : Invariant scene s) where
+module _ (scene : Scene) (s : State) (f : LedgersAreNumbered scene) (i : Invariant scene s) where
   same : (m : Move) → Can scene s m → (w k : ℕ) → (after scene s m).objects.book ≡ s.objects.book → lost scene (named w k) s m ≡ gained scene (named w k) s m
       → own_of (node_at ((after scene s m).objects.book w) k) ≡ total_weight scene (named w k) (after scene s m)
   same m c w k books even =

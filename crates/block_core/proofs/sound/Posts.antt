@@ -68,15 +68,15 @@ abbrev pub InTasks : Scene → List Duty → ℕ → Type 0
 InTasks scene [] place = Unit {0}
 InTasks scene (duty ∷ duties) place = place < scene.tasks
 
-abbrev pub Keeping_ : ℕ → Scene → TallyState → ℕ → List Duty → Type 0
-Keeping_ keeper scene tally place duties =
+abbrev pub KeeperManned : ℕ → Scene → TallyState → ℕ → List Duty → Type 0
+KeeperManned keeper scene tally place duties =
     Mins duties × (place ≡ keeper → tally.round + starts duties + 1 ≡ length tally.left) × InTasks scene duties place
 
 abbrev pub Manned : ℕ → Scene → TallyState → ℕ → TaskState → Type 0
 Manned keeper scene tally place (Writer number todo taken submission) = ByRounds todo × TakenFits todo taken
 Manned keeper scene tally place (Rescuer dev submission) = Unit {0}
 Manned keeper scene tally place (Completer disk carried) = Carrying carried
-Manned keeper scene tally place (Keeper (Keeps duties)) = Keeping_ keeper scene tally place duties
+Manned keeper scene tally place (Keeper (Keeps duties)) = KeeperManned keeper scene tally place duties
 Manned keeper scene tally place (Keeper (Stops breach)) = Unit {0}
 
 abbrev pub AtPost : (ℕ → TaskId) → ℕ → Scene → TallyState → ℕ → TaskState → Type 0

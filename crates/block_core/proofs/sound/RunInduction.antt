@@ -4,12 +4,12 @@ use Rattle.run_machine.specs.declared.event.Event.{Event}
 use Rattle.run_machine.specs.Scene.{Scene}
 use Rattle.run_machine.specs.Runs.{State, IsRun}
 use Rattle.block_core.proofs.moves.Moves.{Move, Can, after}
-use Rattle.block_core.proofs.sound.Invariant.{Fair}
-use Rattle.block_core.proofs.sound.Orders.{Ground}
+use Rattle.block_core.proofs.sound.Invariant.{LedgersAreNumbered}
+use Rattle.block_core.proofs.sound.Orders.{DeviceGeometry}
 use Rattle.block_core.proofs.moves.StepMoves.{step_is_move}
 use Rattle.block_core.proofs.sound.EveryRun.{Whole, step_whole}
 
-pub runs_keep : (scene : Scene) → Fair scene → Ground scene.setup → (P : State → Type 0)
+pub runs_keep : (scene : Scene) → LedgersAreNumbered scene → DeviceGeometry scene.setup → (P : State → Type 0)
     → ((s : State) (m : Move) → Whole scene s → Whole scene (after scene s m) → Can scene s m → P s → P (after scene s m))
     → (s : State) (events : List Event) (new : State) → Whole scene s → P s → IsRun scene s events new → P new
 runs_keep scene f g P stays s [] new i t run = subst P (sym run) t

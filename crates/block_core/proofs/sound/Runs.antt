@@ -4,7 +4,7 @@ use Rattle.run_machine.specs.Scene.{Scene}
 use Rattle.run_machine.specs.Runs.{State}
 use Rattle.block_core.specs.Weights.{total_weight}
 use Rattle.block_core.proofs.moves.Moves.{place_of, after}
-use Rattle.block_core.proofs.sound.Invariant.{IsIn, Fair, Invariant}
+use Rattle.block_core.proofs.sound.Invariant.{IsIn, LedgersAreNumbered, Invariant}
 use Rattle.run_machine.specs.declared.event.Event.{Event}
 use Rattle.run_machine.specs.Events.{what_of}
 use Rattle.run_machine.specs.Tasks.{request}
@@ -15,7 +15,7 @@ use Rattle.block_core.proofs.sound.InvariantKept.{keeps}
 use Rattle.block_core.proofs.sound.DoneOnce.{stage, staged, asked, asked_by, done_of, told_done}
 
 -- one event: what it keeps
-pub step_keeps : (scene : Scene) (s : State) → Fair scene → Invariant scene s → (place : ℕ) (event : Event) (new : State) → Steps scene s place event new
+pub step_keeps : (scene : Scene) (s : State) → LedgersAreNumbered scene → Invariant scene s → (place : ℕ) (event : Event) (new : State) → Steps scene s place event new
     → ((other : ℕ) → IsIn scene.setup (new.task other)) → Invariant scene new
 step_keeps scene s f i place event new steps isin =
     let moved = step_is_move scene s f i place event new steps in
@@ -24,7 +24,7 @@ step_keeps scene s f i place event new steps isin =
     subst (Invariant scene) (sym moved.is) (keeps scene s f i moved.move moved.can at_new)
 
 -- and whether it tells a write done
-pub step_done : (scene : Scene) (s : State) (w : ℕ) → Fair scene → Invariant scene s → (place : ℕ) (event : Event) (new : State) → Steps scene s place event new
+pub step_done : (scene : Scene) (s : State) (w : ℕ) → LedgersAreNumbered scene → Invariant scene s → (place : ℕ) (event : Event) (new : State) → Steps scene s place event new
     → done_in w event.what + total_weight scene (stage w) new ≡ total_weight scene (stage w) s
 step_done scene s w f i place event new steps =
     let moved = step_is_move scene s f i place event new steps in

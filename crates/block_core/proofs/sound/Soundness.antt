@@ -16,7 +16,7 @@ use Rattle.block_core.proofs.sound.OffLevels.{parent_off, held_level, below_off,
 use Rattle.block_core.specs.Levels.{HasLevels}
 use Rattle.block_core.specs.Images.{HasItsWord}
 use Rattle.block_core.specs.Sound.{EveryRunIsSound}
-use Rattle.block_core.proofs.sound.Invariant.{own_of, Fair, Invariant}
+use Rattle.block_core.proofs.sound.Invariant.{own_of, LedgersAreNumbered, Invariant}
 use Rattle.block_core.proofs.start.InvariantAtStart.{Begins, IsStartState, total_zero, start_opened}
 use Rattle.block_core.proofs.moves.Devices.{ground}
 use Rattle.block_core.proofs.sound.EveryRun.{runs_whole, run_tallied, start_whole, start_leveled, none_waits_for_itself}
@@ -83,7 +83,7 @@ opened_stands scene s o = record {
 pub every_run_is_sound : EveryRunIsSound
 every_run_is_sound s ledger events state good naming run =
     let sc = scene s ledger in
-    let f : Fair sc = record { named = naming } in
+    let f : LedgersAreNumbered sc = record { named = naming } in
     let g = ground s.stack good.stack (setup_in s).places in
     let o = start_opened s good ledger in
     let first = start_whole s ledger good naming in

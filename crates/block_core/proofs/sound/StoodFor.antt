@@ -21,8 +21,8 @@ use Rattle.block_core.specs.Roles.{named, masters, children, legs_to_make}
 use Rattle.block_core.proofs.moves.Moves.{Move, place_of, touch_by, Can, after, lost, gained, limit_of, filled_of, vector_of, cut_lists, TellsNode}
 use Rattle.block_core.proofs.moves.Moves as moves
 use Rattle.block_core.proofs.moves.Sums.{upd-same, upd-other, same_or_not, one-same, one-other}
-use Rattle.block_core.proofs.sound.Invariant.{own_part, own_of, Fair, Invariant}
-use Rattle.block_core.proofs.sound.Orders.{Ground}
+use Rattle.block_core.proofs.sound.Invariant.{own_part, own_of, LedgersAreNumbered, Invariant}
+use Rattle.block_core.proofs.sound.Orders.{DeviceGeometry}
 use Rattle.block_core.proofs.sound.EveryRun.{Whole, step_whole}
 use Rattle.block_core.proofs.moves.StepMoves.{step_is_move}
 use Rattle.block_core.proofs.moves.Deltas.{vacant_at, delta}
@@ -242,7 +242,7 @@ closed_so scene s was_master (moves.Ends place disk writer closed) c = refl
 closed_so scene s was_master (moves.Resized place pool min later duties) c = refl
 closed_so scene s was_master (moves.Started place round later duties) c = refl
 
-pub runs_stand : (scene : Scene) → Fair scene → Ground scene.setup → (s : State) (events : List Event) (new : State) (was_master : ℕ → Bool) → Whole scene s → Stands scene was_master s
+pub runs_stand : (scene : Scene) → LedgersAreNumbered scene → DeviceGeometry scene.setup → (s : State) (events : List Event) (new : State) (was_master : ℕ → Bool) → Whole scene s → Stands scene was_master s
     → (run : IsRun scene s events new) → Stands scene (were_masters scene s events new run was_master) new
 runs_stand scene f g s [] new was_master i t run = subst (Stands scene was_master) (sym run) t
 runs_stand scene f g s (event ∷ events) new was_master i t (next, (place, steps), run) =

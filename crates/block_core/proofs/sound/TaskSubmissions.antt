@@ -20,7 +20,7 @@ use Rattle.run_machine.specs.Runs.{State}
 use Rattle.block_core.proofs.moves.Moves.{Move, Can, after, with_submission, HasSubmission, Wants, with_want, filled_of, cut_lists}
 use Rattle.block_core.proofs.moves.Moves as moves
 use Rattle.block_core.proofs.moves.Sums.{upd-same, upd-other, same_or_not}
-use Rattle.block_core.proofs.sound.Invariant.{Suits, DoingFits, SubmissionFits, HandFits, TaskFits, Fair, Invariant}
+use Rattle.block_core.proofs.sound.Invariant.{Suits, DoingFits, SubmissionFits, HandFits, TaskFits, LedgersAreNumbered, Invariant}
 use Rattle.std.proofs.lemmas.Bool.{eqb-false}
 
 -- what is so at all places is so when one of them changes
@@ -102,7 +102,7 @@ submission_keeps scene (Rescuer dev submission) doing lists new fits h busy to =
 submission_keeps scene (Completer disk carried) doing lists new fits h busy to = absurd h
 submission_keeps scene (Keeper keeping) doing lists new fits h busy to = absurd h
 
-module _ (scene : Scene) (s : State) (f : Fair scene) (i : Invariant scene s) where
+module _ (scene : Scene) (s : State) (f : LedgersAreNumbered scene) (i : Invariant scene s) where
   at_place : (place : ℕ) (x : TaskState) → s.task place ≡ x → TaskFits scene x
   at_place place x is = subst (TaskFits scene) is (i.tasks place)
 

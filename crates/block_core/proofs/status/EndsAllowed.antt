@@ -34,7 +34,7 @@ use Rattle.block_core.proofs.sound.TaskSubmissions.{submission_fits}
 use Rattle.block_core.proofs.moves.Deltas.{delta}
 use Rattle.block_core.proofs.sound.SumParts.{cut_weight, submission_part, named_away, unless_less}
 use Rattle.block_core.proofs.moves.SubmissionWeights.{landed_same}
-use Rattle.block_core.proofs.sound.Orders.{IsOwn, TaskPlaced, Placed, Ground}
+use Rattle.block_core.proofs.sound.Orders.{IsOwn, TaskPlaced, Placed, DeviceGeometry}
 use Rattle.block_core.proofs.sound.OrdersKept.{placed_at}
 use Rattle.block_core.proofs.moves.Misfits.{misfits, cut_fits}
 use Rattle.block_core.proofs.images.StillToCome.{over}
@@ -70,7 +70,7 @@ module _ (scene : Scene) (ends : Fragment → Status) (written : ℕ → Status 
         v.lands item.bio end there,
       )
 
-  module _ (s : State) (g : Ground setup) (i : Invariant scene s) (a : Placed setup s) (counted : total_weight scene (misfits over) s ≡ 0) (endings : (place : ℕ) → HasEnding ends (s.task place))
+  module _ (s : State) (g : DeviceGeometry setup) (i : Invariant scene s) (a : Placed setup s) (counted : total_weight scene (misfits over) s ≡ 0) (endings : (place : ℕ) → HasEnding ends (s.task place))
       (mark : ℕ → ℕ → Mark) (h : IsMarked scene ends written mark s) where
     -- a node that a driven bio names is no master
     driven_node : (place : ℕ) (x : TaskState) (bio : Item Pad) (doing : Doing) (lists : TaskLists) (node : Node) → place < scene.tasks → s.task place ≡ x → HasSubmission x doing lists

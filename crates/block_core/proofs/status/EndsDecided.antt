@@ -31,7 +31,7 @@ use Rattle.block_core.proofs.moves.Deltas.{vacant_at, delta}
 use Rattle.block_core.proofs.moves.BookMaps.{made, chained}
 use Rattle.block_core.proofs.sound.SumParts.{cut_weight}
 use Rattle.block_core.proofs.moves.SubmissionWeights.{landed_same}
-use Rattle.block_core.proofs.sound.Orders.{IsOwn, TaskPlaced, Placed, Ground}
+use Rattle.block_core.proofs.sound.Orders.{IsOwn, TaskPlaced, Placed, DeviceGeometry}
 use Rattle.block_core.proofs.sound.OrdersKept.{placed_at}
 use Rattle.block_core.proofs.moves.Misfits.{misfits, cut_fits}
 use Rattle.block_core.proofs.images.StillToCome.{over}
@@ -57,7 +57,7 @@ module _ (scene : Scene) (ends : Fragment → Status) (written : ℕ → Status 
       ap (λ n. n * decides master (bio_may setup ends at Ok)) (landed_same (λ (bio : Bio). one bio.writer w * one bio.node k) (λ to members bio. refl) (tree_at setup item.bio.dev) item.bio)
       ∙ ap (λ n. names_node w k item * decides master n) (v.lands item.bio Ok there)
 
-  module _ (s : State) (g : Ground setup) (i : Invariant scene s) (a : Placed setup s) (counted : total_weight scene (misfits over) s ≡ 0) (endings : (place : ℕ) → HasEnding ends (s.task place))
+  module _ (s : State) (g : DeviceGeometry setup) (i : Invariant scene s) (a : Placed setup s) (counted : total_weight scene (misfits over) s ≡ 0) (endings : (place : ℕ) → HasEnding ends (s.task place))
       (mark : ℕ → ℕ → Mark) (h : IsMarked scene ends written mark s) where
     -- what a node lacks still comes
     same_decided : (m : Move) → Can scene s m → (after scene s m).objects.book ≡ s.objects.book → (w k : ℕ)

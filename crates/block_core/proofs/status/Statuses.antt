@@ -43,9 +43,9 @@ use Rattle.block_core.specs.DoneWrites.{WriteMayEnd, StatusesAreGiven, HasGivenS
 use Rattle.block_core.proofs.moves.Sums.{one-same, one-other, same_or_not}
 use Rattle.block_core.proofs.moves.Moves.{Move, place_of, touch_by, Can, after, with_submission, HasSubmission}
 use Rattle.block_core.proofs.moves.Moves as moves
-use Rattle.block_core.proofs.sound.Invariant.{Fair}
+use Rattle.block_core.proofs.sound.Invariant.{LedgersAreNumbered}
 use Rattle.block_core.proofs.sound.TaskSubmissions.{all-upd}
-use Rattle.block_core.proofs.sound.Orders.{Ground}
+use Rattle.block_core.proofs.sound.Orders.{DeviceGeometry}
 use Rattle.block_core.proofs.moves.Devices.{ground}
 use Rattle.block_core.proofs.moves.StepMoves.{step_is_move}
 use Rattle.block_core.proofs.start.InvariantAtStart.{Begins, start_opened}
@@ -145,7 +145,7 @@ set_get_other xs i j x y ne at =
     let lt = slice_get_within xs j y at in
     slice_get-get_or (set xs i x) j y (omega (arith, lt, long)) ∙ ap Some (get_or-set_other xs i j x y ne ∙ get_or_from_slice_get xs j y y at)
 
-module _ (s : Scenario) (ledger : ℕ → LedgerId) (f : Fair (scene s ledger)) (g : Ground (setup_in s)) (v : EndingsByParts (setup_in s) (fault_of s.stack)) where
+module _ (s : Scenario) (ledger : ℕ → LedgerId) (f : LedgersAreNumbered (scene s ledger)) (g : DeviceGeometry (setup_in s)) (v : EndingsByParts (setup_in s) (fault_of s.stack)) where
   abbrev sc : Scene
   sc = scene s ledger
 
@@ -354,7 +354,7 @@ module _ (s : Scenario) (ledger : ℕ → LedgerId) (events : List Event) (state
 
   happens_given : (event : Event) (new : State) → Happens (scene s ledger) state event new → (w : ℕ) (end : Status) → event.what ≡ what.Done w end → WriteMayEnd s w end
   happens_given event new (place, steps) w end tells =
-      let f : Fair (scene s ledger) = record { named = naming } in
+      let f : LedgersAreNumbered (scene s ledger) = record { named = naming } in
       let i = runs_whole (scene s ledger) f (ground s.stack good.stack (setup_in s).places) (start s) events state (start_whole s ledger good naming) run in
       let moved = step_is_move (scene s ledger) state f i.kept place event new steps in
       let here : what_of (request (setup_in s) (state.task place)) steps.reply ≡ Some (what.Done w end) = steps.told ∙ ap Some tells in
@@ -393,6 +393,6 @@ completers_are_right s ledger events state good naming run = (told s ledger even
 pub nodes_are_valued : NodesAreValued
 nodes_are_valued s ledger events state good naming run =
     let t = told s ledger events state good naming run in
-    let f : Fair (scene s ledger) = record { named = naming } in
+    let f : LedgersAreNumbered (scene s ledger) = record { named = naming } in
     let i = runs_whole (scene s ledger) f (ground s.stack good.stack (setup_in s).places) (start s) events state (start_whole s ledger good naming) run in
     are_valued s (scene s ledger) (node_bios (scene s ledger) (start s) events state run no_bios) state i.kept t.mark t.tied t.valued

@@ -14,8 +14,8 @@ use Rattle.block_core.specs.Stuck.{NoStateIsStuck, NoAllowedStateIsStuck, EachRu
 use Rattle.block_core.proofs.moves.References.{awaited_ends}
 use Rattle.block_core.proofs.moves.Devices.{ground}
 use Rattle.block_core.proofs.moves.StepMoves.{step_is_move}
-use Rattle.block_core.proofs.sound.Invariant.{Fair}
-use Rattle.block_core.proofs.sound.Orders.{Ground}
+use Rattle.block_core.proofs.sound.Invariant.{LedgersAreNumbered}
+use Rattle.block_core.proofs.sound.Orders.{DeviceGeometry}
 use Rattle.block_core.proofs.sound.Counters.{Counted, stays_counted}
 use Rattle.block_core.proofs.sound.LargestCounts.{no_counter_is_full}
 use Rattle.block_core.proofs.sound.EveryRun.{Whole, step_whole, runs_whole, runs_tallied, runs_posted, runs_long, runs_leveled, runs_waiting, start_whole, start_leveled}
@@ -30,7 +30,7 @@ use Rattle.block_core.proofs.stuck.Stuck.{goes_on_or_ended}
 use Rattle.block_core.proofs.stuck.WaitersBelow.{WaitInvariant}
 
 -- no counter is above the number of events, and eight
-module _ (scene : Scene) (f : Fair scene) (g : Ground scene.setup) where
+module _ (scene : Scene) (f : LedgersAreNumbered scene) (g : DeviceGeometry scene.setup) where
   runs_counted : (n : ℕ) (s : State) (events : List Event) (new : State) → Whole scene s → Counted n s → IsRun scene s events new → Counted (n + length events) new
   runs_counted n s [] new i t run = let e : n ≡ n + 0 = omega arith in subst (λ k. Counted k new) e (subst (Counted n) (sym run) t)
   runs_counted n s (event ∷ events) new i t (next, (place, steps), run) =
@@ -49,8 +49,8 @@ module _ (scene : Scene) (f : Fair scene) (g : Ground scene.setup) where
       }
 
 module _ (s : Scenario) (ledger : ℕ → LedgerId) (good : IsScenario s) (naming : IsNaming ledger) where
-  fair : Fair (scene s ledger)
-  fair = record { named = naming }
+  numbered : LedgersAreNumbered (scene s ledger)
+  numbered = record { named = naming }
 
   whole : Whole (scene s ledger) (start s)
   whole = start_whole s ledger good naming
@@ -63,14 +63,14 @@ module _ (s : Scenario) (ledger : ℕ → LedgerId) (good : IsScenario s) (namin
       let g = ground s.stack good.stack places in
       let keeper = keeper_place s good ledger in
       let ids = ids_of s good ledger reserves ordered in
-      let i = runs_whole sc fair g (start s) events state whole run in
+      let i = runs_whole sc numbered g (start s) events state whole run in
       let t0 = start_tallied s good ledger in
-      let t = runs_tallied sc fair g s.rounds keeper (start s) events state whole t0 run in
-      let p = runs_posted sc fair g s.rounds ids keeper (start s) events state whole t0 (start_posted s good ledger reserves ordered) run in
-      let l = runs_leveled sc fair g (start s) events state whole (start_leveled s ledger good naming) run in
+      let t = runs_tallied sc numbered g s.rounds keeper (start s) events state whole t0 run in
+      let p = runs_posted sc numbered g s.rounds ids keeper (start s) events state whole t0 (start_posted s good ledger reserves ordered) run in
+      let l = runs_leveled sc numbered g (start s) events state whole (start_leveled s ledger good naming) run in
       let r = run_roomy s ledger good naming events state run in
-      let w = runs_waiting sc fair g (are_rescued s.stack good.stack places rescuers) (start s) events state whole (opened_waits sc (start s) (start_opened s good ledger)) run in
-      let long = runs_long sc fair g s.rounds ids keeper (start s) events state whole run ∙ length-map-range_with_len (writes_in s) 0 (round_count s) in
+      let w = runs_waiting sc numbered g (are_rescued s.stack good.stack places rescuers) (start s) events state whole (opened_waits sc (start s) (start_opened s good ledger)) run in
+      let long = runs_long sc numbered g s.rounds ids keeper (start s) events state whole run ∙ length-map-range_with_len (writes_in s) 0 (round_count s) in
       let none : from_round s.rounds (length state.objects.tally.left) ≡ 0 = ap (from_round s.rounds) long ∙ (from_none s.rounds 0 (round_count s) (omega arith)).1 in
       let known : WaitInvariant sc state l.0 = record { ground = g; kept = i.kept; placed = i.placed; waits = w; alive = i.alive; levels = l.1; mins = p.mins } in
       goes_on_or_ended sc state l.0 known ids keeper p (start_crew s good ledger reserves ordered) s.rounds t none (needs_known s.stack good.stack places) r numbers
@@ -91,7 +91,7 @@ module _ (s : Scenario) (ledger : ℕ → LedgerId) (good : IsScenario s) (namin
       let g = ground s.stack good.stack (setup_in s).places in
       let o = start_opened s good ledger in
       let counted : Counted 0 (start s) = record { outs = λ q. let z = o.pools q in omega (arith, z); ends = λ w k. let z : awaited_ends (node_at ((start s).objects.book w) k) ≡ 0 = ap awaited_ends (o.books w k) in omega (arith, z) } in
-      let numbers = few_numbers sc fair g (start s) events state whole counted run few in
+      let numbers = few_numbers sc numbered g (start s) events state whole counted run few in
       run_free_by rescuers reserves ordered events state run numbers some
 
 pub no_state_is_stuck : NoStateIsStuck

@@ -18,7 +18,7 @@ use Rattle.block_core.specs.Weights.{Weight, Lined, sum_at, one, submission_weig
 use Rattle.block_core.proofs.moves.Sums.{one-other, same_or_not}
 use Rattle.block_core.proofs.sound.Invariant.{Suits, DoingFits}
 use Rattle.block_core.proofs.sound.TaskSubmissions.{IsBusy}
-use Rattle.block_core.proofs.sound.Orders.{Above, DoingPlaced, Ground}
+use Rattle.block_core.proofs.sound.Orders.{Above, DoingPlaced, DeviceGeometry}
 use Rattle.std.specs.Prelude.{min}
 use Rattle.run_machine.specs.Scene.{keeps_data, is_mirror}
 use Rattle.block_core.proofs.stuck.Waits.{DoingWaits}
@@ -122,7 +122,7 @@ both zero b h = absurd (omega (arith, h))
 both (suc a) zero h = absurd (grind (arith, h))
 both (suc a) (suc b) h = (omega arith, omega arith)
 
-module _ (scene : Scene) (s : State) (g : Ground scene.setup) (u v : Weight) where
+module _ (scene : Scene) (s : State) (g : DeviceGeometry scene.setup) (u v : Weight) where
   abbrev setup : Setup
   setup = scene.setup
 

@@ -18,7 +18,7 @@ use Rattle.block_core.proofs.moves.References.{references, awaited_ends}
 use Rattle.block_core.proofs.moves.Sums.{apart}
 use Rattle.block_core.proofs.sound.Invariant.{DoingFits, SubmissionFits, TaskFits, Invariant}
 use Rattle.block_core.proofs.sound.TaskSubmissions.{IsBusy}
-use Rattle.block_core.proofs.sound.Orders.{IsOwn, DoingPlaced, TaskPlaced, Placed, Ground}
+use Rattle.block_core.proofs.sound.Orders.{IsOwn, DoingPlaced, TaskPlaced, Placed, DeviceGeometry}
 use Rattle.std.specs.Prelude.{min}
 use Rattle.stack_base.proofs.NumberLemmas.{zero_or}
 use Rattle.block_core.proofs.sound.Alive.{IsAlive}
@@ -29,7 +29,7 @@ use Rattle.block_core.proofs.stuck.NothingWaits.{IsPool, spares, StillDoing, Sti
 
 -- what holds of a state of a run, so far as no task waits for itself
 pub record WaitInvariant (scene : Scene) (s : State) (level : ℕ → ℕ → ℕ) : Type 0 where
-  pub ground : Ground scene.setup
+  pub ground : DeviceGeometry scene.setup
   pub kept : Invariant scene s
   pub placed : Placed scene.setup s
   pub waits : Waits scene.setup s

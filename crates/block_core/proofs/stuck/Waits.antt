@@ -28,7 +28,7 @@ use Rattle.block_core.proofs.moves.Moves as moves
 use Rattle.block_core.proofs.sound.Invariant.{TaskFits, Invariant}
 use Rattle.block_core.proofs.moves.Geometry.{IsThere}
 use Rattle.block_core.proofs.sound.TaskSubmissions.{all-upd, submission_fits}
-use Rattle.block_core.proofs.sound.Orders.{Above, IsPlaced, IsOwn, DoingPlaced, TaskPlaced, Placed, Ground, of_set}
+use Rattle.block_core.proofs.sound.Orders.{Above, IsPlaced, IsOwn, DoingPlaced, TaskPlaced, Placed, DeviceGeometry, of_set}
 use Rattle.std.specs.Prelude.{All}
 use Rattle.std.proofs.lemmas.List.Elements.{All-nil, All-cons}
 use Rattle.bioset_pools.specs.Sets.{is_empty}
@@ -177,7 +177,7 @@ relined setup (Rescuer dev submission) new n = n
 relined setup (Completer disk carried) new n = tt
 relined setup (Keeper keeping) new n = tt
 
-module _ (scene : Scene) (s : State) (g : Ground scene.setup) (r : AreRescued scene.setup) (k : Invariant scene s) (p : Placed scene.setup s) (i : Waits scene.setup s) where
+module _ (scene : Scene) (s : State) (g : DeviceGeometry scene.setup) (r : AreRescued scene.setup) (k : Invariant scene s) (p : Placed scene.setup s) (i : Waits scene.setup s) where
   goes : (place : ℕ) (y : TaskState) → TaskWaits scene.setup y → (j : ℕ) → TaskWaits scene.setup (upd s.task place y j)
   goes place y fits = all-upd (TaskWaits scene.setup) s.task place y i.tasks fits
 

@@ -25,7 +25,7 @@ use Rattle.block_core.proofs.moves.Sums.{upd-same, upd-other, same_or_not}
 use Rattle.block_core.proofs.moves.SubmissionWeights.{landed_same}
 use Rattle.block_core.proofs.sound.Invariant.{TaskFits, Invariant}
 use Rattle.block_core.proofs.moves.Geometry.{IsThere}
-use Rattle.block_core.proofs.sound.Orders.{IsOwn, TodoThere, TaskPlaced, Placed, Ground}
+use Rattle.block_core.proofs.sound.Orders.{IsOwn, TodoThere, TaskPlaced, Placed, DeviceGeometry}
 use Rattle.block_core.proofs.moves.Deltas.{delta}
 use Rattle.block_core.proofs.moves.Landings.{AreThere, IsLanding, settled_there, goes_there, copies_there, all_there, none_there, cut_there, leg_there}
 use Rattle.block_core.proofs.sound.TaskSubmissions.{submission_fits}
@@ -71,7 +71,7 @@ kept_places f places writer book all same w = elim (same_or_not w writer) [
 two_places : (book : BookState) (key place : ℕ) (new other : Option Node) → length (with_node (with_node book key new) place other).nodes ≡ length book.nodes
 two_places book key place new other = length-set (with_node book key new).nodes place other ∙ length-set book.nodes key new
 
-module _ (scene : Scene) (s : State) (g : Ground scene.setup) (n : Needs scene.setup) (i : Invariant scene s) (a : Placed scene.setup s) where
+module _ (scene : Scene) (s : State) (g : DeviceGeometry scene.setup) (n : Needs scene.setup) (i : Invariant scene s) (a : Placed scene.setup s) where
   -- an event that opens a node has one less to open
   abbrev Spends : ℕ → (ℕ → ℕ) → Move → Type 0
   Spends w worth m =

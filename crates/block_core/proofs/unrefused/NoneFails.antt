@@ -10,8 +10,8 @@ use Rattle.run_machine.specs.Opened.{scene, todos, duties}
 use Rattle.run_machine.specs.Runs.{State, IsRun}
 use Rattle.block_core.proofs.moves.Moves.{Move, Can, after, HasSubmission, with_submission}
 use Rattle.block_core.proofs.moves.Moves as moves
-use Rattle.block_core.proofs.sound.Invariant.{Fair}
-use Rattle.block_core.proofs.sound.Orders.{Ground}
+use Rattle.block_core.proofs.sound.Invariant.{LedgersAreNumbered}
+use Rattle.block_core.proofs.sound.Orders.{DeviceGeometry}
 use Rattle.block_core.proofs.sound.TaskSubmissions.{all-upd}
 use Rattle.block_core.proofs.moves.StepMoves.{step_is_move}
 use Rattle.block_core.proofs.start.InvariantAtStart.{Begins}
@@ -71,7 +71,7 @@ module _ (scene : Scene) (s : State) (all : (place : ℕ) → GoesOnCarrying (s.
   carries_on (moves.Resized place pool min later duties) c = goes place _ tt
   carries_on (moves.Started place round later duties) c = goes place _ tt
 
-module _ (scene : Scene) (f : Fair scene) (g : Ground scene.setup) where
+module _ (scene : Scene) (f : LedgersAreNumbered scene) (g : DeviceGeometry scene.setup) where
   pub runs_on : (s : State) (events : List Event) (new : State) → Whole scene s → ((place : ℕ) → GoesOnCarrying (s.task place)) → IsRun scene s events new
       → (place : ℕ) → GoesOnCarrying (new.task place)
   runs_on s [] new i all run = subst (λ (x : State). (place : ℕ) → GoesOnCarrying (x.task place)) (sym run) all

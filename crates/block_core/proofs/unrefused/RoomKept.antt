@@ -7,8 +7,8 @@ use Rattle.run_machine.specs.Opened.{Scenario, scene, start, setup as setup_in}
 use Rattle.run_machine.specs.Runs.{State, Steps, IsRun}
 use Rattle.block_core.specs.Scenarios.{IsScenario, IsNaming}
 use Rattle.block_core.specs.Rooms.{HasRoomInBooks, BooksHaveRoom}
-use Rattle.block_core.proofs.sound.Invariant.{Fair}
-use Rattle.block_core.proofs.sound.Orders.{Ground}
+use Rattle.block_core.proofs.sound.Invariant.{LedgersAreNumbered}
+use Rattle.block_core.proofs.sound.Orders.{DeviceGeometry}
 use Rattle.block_core.proofs.moves.Devices.{ground}
 use Rattle.block_core.proofs.unrefused.NodeNeeds.{Needs, needs_known}
 use Rattle.block_core.proofs.moves.StepMoves.{step_is_move}
@@ -16,7 +16,7 @@ use Rattle.block_core.proofs.unrefused.NodesOpened.{stays_roomy}
 use Rattle.block_core.proofs.start.RoomAtStart.{start_roomy}
 use Rattle.block_core.proofs.sound.EveryRun.{Whole, runs_whole, start_whole}
 
-module _ (scene : Scene) (f : Fair scene) (g : Ground scene.setup) (n : Needs scene.setup) where
+module _ (scene : Scene) (f : LedgersAreNumbered scene) (g : DeviceGeometry scene.setup) (n : Needs scene.setup) where
   step_roomy : (s : State) (place : ℕ) (event : Event) (new : State) → Whole scene s → HasRoomInBooks scene s → Steps scene s place event new → HasRoomInBooks scene new
   step_roomy s place event new i r steps =
       let moved = step_is_move scene s f i.kept place event new steps in

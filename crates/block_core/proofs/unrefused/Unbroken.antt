@@ -22,7 +22,7 @@ use Rattle.run_machine.proofs.Apart.{one_keeper}
 use Rattle.run_machine.proofs.Passing.{filter_sum}
 use Rattle.block_core.specs.Scenarios.{IsScenario, IsNaming}
 use Rattle.block_core.specs.Breaks.{ElementsAreAllowed, GoesUnrefused, NoTaskBreaks}
-use Rattle.block_core.proofs.sound.Invariant.{DoingFits, TaskFits, Fair}
+use Rattle.block_core.proofs.sound.Invariant.{DoingFits, TaskFits, LedgersAreNumbered}
 use Rattle.block_core.proofs.moves.Devices.{ground}
 use Rattle.block_core.proofs.unrefused.NodeNeeds.{needs_known}
 use Rattle.block_core.proofs.start.InvariantAtStart.{start_opened}
@@ -100,15 +100,15 @@ module _ (s : Scenario) (ledger : ℕ → LedgerId) (good : IsScenario s) (allow
   run_unrefused : (events : List Event) (state : State) → IsRun (scene s ledger) (start s) events state → GoesUnrefused (scene s ledger) state
   run_unrefused events state run =
       let places = (setup_in s).places in
-      let fair : Fair (scene s ledger) = record { named = naming } in
+      let numbered : LedgersAreNumbered (scene s ledger) = record { named = naming } in
       let g = ground s.stack good.stack places in
       let begun = start_whole s ledger good naming in
-      let i = runs_whole (scene s ledger) fair g (start s) events state begun run in
+      let i = runs_whole (scene s ledger) numbered g (start s) events state begun run in
       let r = run_roomy s ledger good naming events state run in
       let o = start_opened s good ledger in
-      let on = runs_on (scene s ledger) fair g (start s) events state begun (λ place. begins_on (scene s ledger) ((start s).task place) (o.tasks place)) run in
-      let t = runs_tallied (scene s ledger) fair g s.rounds (keeper_place s good ledger) (start s) events state begun (start_tallied s good ledger) run in
-      let l = runs_leveled (scene s ledger) fair g (start s) events state begun (start_leveled s ledger good naming) run in
+      let on = runs_on (scene s ledger) numbered g (start s) events state begun (λ place. begins_on (scene s ledger) ((start s).task place) (o.tasks place)) run in
+      let t = runs_tallied (scene s ledger) numbered g s.rounds (keeper_place s good ledger) (start s) events state begun (start_tallied s good ledger) run in
+      let l = runs_leveled (scene s ledger) numbered g (start s) events state begun (start_leveled s ledger good naming) run in
       record {
         answers = λ place here reply new serves.
             not_refused ledger state.objects new _ reply (ready (scene s ledger) state (needs_known s.stack good.stack places) small i.kept i.placed r place here) serves;

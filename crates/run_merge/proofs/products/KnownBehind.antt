@@ -13,8 +13,8 @@ use Rattle.block_core.specs.Dones.{times_done}
 use Rattle.block_core.specs.Weights.{total_weight, one}
 use Rattle.block_core.proofs.sound.DoneOnce.{stage}
 use Rattle.block_core.proofs.moves.Devices.{ground}
-use Rattle.block_core.proofs.sound.Invariant.{Fair}
-use Rattle.block_core.proofs.sound.Orders.{Ground}
+use Rattle.block_core.proofs.sound.Invariant.{LedgersAreNumbered}
+use Rattle.block_core.proofs.sound.Orders.{DeviceGeometry}
 use Rattle.block_core.proofs.sound.Rounds.{DutiesFit, TaskRounds, Tallied}
 use Rattle.block_core.proofs.start.TallyAtStart.{keeper_place, start_tallied}
 use Rattle.block_core.proofs.moves.Sums.{one-same, one-other, same_or_not, below_or}
@@ -43,10 +43,10 @@ module _ (s : Scenario) (ledger : ℕ → LedgerId) (good : IsScenario s) (namin
   abbrev sc : Scene
   sc = scene s ledger
 
-  fair : Fair sc
-  fair = record { named = naming }
+  numbered : LedgersAreNumbered sc
+  numbered = record { named = naming }
 
-  g : Ground sc.setup
+  g : DeviceGeometry sc.setup
   g = ground s.stack good.stack (setup_in s).places
 
   pub known : (before : List Entry) (state : State) → AreOfRun s ledger before state → Known s before state
@@ -62,16 +62,16 @@ module _ (s : Scenario) (ledger : ℕ → LedgerId) (good : IsScenario s) (namin
       begun = start_whole s ledger good naming
 
       whole : Whole sc state
-      whole = runs_whole sc fair g (start s) events state begun run
+      whole = runs_whole sc numbered g (start s) events state begun run
 
       t : Tallied s.rounds (keeper_place s good ledger) sc state
-      t = runs_tallied sc fair g s.rounds (keeper_place s good ledger) (start s) events state begun (start_tallied s good ledger) run
+      t = runs_tallied sc numbered g s.rounds (keeper_place s good ledger) (start s) events state begun (start_tallied s good ledger) run
 
       now : ℕ
       now = state.objects.tally.round
 
       times : (w : ℕ) → times_done w events + total_weight sc (stage w) state ≡ total_weight sc (stage w) (start s)
-      times w = runs_done sc fair g w (start s) events state begun run
+      times w = runs_done sc numbered g w (start s) events state begun run
 
       own : (place : ℕ) (duties : List Duty) → state.task place ≡ Keeper (Keeps duties) → DutiesFit s.rounds now duties
       own place [] at = tt

@@ -21,8 +21,8 @@ use Rattle.block_core.proofs.moves.Moves.{Move, Can, after, touch_by}
 use Rattle.block_core.proofs.moves.Moves as moves
 use Rattle.block_core.proofs.moves.StepMoves.{step_is_move}
 use Rattle.block_core.proofs.moves.Sums.{upd-same, upd-other, same_or_not, one-same}
-use Rattle.block_core.proofs.sound.Invariant.{Fair}
-use Rattle.block_core.proofs.sound.Orders.{Ground}
+use Rattle.block_core.proofs.sound.Invariant.{LedgersAreNumbered}
+use Rattle.block_core.proofs.sound.Orders.{DeviceGeometry}
 use Rattle.block_core.proofs.sound.EveryRun.{Whole, step_whole, start_whole}
 use Rattle.block_core.proofs.start.InvariantAtStart.{start_opened}
 use Rattle.block_core.proofs.start.RoomAtStart.{start_roomy}
@@ -177,7 +177,7 @@ module _ (names : Names) (w place : ℕ) where
       let more : opens w (Opens writer name) ≡ opens writer (Opens writer name) = ap (λ v. opens v (Opens writer name)) own in
       absurd (omega (arith, le, here, counted, more, one-same writer))
 
-module _ (scene : Scene) (f : Fair scene) (g : Ground scene.setup) (n : Needs scene.setup) where
+module _ (scene : Scene) (f : LedgersAreNumbered scene) (g : DeviceGeometry scene.setup) (n : Needs scene.setup) where
   -- what stays of a run that is read by names
   record IsUnused (names : Names) (s : State) : Type 0 where
     pub whole : Whole scene s
@@ -222,18 +222,18 @@ module _ (scene : Scene) (f : Fair scene) (g : Ground scene.setup) (n : Needs sc
 pub next_places_are_vacant : NextPlacesAreVacant
 next_places_are_vacant s ledger told events names state good naming read run event writer how node is (new, (place, steps)) =
     let sc = scene s ledger in
-    let fair : Fair sc = record { named = naming } in
+    let numbered : LedgersAreNumbered sc = record { named = naming } in
     let g = ground s.stack good.stack (setup_in s).places in
     let n = needs_known s.stack good.stack (setup_in s).places in
     let whole = start_whole s ledger good naming in
     let roomy = start_roomy s good ledger in
-    let u = unused sc fair g n no_names names (start s) state told events read (record {
+    let u = unused sc numbered g n no_names names (start s) state told events read (record {
       whole = whole;
       roomy = roomy;
       left = λ w. room_left sc (start s) whole.kept roomy w;
       none = λ w at le. (start_opened s good ledger).books w at;
     }) run in
-    let next = finds_next sc fair g n state u.whole.kept u.whole.placed names u.left place event new steps writer node (ap touch_of (sym is)) in
+    let next = finds_next sc numbered g n state u.whole.kept u.whole.placed names u.left place event new steps writer node (ap touch_of (sym is)) in
     let long = u.roomy.places writer in
     let lt : names.opened writer < length (state.objects.book writer).nodes = let below = next.1 in omega (arith, below, long) in
     slice_get-get_or (state.objects.book writer).nodes (names.opened writer) None lt ∙ ap Some (u.none writer (names.opened writer) (omega arith))

@@ -14,8 +14,8 @@ use Rattle.block_core.specs.Rooms.{room, HasRoomInBooks}
 use Rattle.block_core.proofs.moves.Moves.{Move, Can, after, touch_by}
 use Rattle.block_core.proofs.moves.Moves as moves
 use Rattle.block_core.proofs.moves.Sums.{upd-same, upd-other, same_or_not, one-same, one-other}
-use Rattle.block_core.proofs.sound.Invariant.{Fair, Invariant}
-use Rattle.block_core.proofs.sound.Orders.{Placed, Ground}
+use Rattle.block_core.proofs.sound.Invariant.{LedgersAreNumbered, Invariant}
+use Rattle.block_core.proofs.sound.Orders.{Placed, DeviceGeometry}
 use Rattle.block_core.proofs.moves.Deltas.{delta}
 use Rattle.block_core.proofs.unrefused.NodeNeeds.{Needs}
 use Rattle.block_core.proofs.unrefused.NodesOpened.{room_worth, opened_worth, spends}
@@ -36,7 +36,7 @@ none_worth (Opens writer node) = refl
 none_worth (Shuts writer node) = refl
 none_worth Passes = refl
 
-module _ (scene : Scene) (s : State) (g : Ground scene.setup) (n : Needs scene.setup) (i : Invariant scene s) (a : Placed scene.setup s) where
+module _ (scene : Scene) (s : State) (g : DeviceGeometry scene.setup) (n : Needs scene.setup) (i : Invariant scene s) (a : Placed scene.setup s) where
   -- behind each event there is one less to open for each node that it opens
   pub opens_of_those : (w : ℕ) (m : Move) → Can scene s m → total_weight scene (to_open scene.setup w) (after scene s m) + opens w (touch_by m) ≤ total_weight scene (to_open scene.setup w) s
   opens_of_those w m c = omega (arith, delta scene (to_open scene.setup w) s m c, spends scene s g n i a w (λ writer. 0) m c, none_worth (touch_by m))
@@ -124,7 +124,7 @@ opened_after names (what.Round round) w = omega arith
 abbrev pub HasLeft : Scene → Names → State → Type 0
 HasLeft scene names s = (w : ℕ) → names.opened w + total_weight scene (to_open scene.setup w) s ≤ scene.setup.places w
 
-module _ (scene : Scene) (f : Fair scene) (g : Ground scene.setup) (n : Needs scene.setup) (s : State) (i : Invariant scene s) (a : Placed scene.setup s) (names : Names) (left : HasLeft scene names s)
+module _ (scene : Scene) (f : LedgersAreNumbered scene) (g : DeviceGeometry scene.setup) (n : Needs scene.setup) (s : State) (i : Invariant scene s) (a : Placed scene.setup s) (names : Names) (left : HasLeft scene names s)
     (place : ℕ) (event : Event) (new : State) (steps : Steps scene s place event new) where
   pub left_behind : HasLeft scene (names_after names event.what) new
   left_behind w =

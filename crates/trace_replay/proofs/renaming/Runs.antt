@@ -15,8 +15,8 @@ use Rattle.block_core.specs.Touches.{touch_of}
 use Rattle.block_core.specs.Rooms.{HasRoomInBooks}
 use Rattle.block_core.proofs.moves.Devices.{ground}
 use Rattle.block_core.proofs.moves.VacantMarks.{with_mark, mark_here}
-use Rattle.block_core.proofs.sound.Invariant.{Fair}
-use Rattle.block_core.proofs.sound.Orders.{Ground}
+use Rattle.block_core.proofs.sound.Invariant.{LedgersAreNumbered}
+use Rattle.block_core.proofs.sound.Orders.{DeviceGeometry}
 use Rattle.block_core.proofs.sound.EveryRun.{Whole, step_whole, start_whole}
 use Rattle.block_core.proofs.start.InvariantAtStart.{Begins, start_opened}
 use Rattle.block_core.proofs.start.RoomAtStart.{start_roomy}
@@ -30,7 +30,7 @@ use Rattle.trace_replay.proofs.renaming.Stepping.{StatesAlike, plain, step_to}
 use Rattle.trace_replay.proofs.renaming.Marking.{marked}
 use Rattle.trace_replay.proofs.renaming.Room.{HasLeft, left_behind, finds_next, room_left}
 
-module _ (scene : Scene) (naming : (number : ℕ) → (scene.ledger number).no ≡ number) (f : Fair scene) (g : Ground scene.setup) (n : Needs scene.setup) where
+module _ (scene : Scene) (naming : (number : ℕ) → (scene.ledger number).no ≡ number) (f : LedgersAreNumbered scene) (g : DeviceGeometry scene.setup) (n : Needs scene.setup) where
   -- what stays while the run is read: the other state is alike
   pub record Beside (names : Names) (one other : State) : Type 0 where
     pub whole : Whole scene one
