@@ -23,6 +23,7 @@ use Rattle.run_machine.specs.Requests.{Request, Reply, TakeBio, TakeVec, TakeSli
 use Rattle.run_machine.specs.Objects.{TallyState}
 use Rattle.bio_records.specs.Rescue.{Rescue}
 use Rattle.model_disks.specs.Disks.{DiskState}
+use Rattle.task_steps.specs.Service.{Service}
 use Rattle.task_core.specs.Plains.{Advances}
 use Rattle.task_core.specs.Resizing.{Resizes}
 use Rattle.object_things.specs.Stamps.{Stamped, MarkState, ThingState, Told, StepOf, ThingAnswers, thing_state}
@@ -33,7 +34,7 @@ use Rattle.object_things.specs.Lists.{ListServes, ListLooks}
 use Rattle.object_things.specs.Disks.{DiskServes, DiskLooks}
 use Rattle.object_things.specs.Tallies.{TallyServes, TallyLooks}
 
-module _ {O : Type 0} (mark : Stamped O → MarkState) (serves : O → Request → Reply → O → Type 0) (looks : ThingState O → Request → Reply → ThingState O → Type 0)
+module _ {O : Type 0} (mark : Stamped O → MarkState) (serves : Service O) (looks : Service (ThingState O))
     (chooses : O → Reply → Option ℕ → Type 0) (adds_up : O → List Call → O → Type 0)
     (still : (object : O) → adds_up object [] object)
     (one : (old mid : ThingState O) (call : Call) (ticket : Option ℕ) (new : O) (rest : List Call) → StepOf serves looks old call.asked call.told.reply ticket mid → adds_up mid.object rest new → adds_up old.object (call ∷ rest) new) where

@@ -8,6 +8,7 @@ use Rattle.seat_lock.specs.History.{Leads}
 use Rattle.run_machine.specs.declared.event.What.{What}
 use Rattle.run_machine.specs.Events.{what_of}
 use Rattle.run_machine.specs.Requests.{Request, Reply, Spent}
+use Rattle.task_steps.specs.Service.{Service}
 use Rattle.object_things.specs.Stamps.{ThingState, StepOf, ThingAnswers, carried, is_spent}
 use Rattle.object_things.specs.Histories.{Call, FoundNone, IsNextTicket, or_last, TicketsRise, CarriedRise, drawn_in, ticketed_in, CarriesItsOwn, IsQuiet, LeadDrawn, DrawnRun, KeepsHistory, StaysSpent}
 
@@ -36,7 +37,7 @@ carried_rise last low end (c ∷ cs) under rises all =
     by_two None (Some n) t above up more = subst Rises (sym t) (tt, more n low (omega (arith, under, above)) up)
     by_two what None t above up more = subst Rises (sym (t ∙ carried_none what)) (tt, more last low under up)
 
-module _ {O : Type 0} (serves : O → Request → Reply → O → Type 0) (looks : ThingState O → Request → Reply → ThingState O → Type 0)
+module _ {O : Type 0} (serves : Service O) (looks : Service (ThingState O))
     (chooses : O → Reply → Option ℕ → Type 0)
     (quiet : (old new : ThingState O) (asked : Request) (reply : Reply) → looks old asked reply new → IsQuiet old reply (what_of asked reply) new)
     (refused : (old new : O) (asked : Request) (reply : Reply) → serves old asked reply new → what_of asked reply ≡ None → new ≡ old) where

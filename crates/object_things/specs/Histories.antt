@@ -6,6 +6,7 @@ use Rattle.seat_lock.specs.History.{Leads}
 use Rattle.run_machine.specs.declared.event.What.{What}
 use Rattle.run_machine.specs.Events.{what_of}
 use Rattle.run_machine.specs.Requests.{Request, Reply, Spent}
+use Rattle.task_steps.specs.Service.{Service}
 use Rattle.object_things.specs.Stamps.{ThingState, Told, ThingAnswers, carried, is_spent}
 
 -- a call as a history keeps it
@@ -55,7 +56,7 @@ module _ {O : Type 0} where
     pub spent : old.spent ≡ true → new.spent ≡ true
     pub told : what ≡ None
 
-module _ {O : Type 0} (serves : O → Request → Reply → O → Type 0) where
+module _ {O : Type 0} (serves : Service O) where
   -- these calls lead from one state of an object to another
   abbrev pub LeadDrawn : O → List Call → O → Type 0
   LeadDrawn old [] last = old ≡ last
@@ -69,7 +70,7 @@ module _ {O : Type 0} (serves : O → Request → Reply → O → Type 0) where
     pub entries : LeadDrawn old.object (ticketed_in history) last
     pub ends : new.spent ≡ false → last ≡ new.object
 
-module _ {O : Type 0} (serves : O → Request → Reply → O → Type 0) (looks : ThingState O → Request → Reply → ThingState O → Type 0)
+module _ {O : Type 0} (serves : Service O) (looks : Service (ThingState O))
     (chooses : O → Reply → Option ℕ → Type 0) where
   -- what each history of a thing shows
   pub record KeepsHistory : Type 0 where

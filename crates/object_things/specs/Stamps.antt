@@ -8,6 +8,7 @@ use Rattle.run_machine.specs.Events.{what_of}
 use Rattle.run_machine.specs.Requests.{Request, Reply, Spent}
 use Rattle.run_machine.specs.Objects.{TallyState}
 use Rattle.run_machine.specs.Laws.{Object}
+use Rattle.task_steps.specs.Service.{Service}
 use Rattle.task_steps.specs.Stage.{Stage}
 use Rattle.task_steps.specs.declared.objects.Unmade.{Unmade}
 use Rattle.task_steps.specs.declared.objects.Unmade.TheVariants as unmade
@@ -114,7 +115,7 @@ pub record ThingState (O : Type 0) : Type 0 where
 abbrev pub thing_state : {O : Type 0} → O → StampState → ThingState O
 thing_state object stamp = record { object = object; note = stamp.note; spent = stamp.spent }
 
-module _ {O : Type 0} (serves : O → Request → Reply → O → Type 0) (looks : ThingState O → Request → Reply → ThingState O → Type 0) where
+module _ {O : Type 0} (serves : Service O) (looks : Service (ThingState O)) where
   abbrev pub StepOf : ThingState O → Request → Reply → Option ℕ → ThingState O → Type 0
   StepOf old asked reply (Some n) new = serves old.object asked reply new.object × (old.spent ≡ false) × (old.note < n) × (new.note ≡ n) × (new.spent ≡ false)
   StepOf old asked reply None new = looks old asked reply new × (new.note ≡ old.note)

@@ -7,6 +7,7 @@ use Rattle.run_machine.specs.Scene.{Setup}
 use Rattle.run_machine.specs.Requests.{Request, Reply, Rest, Nothing}
 use Rattle.run_machine.specs.Tasks.{TaskState, Completer, Keeper, Keeping, Keeps, Resizes, Starts, Duty, Carried, carried_request, carried_answered, duty_request, keeper_answered, request, answered}
 use Rattle.run_machine.specs.Events.{id_of}
+use Rattle.task_steps.specs.Service.{Service, Owing}
 use Rattle.task_steps.specs.Turns.{step_of, Asks, Turns, Asked}
 use Rattle.task_steps.specs.Answers.{finds}
 
@@ -21,7 +22,7 @@ any_asked asked any rests = true≢false (sym any ∙ ap asks_any rests)
 pub found_any : (reply : Reply) → finds reply ≡ true → reply ≢ Nothing
 found_any reply found none = true≢false (sym found ∙ ap finds none)
 
-module _ {S : Type 0} (serves : S → Request → Reply → S → Type 0) (owes : Request → Reply → Type 0) (setup : Setup) where
+module _ {S : Type 0} (serves : Service S) (owes : Owing) (setup : Setup) where
   -- a reply that no look follows
   pub asks_once : (task : TaskState) (asked : Request) (old : S) (next : TaskState) (new : S) (step : Step) (reply : Reply)
       → request setup task ≡ asked → asks_any asked ≡ true → serves old asked reply new → owes asked reply → finds reply ≡ true

@@ -8,11 +8,12 @@ use Rattle.run_machine.specs.declared.event.Breach.TheVariants as breach
 use Rattle.run_machine.specs.declared.event.TaskId.{TaskId}
 use Rattle.task_steps.specs.declared.step.Step.TheVariants.{Broken}
 use Rattle.run_machine.specs.Scene.{Setup}
-use Rattle.run_machine.specs.Requests.{Request, Reply, TakeBio, Spent}
+use Rattle.run_machine.specs.Requests.{TakeBio, Spent}
 use Rattle.bio_records.specs.declared.bio.Bio.{Bio}
 use Rattle.bio_records.specs.declared.bio.Pad.{Pad}
 use Rattle.bio_records.specs.Items.{Item}
 use Rattle.run_machine.specs.Submissions.{Want, Takes, Punts, Links, Driving, ToPush, ToCut, ToRecord, ToMaster, Doing, Rests, Drives, Copies, Breaks, want_kept, ask_kept, at_hand}
+use Rattle.task_steps.specs.Service.{Service, Owing}
 use Rattle.task_steps.specs.SubmissionViews.{attempt_of}
 use Rattle.task_steps.specs.Answers.{AnswersSubmission, IsSpent}
 
@@ -30,7 +31,7 @@ copies_for_none bio master leg (Takes waits) takes = refl
 copies_for_none bio master leg Punts takes = absurd (takes refl)
 copies_for_none bio master leg (Links hand) takes = absurd (takes refl)
 
-module _ {S : Type 0} (serves : S → Request → Reply → S → Type 0) (owes : Request → Reply → Type 0) (setup : Setup) (task : TaskId) where
+module _ {S : Type 0} (serves : Service S) (owes : Owing) (setup : Setup) (task : TaskId) where
   -- where there was no ticket for an attempt, the submission has broken off
   pub attempt_spent : (doing : Doing) (lists : TaskLists) (dev : DevId) (waits : Bool) (old new : S) → attempt_of doing ≡ Some (dev, waits)
       → IsSpent serves owes (TakeBio (Of dev) waits) old new

@@ -23,6 +23,7 @@ use Rattle.run_machine.specs.Events.{what_of, resize_of, id_of}
 use Rattle.task_steps.specs.declared.objects.Objects.{Ghosts}
 use Rattle.task_steps.specs.declared.step.Step.{Step}
 use Rattle.task_steps.specs.declared.step.Step.TheVariants.{Stepped, Blocked, Waiting, Ended, Broken}
+use Rattle.task_steps.specs.Service.{Service}
 use Rattle.task_steps.specs.Stage.{Stage, Owes}
 use Rattle.task_steps.specs.Turns.{silent_step, step_by, step_of, resting_step, idle_step, Asks, Turns, Rested, Waited, Asked, Saw}
 use Rattle.task_steps.specs.TaskSteps.{TaskTurns}
@@ -258,7 +259,7 @@ nothing_same setup asked reply why Same none (Misses pool missed taken untold si
 nothing_same setup asked reply why Same none (Refuses b untold silent is) = absurd (nothing_refused setup asked b (ap (silent_step setup asked) (sym none) ∙ silent))
 nothing_same setup asked reply why Same none (Finds found same) = same
 
-module _ {S : Type 0} (serves : S → Request → Reply → S → Type 0) (stage : Stage) (setup : Setup) (task : TaskState) (old : S) where
+module _ {S : Type 0} (serves : Service S) (stage : Stage) (setup : Setup) (task : TaskState) (old : S) where
   abbrev Was : TaskState → S → Step → Type 0
   Was next new step = TurnWas serves setup task old next new step
 

@@ -7,8 +7,9 @@ use Rattle.run_machine.specs.declared.event.Breach.{Breach}
 use Rattle.task_steps.specs.declared.step.Step.{Step}
 use Rattle.task_steps.specs.declared.step.Step.TheVariants.{Waiting}
 use Rattle.run_machine.specs.Scene.{Setup}
-use Rattle.run_machine.specs.Requests.{Request, Reply, LookLeft, LeftOver}
+use Rattle.run_machine.specs.Requests.{LookLeft, LeftOver}
 use Rattle.run_machine.specs.Tasks.{Duty as DutyState, Keeping, Keeps, Keeper, later_of}
+use Rattle.task_steps.specs.Service.{Service, Owing}
 use Rattle.task_steps.specs.Turns.{Asks, Turns, Saw, Waited}
 use Rattle.task_steps.specs.KeeperViews.{duty_of, keeping_of}
 
@@ -39,7 +40,7 @@ has_next items read next broken now duty view whole same next_is =
     sym view ∙ ap (λ b. keeping_of b (map duty_of (drop next items))) whole
     ∙ ap Keeps (subst (λ xs. map duty_of (drop next xs) ≡ duty_of duty ∷ map duty_of (drop (next + 1) xs)) same next_is)
 
-module _ {S : Type 0} (serves : S → Request → Reply → S → Type 0) (owes : Request → Reply → Type 0) (setup : Setup) (now : Keeping)
+module _ {S : Type 0} (serves : Service S) (owes : Owing) (setup : Setup) (now : Keeping)
     (duty : Duty) (rest : List DutyState) (is : now ≡ Keeps (duty_of duty ∷ rest)) (old between : S) (left : ℕ)
     (looked : serves old LookLeft (LeftOver left) between) where
   -- and may do it where none is unfinished but the writes of the rounds behind

@@ -9,16 +9,17 @@ use Rattle.task_steps.specs.declared.step.Step.{Step}
 use Rattle.task_steps.specs.declared.step.Step.TheVariants.{Waiting}
 use Rattle.task_steps.specs.declared.writer.begin.Attempt.{Attempt}
 use Rattle.run_machine.specs.Scene.{Setup}
-use Rattle.run_machine.specs.Requests.{Request, Reply, TakeBio, LookRound, Present}
+use Rattle.run_machine.specs.Requests.{Reply, TakeBio, LookRound, Present}
 use Rattle.run_machine.specs.Submissions.{Takes, Punts, Links, ToPush, ToCut, ToRecord, ToMaster, Doing, Rests, Drives, Copies, Breaks, Submission, submission_request, submission_answered}
 use Rattle.run_machine.specs.Tasks.{Todo, Gathered, NoBio, HasBio, HasBoth, TaskState, Writer, Rescuer, needs_vector, with_bio, write_request, writer_request, writer_look, lets, rescuer_request, writer_answered, rescuer_answered}
+use Rattle.task_steps.specs.Service.{Service, Owing}
 use Rattle.task_steps.specs.Turns.{Asks, Turns, Waited, Asked, Saw}
 use Rattle.task_steps.specs.SubmissionViews.{is_asking, is_over}
 use Rattle.task_steps.specs.Answers.{AnswersSubmission}
 use Rattle.task_steps.specs.WriterViews.{WriteAnswers, is_taken, tried}
 use Rattle.task_steps.proofs.Asking.{asks_any, asks_once}
 
-module _ {S : Type 0} (serves : S → Request → Reply → S → Type 0) (owes : Request → Reply → Type 0) (setup : Setup) where
+module _ {S : Type 0} (serves : Service S) (owes : Owing) (setup : Setup) where
   -- a submission that has something to ask for
   submission_asks_any : (doing : Doing) (lists : TaskLists) → is_asking doing ≡ true → asks_any (submission_request setup doing lists) ≡ true
   submission_asks_any Rests lists asking = asking

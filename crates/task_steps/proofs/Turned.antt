@@ -4,8 +4,8 @@ use Rattle.stack_base.specs.Stack.{IsStack}
 use Rattle.task_steps.specs.declared.objects.Objects.{Ghosts}
 use Rattle.task_steps.specs.declared.step.Step.{Step}
 use Rattle.run_machine.specs.Scene.{Setup}
-use Rattle.run_machine.specs.Requests.{Request, Reply}
 use Rattle.run_machine.specs.Tasks.{TaskState}
+use Rattle.task_steps.specs.Service.{Service}
 use Rattle.task_steps.specs.Routed.{routing_setup}
 use Rattle.task_steps.specs.Stage.{Stage, Owes}
 use Rattle.task_steps.specs.Homes.{IsTaskOf}
@@ -13,7 +13,7 @@ use Rattle.task_steps.specs.Turns.{Asks, Turns, Rested, Waited, Asked, Saw}
 use Rattle.task_steps.specs.TaskSteps.{TaskTurns}
 use Rattle.task_steps.proofs.TaskHomes.{tasks_stay_home}
 
-module _ {S : Type 0} (serves : S → Request → Reply → S → Type 0) (stage : Stage) (good : IsStack stage.routing.stack) where
+module _ {S : Type 0} (serves : Service S) (stage : Stage) (good : IsStack stage.routing.stack) where
   asks_home : (task : TaskState) (old : S) (next : TaskState) (new : S) (step : Step) → IsTaskOf stage task
       → Asks serves (Owes stage) (routing_setup stage.routing) task old next new step → IsTaskOf stage next
   asks_home task old next new step home asks =

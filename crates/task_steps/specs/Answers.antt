@@ -22,6 +22,7 @@ use Rattle.task_steps.specs.declared.step.Step.TheVariants.{Stepped}
 use Rattle.run_machine.specs.Scene.{Setup}
 use Rattle.run_machine.specs.Requests.{Request, Reply, Opening, TakeBio, Punt, Link, HadBio, Missed, Did, LinkedTo, Nothing, Spent}
 use Rattle.run_machine.specs.Submissions.{Want, Links, Driving, Doing, Drives, Submission, asks_at, submission_request, after_miss, submission_answered}
+use Rattle.task_steps.specs.Service.{Service, Owing}
 use Rattle.task_steps.specs.Turns.{named_node, step_of}
 use Rattle.run_machine.specs.Kept.{Kept, KeptBio, holding_kept, opening_kept}
 use Rattle.task_steps.specs.SubmissionViews.{submission_of, want_of, unmade_kept, back_kept}
@@ -34,7 +35,7 @@ finds Nothing = false
 finds reply = true
 
 -- The objects were asked for what the submission asks for, it goes on with their reply, for which they owe what they do, and the step tells it.
-pub record AnswersSubmission {S : Type 0} (serves : S → Request → Reply → S → Type 0) (owes : Request → Reply → Type 0) (setup : Setup) (task : TaskId)
+pub record AnswersSubmission {S : Type 0} (serves : Service S) (owes : Owing) (setup : Setup) (task : TaskId)
     (doing : Doing) (lists : TaskLists) (old : S) (next : Submission) (new : S) (step : Step) : Type 0 where
   pub reply : Reply
   pub replied : serves old (submission_request setup doing lists) reply new
@@ -82,7 +83,7 @@ WantsOn waits (HadBio got hand) want = want ≡ Links hand
 WantsOn waits (Missed used) want = want ≡ after_miss waits
 WantsOn waits reply want = ⊥
 
-pub record Attempts {S : Type 0} (serves : S → Request → Reply → S → Type 0) (owes : Request → Reply → Type 0) (task : TaskId) (dev : DevId)
+pub record Attempts {S : Type 0} (serves : Service S) (owes : Owing) (task : TaskId) (dev : DevId)
     (waits : Bool) (old : S) (want : Want) (new : S) (step : Step) : Type 0 where
   pub reply : Reply
   pub replied : serves old (TakeBio (Of dev) waits) reply new
@@ -91,7 +92,7 @@ pub record Attempts {S : Type 0} (serves : S → Request → Reply → S → Typ
   pub tells : (setup : Setup) → step ≡ step_of setup task (TakeBio (Of dev) waits) reply
 
 -- there was no ticket for a call
-abbrev pub IsSpent : {S : Type 0} → (S → Request → Reply → S → Type 0) → (Request → Reply → Type 0) → Request → S → S → Type 0
+abbrev pub IsSpent : {S : Type 0} → Service S → Owing → Request → S → S → Type 0
 IsSpent serves owes asked old new = serves old asked Spent new × owes asked Spent
 
 -- what came of an attempt at a bio of a device's set
@@ -133,7 +134,7 @@ came_back opening (LinkedTo (NoRoom back)) = holding_kept back
 came_back opening (LinkedTo (Stray back)) = holding_kept back
 came_back opening reply = opening_kept opening
 
-pub record IsRefused {S : Type 0} (serves : S → Request → Reply → S → Type 0) (owes : Request → Reply → Type 0) (setup : Setup) (writer : ℕ)
+pub record IsRefused {S : Type 0} (serves : Service S) (owes : Owing) (setup : Setup) (writer : ℕ)
     (opening : Opening) (old : S) (breach : Breach) (handed : HandedBack) (new : S) : Type 0 where
   pub reply : Reply
   pub replied : serves old (Link writer opening) reply new

@@ -11,30 +11,31 @@ use Rattle.run_machine.specs.Events.{id_of, what_of}
 use Rattle.task_steps.specs.declared.objects.Objects.{Ghosts}
 use Rattle.task_steps.specs.declared.step.Step.{Step}
 use Rattle.task_steps.specs.declared.step.Step.TheVariants.{Stepped, Blocked, Waiting, Ended, Broken}
+use Rattle.task_steps.specs.Service.{Service}
 use Rattle.task_steps.specs.TaskSteps.{TaskTurns}
 use Rattle.task_steps.specs.Turns.{silent_step}
 
 -- the task has nothing to look at, or what it saw lets it ask
-abbrev pub MayAsk : {S : Type 0} → (S → Request → Reply → S → Type 0) → TaskState → S → S → Type 0
+abbrev pub MayAsk : {S : Type 0} → Service S → TaskState → S → S → Type 0
 MayAsk serves task old now =
     ((look_of task ≡ None) × (now ≡ old))
     ⊎ ((look : Request) × (seen : Reply) × (look_of task ≡ Some look) × serves old look seen now × (lets task seen ≡ true))
 
 -- it saw what does not let it
-abbrev pub MayNotAsk : {S : Type 0} → (S → Request → Reply → S → Type 0) → TaskState → S → S → Type 0
+abbrev pub MayNotAsk : {S : Type 0} → Service S → TaskState → S → S → Type 0
 MayNotAsk serves task old new =
     (look : Request) × (seen : Reply) × (look_of task ≡ Some look) × serves old look seen new × (lets task seen ≡ false)
 
 -- it asked for what it asks for next, and had this reply
-abbrev pub HasReply : {S : Type 0} → (S → Request → Reply → S → Type 0) → Setup → TaskState → S → Reply → S → Type 0
+abbrev pub HasReply : {S : Type 0} → Service S → Setup → TaskState → S → Reply → S → Type 0
 HasReply serves setup task old reply new = (now : _) × MayAsk serves task old now × serves now (request setup task) reply new
 
 -- there was nothing, and so many writes were unfinished
-abbrev pub HasNothing : {S : Type 0} → (S → Request → Reply → S → Type 0) → Setup → TaskState → S → ℕ → S → Type 0
+abbrev pub HasNothing : {S : Type 0} → Service S → Setup → TaskState → S → ℕ → S → Type 0
 HasNothing serves setup task old left new = (middle : _) × HasReply serves setup task old Nothing middle × serves middle LookLeft (LeftOver left) new
 
 -- its object refused what it asked for next, or had no ticket for it, and it has broken off
-abbrev pub WasTurnedAway : {S : Type 0} → (S → Request → Reply → S → Type 0) → Setup → TaskState → S → Breach → TaskState → S → Type 0
+abbrev pub WasTurnedAway : {S : Type 0} → Service S → Setup → TaskState → S → Breach → TaskState → S → Type 0
 WasTurnedAway serves setup task old breach next new =
     (reply : Reply) × HasReply serves setup task old reply new × (what_of (request setup task) reply ≡ None)
     × (silent_step setup (request setup task) reply ≡ Broken breach) × (next ≡ answered setup task reply)
@@ -49,7 +50,7 @@ pool_taken request = None
 -- An event: the task asked, the event tells of the reply, and the task goes on with it. Blocked: the pool missed. Waiting: it may not ask, or there
 -- was nothing, and a write is unfinished. Ended: it has no more to ask, and has not broken off, or there was nothing, and no write is unfinished. In
 -- these three it is as it was. Broken: it has broken off for this reason, before, or since it was refused.
-abbrev pub TurnWas : {S : Type 0} → (S → Request → Reply → S → Type 0) → Setup → TaskState → S → TaskState → S → Step → Type 0
+abbrev pub TurnWas : {S : Type 0} → Service S → Setup → TaskState → S → TaskState → S → Step → Type 0
 TurnWas serves setup task old next new (Stepped event) =
     (reply : Reply) × HasReply serves setup task old reply new × (what_of (request setup task) reply ≡ Some event.what)
     × (event.task ≡ id_of task) × (next ≡ answered setup task reply)

@@ -4,6 +4,7 @@ pub mod Routed
 pub mod Stage
 pub mod Homes
 pub mod Views
+pub mod Service
 pub mod Turns
 pub mod CarriedViews
 pub mod KeeperViews

@@ -13,6 +13,7 @@ use Rattle.task_steps.specs.declared.step.Step.{Step}
 use Rattle.task_steps.specs.declared.step.Step.TheVariants.{Stepped, Blocked, Waiting, Ended, Broken}
 use Rattle.stack_base.specs.declared.ids.DevId.{DevId}
 use Rattle.run_machine.specs.Scene.{Setup}
+use Rattle.task_steps.specs.Service.{Service, Owing}
 use Rattle.task_steps.specs.Choosing.{IsAsked}
 use Rattle.run_machine.specs.Requests.{Request, Reply, Opening, Write, Chain, Master, Leg, TakeBio, TakeVec, TakeSlip, Link, Drop, Resize, LookLeft, Rest, Missed, LinkedTo, DroppedTo, OutIs, LeftOver, Nothing, Spent}
 use Rattle.run_machine.specs.Tasks.{TaskState, request, look_of, lets, answered, breach_of}
@@ -55,7 +56,7 @@ idle_step left = if left == 0 then Ended else Waiting
 
 -- A task has asked one object for what it asks for next, and goes on with the reply, for which the objects owe what they do. The step tells this;
 -- but where there was nothing, the task has looked at the number of unfinished writes too.
-pub record Asks {S : Type 0} (serves : S → Request → Reply → S → Type 0) (owes : Request → Reply → Type 0) (setup : Setup)
+pub record Asks {S : Type 0} (serves : Service S) (owes : Owing) (setup : Setup)
     (task : TaskState) (old : S) (next : TaskState) (new : S) (step : Step) : Type 0 where
   pub reply : Reply
   pub middle : S
@@ -68,7 +69,7 @@ pub record Asks {S : Type 0} (serves : S → Request → Reply → S → Type 0)
 
 -- A step of a task: it looks where it has to, asks one object for what it asks for next, and goes on with the reply. It goes by what was asked, since
 -- that is what a history of calls has to match; what each answer of a step tells stands in ByAnswer.antt, and follows from this.
-pub data Turns {S : Type 0} (serves : S → Request → Reply → S → Type 0) (owes : Request → Reply → Type 0) (setup : Setup)
+pub data Turns {S : Type 0} (serves : Service S) (owes : Owing) (setup : Setup)
     (task : TaskState) (old : S) (next : TaskState) (new : S) (step : Step) : Type 0 where
   -- it asks for nothing: it has ended, or has broken off
   Rested : request setup task ≡ Rest → next ≡ task → new ≡ old → step ≡ resting_step (breach_of task)

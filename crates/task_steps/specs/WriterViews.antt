@@ -20,6 +20,7 @@ use Rattle.run_machine.specs.Requests.{Request, Reply, Opening, Write, TakeBio, 
 use Rattle.run_machine.specs.Kept.{opening_kept}
 use Rattle.run_machine.specs.Submissions.{Breaks, Submission, link_refused}
 use Rattle.run_machine.specs.Tasks.{Todo, Gathered, NoBio, HasBio, HasBoth, TaskState, Writer, filled_vector, write_answered, write_request}
+use Rattle.task_steps.specs.Service.{Service, Owing}
 use Rattle.task_steps.specs.Turns.{step_of}
 use Rattle.task_steps.specs.Routed.{Routing, routing_setup}
 use Rattle.task_steps.specs.Stage.{Owes, has_book}
@@ -77,7 +78,7 @@ IsNextAlone next.Begins = Unit {0}
 IsNextAlone (next.Waits taken) = IsGatheredAlone taken
 
 -- a writer outside of a submission has asked the objects for this, and goes on with their reply
-pub record WriteAnswers {S : Type 0} (serves : S → Request → Reply → S → Type 0) (owes : Request → Reply → Type 0) (setup : Setup) (number : ℕ)
+pub record WriteAnswers {S : Type 0} (serves : Service S) (owes : Owing) (setup : Setup) (number : ℕ)
     (asked : Request) (todo : List Todo) (taken : Gathered) (submission : Submission) (old : S) (next : TaskState) (new : S) (step : Step) : Type 0 where
   pub reply : Reply
   pub replied : serves old asked reply new
@@ -93,7 +94,7 @@ refused_submission setup number opening submission (LinkedTo (NoRoom back)) = So
 refused_submission setup number opening submission (LinkedTo (Stray back)) = Some (record submission { doing = link_refused setup number 0 [] (Stray back) })
 refused_submission setup number opening submission reply = None
 
-pub record IsRefusedWrite {S : Type 0} (serves : S → Request → Reply → S → Type 0) (owes : Request → Reply → Type 0) (setup : Setup) (number : ℕ)
+pub record IsRefusedWrite {S : Type 0} (serves : Service S) (owes : Owing) (setup : Setup) (number : ℕ)
     (opening : Opening) (submission : Submission) (old : S) (after : Submission) (new : S) (step : Step) : Type 0 where
   pub reply : Reply
   pub replied : serves old (Link number opening) reply new

@@ -7,9 +7,10 @@ use Rattle.std.proofs.lemmas.List.{length-append}
 use Rattle.std.proofs.lemmas.List.Elements.{All-nil, filter-append, Contains-append_left, Contains-append_right}
 use Rattle.task_steps.specs.declared.step.Step.{Step}
 use Rattle.task_steps.specs.declared.step.Step.TheVariants.{Stepped, Blocked, Waiting, Ended, Broken}
-use Rattle.run_machine.specs.Requests.{Request, Reply, Rest}
+use Rattle.run_machine.specs.Requests.{Rest}
 use Rattle.run_machine.specs.Scene.{Setup}
 use Rattle.run_machine.specs.Tasks.{TaskState, request}
+use Rattle.task_steps.specs.Service.{Owing}
 use Rattle.task_steps.specs.Routed.{Routing, routing_setup}
 use Rattle.task_steps.specs.Stage.{Stage, Owes}
 use Rattle.task_steps.specs.TaskViews.{TaskOf}
@@ -45,7 +46,7 @@ counts setup task next seen log more (Broken breach) events shows is = is ∙ ap
 counts setup task next seen log more Waiting events shows is = is ∙ ap (λ n. min n (2 ^ 64 - 1)) (sym (events_same log more shows))
 counts setup task next seen log more (Blocked pool) events shows is = is ∙ ap (λ n. min n (2 ^ 64 - 1)) (sym (events_same log more shows))
 
-module _ (owes : Request → Reply → Type 0) (setup : Setup) where
+module _ (owes : Owing) (setup : Setup) where
   -- a task that asks for nothing stays as it is
   rest_turns : (task next : TaskState) (old new : DeskState) (step : Step) → request setup task ≡ Rest → Turns DeskServes owes setup task old next new step
       → next ≡ task

@@ -4,11 +4,12 @@ use Rattle.run_machine.specs.Requests.{Request, Reply}
 use Rattle.run_machine.specs.Scene.{Setup}
 use Rattle.run_machine.specs.Tasks.{TaskState, request}
 use Rattle.task_steps.specs.declared.step.Step.{Step}
+use Rattle.task_steps.specs.Service.{Service, Owing}
 use Rattle.task_steps.specs.Turns.{Asks, Turns, Rested, Waited, Asked, Saw}
 
-module _ {S X : Type 0} (from : S → Request → Reply → S → Type 0) (sees : S → X) (serves : X → Request → Reply → X → Type 0)
+module _ {S X : Type 0} (from : Service S) (sees : S → X) (serves : Service X)
     (shows : (old : S) (asked : Request) (reply : Reply) (new : S) → from old asked reply new → serves (sees old) asked reply (sees new))
-    (owes : Request → Reply → Type 0) (setup : Setup) where
+    (owes : Owing) (setup : Setup) where
   asks_seen : (task next : TaskState) (old new : S) (step : Step) → Asks from owes setup task old next new step
       → Asks serves owes setup task (sees old) next (sees new) step
   asks_seen task next old new step it = record {
@@ -32,10 +33,10 @@ module _ {S X : Type 0} (from : S → Request → Reply → S → Type 0) (sees 
   turns_seen task next old new step (Saw look seen between looks saw due asks) =
       Saw look seen (sees between) looks (shows old look seen between saw) due (asks_seen task next between new step asks)
 
-module _ {S : Type 0} (serves : S → Request → Reply → S → Type 0) (Keeps : S → S → Type 0) (none : (old : S) → Keeps old old)
+module _ {S : Type 0} (serves : Service S) (Keeps : S → S → Type 0) (none : (old : S) → Keeps old old)
     (both : (old middle new : S) → Keeps old middle → Keeps middle new → Keeps old new)
     (one : (old : S) (asked : Request) (reply : Reply) (new : S) → serves old asked reply new → Keeps old new)
-    (owes : Request → Reply → Type 0) (setup : Setup) where
+    (owes : Owing) (setup : Setup) where
   same : (old new : S) → new ≡ old → Keeps old new
   same old new e = subst (Keeps old) (sym e) (none old)
 
