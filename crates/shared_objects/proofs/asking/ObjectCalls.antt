@@ -32,28 +32,21 @@ use Rattle.shared_objects.specs.declared.locks.Locks.{Locks}
 use Rattle.shared_objects.specs.declared.seats.TaskSeats.{TaskSeats}
 use Rattle.shared_objects.specs.Calling.{AreSeatedAt, FitsWith, HasAsked, HasAskedAt}
 use Rattle.shared_objects.specs.Desks.{HasCalled}
-use Rattle.shared_objects.specs.Holding.{AreLocked, AreSeatsOf, DeskHolds, calls_of, desk_of, dev_key, stage_at, writer_key}
+use Rattle.shared_objects.specs.Holding.{DeskHolds, calls_of, desk_of, stage_at}
 use Rattle.shared_objects.proofs.asking.PassAndCalls.{SeatCalls, fits_with, has_called, home_again, numbered_stays, owed_of, seat_calls}
-use Rattle.shared_objects.proofs.asking.RowCalls.{mark_as, row_called, row_fits, row_home, row_owed, row_seats}
-use Rattle.shared_objects.proofs.asking.RowSeats.{seated_at}
+use Rattle.shared_objects.proofs.asking.RowCalls.{has_seat, mark_as, row_called, row_fits, row_home, row_owed, row_seats}
 
 module _ (locks : Locks) (seats : TaskSeats) (holds : DeskHolds locks seats) where
   -- books of writers
   module _ (rows : List (ℕ × LockId BookThing)) (rows_are : rows ≡ locks.books.items) (n place : ℕ) (is : IsTrue (has_book (stage_at locks) n)) (there : place ≡ slice_index_or locks.index.books n 0) (ask : BookAsk)
       (named : object_of (book_asked ask) ≡ OfBook n) where
-    book_locked : AreLocked writer_key book_mark OfBook locks.common.value (has_book (stage_at locks)) locks.index.books rows
-    book_locked = subst (AreLocked writer_key book_mark OfBook locks.common.value (has_book (stage_at locks)) locks.index.books) (sym rows_are) holds.locked.books
-
-    book_seats : AreSeatsOf seats.number rows seats.books.items
-    book_seats = subst (λ r. AreSeatsOf seats.number r seats.books.items) (sym rows_are) holds.seated.books
-
     pub book_seated : AreSeatedAt rows seats.books.items place
-    book_seated = seated_at book_locked book_seats n place is there
+    book_seated = has_seat rows_are holds.locked.books holds.seated.books n place is there
 
     pub book_fits : RequestFits (stage_at locks) (book_asked ask) → BookAskAlone ask → (lock : ℕ × LockId BookThing) → lock ≡ slice_index_or rows place lock
         → FitsWith (BookFits (book_mark lock.1.key.value)) seats.pass ask
     book_fits fits alone =
-        row_fits book_locked book_seats n place is there BookFits seats.pass ask holds.passed (λ pass clock. (clock, named, fits, alone))
+        row_fits rows_are holds.locked.books holds.seated.books n place is there BookFits seats.pass ask holds.passed (λ pass clock. (clock, named, fits, alone))
 
     module _ (said : BookSaid) (new : Vec (ℕ × SeatState BookThing Request Told)) (after : Option PassState)
         (made : HasAskedAt (λ (asking : Asking BookAsk). book_asked asking.ask) book_told (λ (thing : BookThing). BookOwes (book_mark thing)) place
@@ -63,7 +56,7 @@ module _ (locks : Locks) (seats : TaskSeats) (holds : DeskHolds locks seats) whe
 
       pub book_called : HasCalled (desk_of seats) (book_asked ask) (book_replied said) (desk_of with_book)
       book_called =
-          row_called book_locked book_seats n place is there book_asked book_replied BookOwes made (λ m asking replied owed. owed.pass)
+          row_called rows_are holds.locked.books holds.seated.books n place is there book_asked book_replied BookOwes made (λ m asking replied owed. owed.pass)
           (calls_of seats) (λ f. record (calls_of seats) { book = f }) named (λ call. refl)
 
       pub book_holds : DeskHolds locks with_book
@@ -75,38 +68,32 @@ module _ (locks : Locks) (seats : TaskSeats) (holds : DeskHolds locks seats) whe
           records = holds.seated.records;
           lists = holds.seated.lists;
           disks = holds.seated.disks;
-          books = subst (λ r. AreSeatsOf seats.number r new.items) rows_are (row_seats book_locked book_seats n place is there book_asked book_replied BookOwes made);
+          books = row_seats rows_are holds.locked.books holds.seated.books n place is there book_asked book_replied BookOwes made;
           tally = holds.seated.tally;
         };
-        passed = row_home book_locked book_seats n place is there book_asked book_replied BookOwes made (λ m asking replied owed. owed.pass) holds.passed;
+        passed = row_home rows_are holds.locked.books holds.seated.books n place is there book_asked book_replied BookOwes made (λ m asking replied owed. owed.pass) holds.passed;
       }
 
       pub book_owed : Owes (stage_at locks) (book_asked ask) (book_replied said)
       book_owed =
-          row_owed book_locked book_seats n place is there book_asked book_replied BookOwes made
+          row_owed rows_are holds.locked.books holds.seated.books n place is there book_asked book_replied BookOwes made
           (λ m s. Owes (stage_in m.common) (book_asked ask) (book_replied s)) (λ m pass replied owed. owed.owed)
 
       pub book_says : BookSays ask said
       book_says =
-          row_owed book_locked book_seats n place is there book_asked book_replied BookOwes made
+          row_owed rows_are holds.locked.books holds.seated.books n place is there book_asked book_replied BookOwes made
           (λ m s. BookSays ask s) (λ m pass replied owed. owed.says)
 
   -- disks
   module _ (rows : List (DevId × LockId DiskThing)) (rows_are : rows ≡ locks.disks.items) (n place : ℕ) (is : IsTrue (has_disk (stage_at locks) (at n))) (there : place ≡ slice_index_or locks.index.disks n 0) (ask : DiskAsk)
       (named : object_of (disk_asked ask) ≡ OfDisk n) where
-    pub disk_locked : AreLocked dev_key disk_mark OfDisk locks.common.value (λ dev. has_disk (stage_at locks) (at dev)) locks.index.disks rows
-    disk_locked = subst (AreLocked dev_key disk_mark OfDisk locks.common.value (λ dev. has_disk (stage_at locks) (at dev)) locks.index.disks) (sym rows_are) holds.locked.disks
-
-    pub disk_seats : AreSeatsOf seats.number rows seats.disks.items
-    disk_seats = subst (λ r. AreSeatsOf seats.number r seats.disks.items) (sym rows_are) holds.seated.disks
-
     pub disk_seated : AreSeatedAt rows seats.disks.items place
-    disk_seated = seated_at disk_locked disk_seats n place is there
+    disk_seated = has_seat rows_are holds.locked.disks holds.seated.disks n place is there
 
     pub disk_fits : RequestFits (stage_at locks) (disk_asked ask) → DiskAskAlone ask → (lock : DevId × LockId DiskThing) → lock ≡ slice_index_or rows place lock
         → FitsWith (DiskFits (disk_mark lock.1.key.value)) seats.pass ask
     disk_fits fits alone =
-        row_fits disk_locked disk_seats n place is there DiskFits seats.pass ask holds.passed (λ pass clock. (clock, named, fits, alone))
+        row_fits rows_are holds.locked.disks holds.seated.disks n place is there DiskFits seats.pass ask holds.passed (λ pass clock. (clock, named, fits, alone))
 
     module _ (said : DiskSaid) (new : Vec (DevId × SeatState DiskThing Request Told)) (after : Option PassState)
         (made : HasAskedAt (λ (asking : Asking DiskAsk). disk_asked asking.ask) disk_told (λ (thing : DiskThing). DiskOwes (disk_mark thing)) place
@@ -116,7 +103,7 @@ module _ (locks : Locks) (seats : TaskSeats) (holds : DeskHolds locks seats) whe
 
       abbrev pub disk_called : HasCalled (desk_of seats) (disk_asked ask) (disk_replied said) (desk_of with_disk)
       disk_called =
-          row_called disk_locked disk_seats n place is there disk_asked disk_replied DiskOwes made (λ m asking replied owed. owed.pass)
+          row_called rows_are holds.locked.disks holds.seated.disks n place is there disk_asked disk_replied DiskOwes made (λ m asking replied owed. owed.pass)
           (calls_of seats) (λ f. record (calls_of seats) { disk = f }) named (λ call. refl)
 
       -- and the entry keeps the index that was chosen
@@ -131,34 +118,28 @@ module _ (locks : Locks) (seats : TaskSeats) (holds : DeskHolds locks seats) whe
           vecs = holds.seated.vecs;
           records = holds.seated.records;
           lists = holds.seated.lists;
-          disks = subst (λ r. AreSeatsOf seats.number r new.items) rows_are (row_seats disk_locked disk_seats n place is there disk_asked disk_replied DiskOwes made);
+          disks = row_seats rows_are holds.locked.disks holds.seated.disks n place is there disk_asked disk_replied DiskOwes made;
           books = holds.seated.books;
           tally = holds.seated.tally;
         };
-        passed = row_home disk_locked disk_seats n place is there disk_asked disk_replied DiskOwes made (λ m asking replied owed. owed.pass) holds.passed;
+        passed = row_home rows_are holds.locked.disks holds.seated.disks n place is there disk_asked disk_replied DiskOwes made (λ m asking replied owed. owed.pass) holds.passed;
       }
 
       pub disk_says : DiskSays (stage_at locks) ask said
       disk_says =
-          row_owed disk_locked disk_seats n place is there disk_asked disk_replied DiskOwes made
+          row_owed rows_are holds.locked.disks holds.seated.disks n place is there disk_asked disk_replied DiskOwes made
           (λ m s. DiskSays (stage_in m.common) ask s) (λ m pass replied owed. owed.says)
 
   -- lists of rescuers
   module _ (rows : List (DevId × LockId ListThing)) (rows_are : rows ≡ locks.lists.items) (n place : ℕ) (is : IsTrue (has_rescuer (stage_at locks) (at n))) (there : place ≡ slice_index_or locks.index.lists n 0) (ask : ListAsk)
       (named : object_of (list_asked ask) ≡ OfRescuer n) where
-    list_locked : AreLocked dev_key list_mark OfRescuer locks.common.value (λ dev. has_rescuer (stage_at locks) (at dev)) locks.index.lists rows
-    list_locked = subst (AreLocked dev_key list_mark OfRescuer locks.common.value (λ dev. has_rescuer (stage_at locks) (at dev)) locks.index.lists) (sym rows_are) holds.locked.lists
-
-    list_seats : AreSeatsOf seats.number rows seats.lists.items
-    list_seats = subst (λ r. AreSeatsOf seats.number r seats.lists.items) (sym rows_are) holds.seated.lists
-
     pub list_seated : AreSeatedAt rows seats.lists.items place
-    list_seated = seated_at list_locked list_seats n place is there
+    list_seated = has_seat rows_are holds.locked.lists holds.seated.lists n place is there
 
     pub list_fits : RequestFits (stage_at locks) (list_asked ask) → (lock : DevId × LockId ListThing) → lock ≡ slice_index_or rows place lock
         → FitsWith (ListFits (list_mark lock.1.key.value)) seats.pass ask
     list_fits fits =
-        row_fits list_locked list_seats n place is there ListFits seats.pass ask holds.passed (λ pass clock. (clock, named, fits))
+        row_fits rows_are holds.locked.lists holds.seated.lists n place is there ListFits seats.pass ask holds.passed (λ pass clock. (clock, named, fits))
 
     module _ (said : ListSaid) (new : Vec (DevId × SeatState ListThing Request Told)) (after : Option PassState)
         (made : HasAskedAt (λ (asking : Asking ListAsk). list_asked asking.ask) list_told (λ (thing : ListThing). ListOwes (list_mark thing)) place
@@ -168,7 +149,7 @@ module _ (locks : Locks) (seats : TaskSeats) (holds : DeskHolds locks seats) whe
 
       pub list_called : HasCalled (desk_of seats) (list_asked ask) (list_replied said) (desk_of with_list)
       list_called =
-          row_called list_locked list_seats n place is there list_asked list_replied ListOwes made (λ m asking replied owed. owed.pass)
+          row_called rows_are holds.locked.lists holds.seated.lists n place is there list_asked list_replied ListOwes made (λ m asking replied owed. owed.pass)
           (calls_of seats) (λ f. record (calls_of seats) { rescue = f }) named (λ call. refl)
 
       pub list_holds : DeskHolds locks with_list
@@ -178,22 +159,22 @@ module _ (locks : Locks) (seats : TaskSeats) (holds : DeskHolds locks seats) whe
           bios = holds.seated.bios;
           vecs = holds.seated.vecs;
           records = holds.seated.records;
-          lists = subst (λ r. AreSeatsOf seats.number r new.items) rows_are (row_seats list_locked list_seats n place is there list_asked list_replied ListOwes made);
+          lists = row_seats rows_are holds.locked.lists holds.seated.lists n place is there list_asked list_replied ListOwes made;
           disks = holds.seated.disks;
           books = holds.seated.books;
           tally = holds.seated.tally;
         };
-        passed = row_home list_locked list_seats n place is there list_asked list_replied ListOwes made (λ m asking replied owed. owed.pass) holds.passed;
+        passed = row_home rows_are holds.locked.lists holds.seated.lists n place is there list_asked list_replied ListOwes made (λ m asking replied owed. owed.pass) holds.passed;
       }
 
       pub list_owed : Owes (stage_at locks) (list_asked ask) (list_replied said)
       list_owed =
-          row_owed list_locked list_seats n place is there list_asked list_replied ListOwes made
+          row_owed rows_are holds.locked.lists holds.seated.lists n place is there list_asked list_replied ListOwes made
           (λ m s. Owes (stage_in m.common) (list_asked ask) (list_replied s)) (λ m pass replied owed. owed.owed)
 
       pub list_says : ListSays ask said
       list_says =
-          row_owed list_locked list_seats n place is there list_asked list_replied ListOwes made
+          row_owed rows_are holds.locked.lists holds.seated.lists n place is there list_asked list_replied ListOwes made
           (λ m s. ListSays ask s) (λ m pass replied owed. owed.says)
 
   -- the tally

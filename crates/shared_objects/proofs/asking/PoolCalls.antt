@@ -26,30 +26,23 @@ use Rattle.shared_objects.specs.declared.locks.Locks.{Locks}
 use Rattle.shared_objects.specs.declared.seats.TaskSeats.{TaskSeats}
 use Rattle.shared_objects.specs.Calling.{AreSeatedAt, FitsWith, HasAsked, HasAskedAt}
 use Rattle.shared_objects.specs.Desks.{HasCalled}
-use Rattle.shared_objects.specs.Holding.{AreLocked, AreSeatsOf, DeskHolds, calls_in, calls_of, desk_of, set_key, slip_key, stage_at}
+use Rattle.shared_objects.specs.Holding.{DeskHolds, calls_in, calls_of, desk_of, set_key, slip_key, stage_at}
 use Rattle.task_core.specs.Plains.{by_kind}
 use Rattle.shared_objects.proofs.asking.PassAndCalls.{SeatCalls, fits_with, has_called, home_again, numbered_stays, owed_of, seat_calls}
 use Rattle.task_core.proofs.PoolLemmas.{bios_change, records_change, vecs_change, stands_for_bios, stands_for_records, bios_not_64, bios_of_set, slips_not_64, slips_of_set}
-use Rattle.shared_objects.proofs.asking.RowCalls.{mark_as, row_called, row_fits, row_home, row_owed, row_seats}
-use Rattle.shared_objects.proofs.asking.RowSeats.{seated_at}
+use Rattle.shared_objects.proofs.asking.RowCalls.{has_seat, mark_as, row_called, row_fits, row_home, row_owed, row_seats}
 
 module _ (locks : Locks) (seats : TaskSeats) (holds : DeskHolds locks seats) where
   -- pools of bios
   module _ (rows : List (SetId × LockId (PoolThing (BioBody Pad)))) (rows_are : rows ≡ locks.bios.items) (n place : ℕ) (is : IsTrue (is_bios (stage_at locks) n)) (there : place ≡ slice_index_or locks.index.bios n 0) (ask : (PoolAsk (BioBody Pad)))
       (named : object_of (pool_asked ask) ≡ OfPool n) where
-    bios_locked : AreLocked set_key pool_mark OfPool locks.common.value (is_bios (stage_at locks)) locks.index.bios rows
-    bios_locked = subst (AreLocked set_key pool_mark OfPool locks.common.value (is_bios (stage_at locks)) locks.index.bios) (sym rows_are) holds.locked.bios
-
-    bios_seats : AreSeatsOf seats.number rows seats.bios.items
-    bios_seats = subst (λ r. AreSeatsOf seats.number r seats.bios.items) (sym rows_are) holds.seated.bios
-
     pub bios_seated : AreSeatedAt rows seats.bios.items place
-    bios_seated = seated_at bios_locked bios_seats n place is there
+    bios_seated = has_seat rows_are holds.locked.bios holds.seated.bios n place is there
 
     pub bios_fits : PoolAskFits (stage_at locks) ask → (lock : SetId × LockId (PoolThing (BioBody Pad))) → lock ≡ slice_index_or rows place lock
         → FitsWith (PoolFits (pool_mark lock.1.key.value)) seats.pass ask
     bios_fits fits =
-        row_fits bios_locked bios_seats n place is there PoolFits seats.pass ask holds.passed (λ pass clock. (clock, named, fits))
+        row_fits rows_are holds.locked.bios holds.seated.bios n place is there PoolFits seats.pass ask holds.passed (λ pass clock. (clock, named, fits))
 
     module _ (said : (PoolSaid (BioBody Pad))) (new : Vec (SetId × SeatState (PoolThing (BioBody Pad)) Request Told)) (after : Option PassState)
         (made : HasAskedAt (λ (asking : Asking (PoolAsk (BioBody Pad))). pool_asked asking.ask) pool_told (λ (thing : (PoolThing (BioBody Pad))). PoolOwes IsClearBody (pool_mark thing)) place
@@ -59,7 +52,7 @@ module _ (locks : Locks) (seats : TaskSeats) (holds : DeskHolds locks seats) whe
 
       pub bios_called : HasCalled (desk_of seats) (pool_asked ask) (pool_replied said) (desk_of with_bios)
       bios_called =
-          row_called bios_locked bios_seats n place is there pool_asked pool_replied (PoolOwes {P = (BioBody Pad)} IsClearBody) made (λ m asking replied owed. owed.pass)
+          row_called rows_are holds.locked.bios holds.seated.bios n place is there pool_asked pool_replied (PoolOwes {P = (BioBody Pad)} IsClearBody) made (λ m asking replied owed. owed.pass)
           (calls_of seats) (λ f. record (calls_of seats) { pool = by_kind (own seats.vecs.known) f (calls_in slip_key seats.records.items) }) named
           (λ call. ap (λ (f : ℕ → List Call). record (calls_of seats) { pool = f })
           (bios_change (own seats.vecs.known) (calls_in set_key seats.bios.items) (calls_in slip_key seats.records.items) n _ (bios_not_64 locks.common.value.opened n holds.locked.opened is) (bios_of_set locks.common.value.opened n is)
@@ -69,7 +62,7 @@ module _ (locks : Locks) (seats : TaskSeats) (holds : DeskHolds locks seats) whe
       bios_holds = record {
         locked = holds.locked;
         seated = record {
-          bios = subst (λ r. AreSeatsOf seats.number r new.items) rows_are (row_seats bios_locked bios_seats n place is there pool_asked pool_replied (PoolOwes {P = (BioBody Pad)} IsClearBody) made);
+          bios = row_seats rows_are holds.locked.bios holds.seated.bios n place is there pool_asked pool_replied (PoolOwes {P = (BioBody Pad)} IsClearBody) made;
           vecs = holds.seated.vecs;
           records = holds.seated.records;
           lists = holds.seated.lists;
@@ -77,30 +70,24 @@ module _ (locks : Locks) (seats : TaskSeats) (holds : DeskHolds locks seats) whe
           books = holds.seated.books;
           tally = holds.seated.tally;
         };
-        passed = row_home bios_locked bios_seats n place is there pool_asked pool_replied (PoolOwes {P = (BioBody Pad)} IsClearBody) made (λ m asking replied owed. owed.pass) holds.passed;
+        passed = row_home rows_are holds.locked.bios holds.seated.bios n place is there pool_asked pool_replied (PoolOwes {P = (BioBody Pad)} IsClearBody) made (λ m asking replied owed. owed.pass) holds.passed;
       }
 
       pub bios_says : PoolSays IsClearBody ((stage_at locks).ledger n) ask said
       bios_says =
-          row_owed bios_locked bios_seats n place is there pool_asked pool_replied (PoolOwes {P = (BioBody Pad)} IsClearBody) made
+          row_owed rows_are holds.locked.bios holds.seated.bios n place is there pool_asked pool_replied (PoolOwes {P = (BioBody Pad)} IsClearBody) made
           (λ m s. PoolSays IsClearBody ((stage_in m.common).ledger (object_pool_number m.name)) ask s) (λ m pass replied owed. owed.says)
 
   -- pools of records
   module _ (rows : List (DevId × LockId (PoolThing Slip))) (rows_are : rows ≡ locks.records.items) (n place : ℕ) (is : IsTrue (is_slips (stage_at locks) n)) (there : place ≡ slice_index_or locks.index.records n 0) (ask : (PoolAsk Slip))
       (named : object_of (pool_asked ask) ≡ OfPool n) where
-    slips_locked : AreLocked slip_key pool_mark OfPool locks.common.value (is_slips (stage_at locks)) locks.index.records rows
-    slips_locked = subst (AreLocked slip_key pool_mark OfPool locks.common.value (is_slips (stage_at locks)) locks.index.records) (sym rows_are) holds.locked.records
-
-    slips_seats : AreSeatsOf seats.number rows seats.records.items
-    slips_seats = subst (λ r. AreSeatsOf seats.number r seats.records.items) (sym rows_are) holds.seated.records
-
     pub slips_seated : AreSeatedAt rows seats.records.items place
-    slips_seated = seated_at slips_locked slips_seats n place is there
+    slips_seated = has_seat rows_are holds.locked.records holds.seated.records n place is there
 
     pub slips_fits : PoolAskFits (stage_at locks) ask → (lock : DevId × LockId (PoolThing Slip)) → lock ≡ slice_index_or rows place lock
         → FitsWith (PoolFits (pool_mark lock.1.key.value)) seats.pass ask
     slips_fits fits =
-        row_fits slips_locked slips_seats n place is there PoolFits seats.pass ask holds.passed (λ pass clock. (clock, named, fits))
+        row_fits rows_are holds.locked.records holds.seated.records n place is there PoolFits seats.pass ask holds.passed (λ pass clock. (clock, named, fits))
 
     module _ (said : (PoolSaid Slip)) (new : Vec (DevId × SeatState (PoolThing Slip) Request Told)) (after : Option PassState)
         (made : HasAskedAt (λ (asking : Asking (PoolAsk Slip)). pool_asked asking.ask) pool_told (λ (thing : (PoolThing Slip)). PoolOwes IsClearSlip (pool_mark thing)) place
@@ -110,7 +97,7 @@ module _ (locks : Locks) (seats : TaskSeats) (holds : DeskHolds locks seats) whe
 
       pub slips_called : HasCalled (desk_of seats) (pool_asked ask) (pool_replied said) (desk_of with_slips)
       slips_called =
-          row_called slips_locked slips_seats n place is there pool_asked pool_replied (PoolOwes {P = Slip} IsClearSlip) made (λ m asking replied owed. owed.pass)
+          row_called rows_are holds.locked.records holds.seated.records n place is there pool_asked pool_replied (PoolOwes {P = Slip} IsClearSlip) made (λ m asking replied owed. owed.pass)
           (calls_of seats) (λ f. record (calls_of seats) { pool = by_kind (own seats.vecs.known) (calls_in set_key seats.bios.items) f }) named
           (λ call. ap (λ (f : ℕ → List Call). record (calls_of seats) { pool = f })
           (records_change (own seats.vecs.known) (calls_in set_key seats.bios.items) (calls_in slip_key seats.records.items) n _ (slips_not_64 locks.common.value.opened n is) (slips_of_set locks.common.value.opened n holds.locked.opened is)
@@ -122,18 +109,18 @@ module _ (locks : Locks) (seats : TaskSeats) (holds : DeskHolds locks seats) whe
         seated = record {
           bios = holds.seated.bios;
           vecs = holds.seated.vecs;
-          records = subst (λ r. AreSeatsOf seats.number r new.items) rows_are (row_seats slips_locked slips_seats n place is there pool_asked pool_replied (PoolOwes {P = Slip} IsClearSlip) made);
+          records = row_seats rows_are holds.locked.records holds.seated.records n place is there pool_asked pool_replied (PoolOwes {P = Slip} IsClearSlip) made;
           lists = holds.seated.lists;
           disks = holds.seated.disks;
           books = holds.seated.books;
           tally = holds.seated.tally;
         };
-        passed = row_home slips_locked slips_seats n place is there pool_asked pool_replied (PoolOwes {P = Slip} IsClearSlip) made (λ m asking replied owed. owed.pass) holds.passed;
+        passed = row_home rows_are holds.locked.records holds.seated.records n place is there pool_asked pool_replied (PoolOwes {P = Slip} IsClearSlip) made (λ m asking replied owed. owed.pass) holds.passed;
       }
 
       pub slips_says : PoolSays IsClearSlip ((stage_at locks).ledger n) ask said
       slips_says =
-          row_owed slips_locked slips_seats n place is there pool_asked pool_replied (PoolOwes {P = Slip} IsClearSlip) made
+          row_owed rows_are holds.locked.records holds.seated.records n place is there pool_asked pool_replied (PoolOwes {P = Slip} IsClearSlip) made
           (λ m s. PoolSays IsClearSlip ((stage_in m.common).ledger (object_pool_number m.name)) ask s) (λ m pass replied owed. owed.says)
 
   -- the pool of vectors

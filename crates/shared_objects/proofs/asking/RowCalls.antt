@@ -10,19 +10,29 @@ use Rattle.object_things.specs.declared.stamp.Asking.{Asking}
 use Rattle.object_things.specs.declared.stamp.Replied.{Replied}
 use Rattle.object_things.specs.Histories.{Call}
 use Rattle.object_things.specs.Stamps.{CommonState, MarkState, Told}
-use Rattle.shared_objects.specs.Calling.{FitsWith, HasAskedAt}
+use Rattle.shared_objects.specs.Calling.{AreSeatedAt, FitsWith, HasAskedAt}
 use Rattle.shared_objects.specs.Calls.{CallsAt, with_call}
 use Rattle.shared_objects.specs.Desks.{HasCalled}
 use Rattle.shared_objects.specs.Holding.{AreLocked, AreSeatsOf, IsPassOf, IsSeatOf, calls_in}
 use Rattle.shared_objects.proofs.asking.PassAndCalls.{SeatCalls, PassesBy, fits_with, has_called, home_again, numbered_stays, owed_of, seat_calls, told_by}
-use Rattle.shared_objects.proofs.asking.RowSeats.{named_at, seat_of, calls_now, seats_now}
+use Rattle.shared_objects.proofs.asking.RowSeats.{named_at, seat_of, seated_at, calls_now, seats_now}
 
 abbrev pub mark_as : CommonState → Object → MarkState
 mark_as common name = record { common = common; name = name }
 
 module _ {K T : Type 0} {key : K → ℕ} {mark : T → MarkState} {name : ℕ → Object} {common : CommonState} {used : ℕ → Bool} {table : List ℕ} {task : ℕ}
-    {locks : List (K × LockId T)} {seats : List (K × SeatState T Request Told)} (locked : AreLocked key mark name common used table locks)
-    (seated : AreSeatsOf task locks seats) (n i : ℕ) (is : IsTrue (used n)) (place : i ≡ slice_index_or table n 0) where
+    {locks row : List (K × LockId T)} {seats : List (K × SeatState T Request Told)} (locks_are : locks ≡ row) (row_locked : AreLocked key mark name common used table row)
+    (row_seated : AreSeatsOf task row seats) (n i : ℕ) (is : IsTrue (used n)) (place : i ≡ slice_index_or table n 0) where
+  locked : AreLocked key mark name common used table locks
+  locked = subst (AreLocked key mark name common used table) (sym locks_are) row_locked
+
+  seated : AreSeatsOf task locks seats
+  seated = subst (λ l. AreSeatsOf task l seats) (sym locks_are) row_seated
+
+  -- the desk has a seat at the object of the number
+  pub has_seat : AreSeatedAt locks seats i
+  has_seat = seated_at locked seated n i is place
+
   -- what fits the object of the number fits that behind the lock there
   pub row_fits : {Q : Type 0} (fits : MarkState → Asking Q → Type 0) (held : Option PassState) (ask : Q) → IsPassOf common.clock held
       → ((pass : PassState) → pass.clock ≡ common.clock → fits (mark_as common (name n)) (record { pass = pass; ask = ask }))
@@ -60,10 +70,11 @@ module _ {K T : Type 0} {key : K → ℕ} {mark : T → MarkState} {name : ℕ �
       pub row_home : IsPassOf common.clock before → IsPassOf common.clock after
       row_home home = home_again common.clock row_call home
 
-    pub row_seats : AreSeatsOf task locks new
+    pub row_seats : AreSeatsOf task row new
     row_seats =
-        seats_now locked seated n i is place made.lock made.lock_is made.seat made.seat_is made.now new made.changed
-        (record { of = made.of; numbered = numbered_stays task made.seat.1.known made.now.known made.made.same seat_is_of.numbered })
+        subst (λ l. AreSeatsOf task l new) locks_are
+        (seats_now locked seated n i is place made.lock made.lock_is made.seat made.seat_is made.now new made.changed
+        (record { of = made.of; numbered = numbered_stays task made.seat.1.known made.now.known made.made.same seat_is_of.numbered }))
 
     -- what is owed by the object of the number
     pub row_owed : (P : MarkState → S → Type 0) → ((m : MarkState) (pass : PassState) (replied : Replied S) → owes m (record { pass = pass; ask = ask }) replied → P m replied.said)
