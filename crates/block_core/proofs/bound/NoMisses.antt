@@ -217,19 +217,4 @@ module _ (scene : Scene) (s : State) (i : NonePunts s) (place : ℕ) (event : Ev
   -- pops: no rescue list has a bio
   had (moves.Pops at dev bio bios) c is same = let e : bio ∷ bios ≡ [] = sym c.3 ∙ i.rescued dev.0 in absurd cc
   -- all others are of those that come
-  had (moves.TakesFirst at writer todo later move) c is same = tt
-  had (moves.TakesVector at writer todo later item move) c is same = tt
-  had (moves.TakesSub at x doing lists dev waits move) c is same = tt
-  had (moves.TakesSlip at x bio lists move) c is same = tt
-  had (moves.Pushes at x bio lists) c is same = tt
-  had (moves.Completed at disk index bio status disk_after) c is same = tt
-  had (moves.Begins at writer todo later item vector key) c is same = tt
-  had (moves.Chained at x bio lists hand number kind sizes members key node) c is same = tt
-  had (moves.Mastered at x bio lists slip key node) c is same = tt
-  had (moves.Legged at x bio lists master leg hand key node) c is same = tt
-  had (moves.Told at disk carried writer key status part node) c is same = tt
-  had (moves.Closes at disk carried writer key status part node) c is same = tt
-  had (moves.Gives at disk writer number closed held) c is same = tt
-  had (moves.Ends at disk writer closed) c is same = tt
-  had (moves.Resized at pool min later duties) c is same = tt
-  had (moves.Started at round later duties) c is same = tt
+  had _ c is same = tt

@@ -168,25 +168,8 @@ module _ (s : Scenario) (ledger : ℕ → LedgerId) (st : State) (a : Placed (se
   -- completions: the disk keeps its bad ranges and its size, and the other bios wait on
   own_stays (moves.Completed place disk index bio ending new) c =
       upd_keeps (IsOwn s) st.objects.disk disk.0 new own (own_after s disk.0 (st.objects.disk disk.0) index bio ending new (own disk.0) c.3)
-  -- takes, misses, punts, pops, links, drops, gives, ends of writes, resizes and rounds: no disk changes
-  own_stays (moves.TakesFirst place writer todo later move) c = own
-  own_stays (moves.TakesVector place writer todo later item move) c = own
-  own_stays (moves.TakesSub place x doing lists dev waits move) c = own
-  own_stays (moves.TakesSlip place x bio lists move) c = own
-  own_stays (moves.MissesOne place x number used) c = own
-  own_stays (moves.MissesTry place x doing lists dev used) c = own
-  own_stays (moves.Punts place x doing lists dev) c = own
-  own_stays (moves.Pops place dev bio bios) c = own
-  own_stays (moves.Begins place writer todo later item vector key) c = own
-  own_stays (moves.Chained place x bio lists hand number kind sizes members key node) c = own
-  own_stays (moves.Mastered place x bio lists slip key node) c = own
-  own_stays (moves.Legged place x bio lists master leg hand key node) c = own
-  own_stays (moves.Told place disk carried writer key status part node) c = own
-  own_stays (moves.Closes place disk carried writer key status part node) c = own
-  own_stays (moves.Gives place disk writer number closed held) c = own
-  own_stays (moves.Ends place disk writer closed) c = own
-  own_stays (moves.Resized place pool min later duties) c = own
-  own_stays (moves.Started place round later duties) c = own
+  -- all others: no disk changes
+  own_stays _ c = own
 
   -- the bio that is completed has its own data
   pending_tied : (disk index : ℕ) (bio : Item Pad) → disk < here.setup.count → slice_get (st.objects.disk disk).pending index ≡ Some bio → total_weight here (misfits (unfit s)) st ≡ 0 → HasItsWord s bio.bio
@@ -227,25 +210,8 @@ module _ (s : Scenario) (ledger : ℕ → LedgerId) (st : State) (a : Placed (se
         | inr ne ↦ ap (λ (d : DiskState). slice_index_or d.image at []) (upd-other st.objects.disk disk.0 new number ne)
             ∙ sym (elsewhere s number at (fragment_of bio.bio) (sector number) (λ q. ne (sym q ∙ mine.1)))
       ]
-  -- takes, misses, punts, pops, links, drops, gives, ends of writes, resizes and rounds: no disk changes
-  event_holds (moves.TakesFirst place writer todo later move) c none number at = refl
-  event_holds (moves.TakesVector place writer todo later item move) c none number at = refl
-  event_holds (moves.TakesSub place x doing lists dev waits move) c none number at = refl
-  event_holds (moves.TakesSlip place x bio lists move) c none number at = refl
-  event_holds (moves.MissesOne place x pool used) c none number at = refl
-  event_holds (moves.MissesTry place x doing lists dev used) c none number at = refl
-  event_holds (moves.Punts place x doing lists dev) c none number at = refl
-  event_holds (moves.Pops place dev bio bios) c none number at = refl
-  event_holds (moves.Begins place writer todo later item vector key) c none number at = refl
-  event_holds (moves.Chained place x bio lists hand device kind sizes members key node) c none number at = refl
-  event_holds (moves.Mastered place x bio lists slip key node) c none number at = refl
-  event_holds (moves.Legged place x bio lists master leg hand key node) c none number at = refl
-  event_holds (moves.Told place disk carried writer key status part node) c none number at = refl
-  event_holds (moves.Closes place disk carried writer key status part node) c none number at = refl
-  event_holds (moves.Gives place disk writer pool closed held) c none number at = refl
-  event_holds (moves.Ends place disk writer closed) c none number at = refl
-  event_holds (moves.Resized place pool min later duties) c none number at = refl
-  event_holds (moves.Started place round later duties) c none number at = refl
+  -- all others: no disk changes
+  event_holds _ c none number at = refl
 
 -- one after the other
 held_joined : (s : Scenario) (number x : ℕ) (first second : List Fragment) (held : List ℕ) → held_after s number x (first ++ second) held ≡ held_after s number x second (held_after s number x first held)

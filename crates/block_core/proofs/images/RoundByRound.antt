@@ -31,28 +31,10 @@ use Rattle.block_core.proofs.images.Present.{work_is_present}
 
 -- no event goes back to an earlier round
 round_on : (scene : Scene) (s : State) (m : Move) → s.objects.tally.round ≤ (after scene s m).objects.tally.round
--- takes, misses, punts, pops, pushes, completions, links, drops, gives, ends of writes and resizes: the same round
-round_on scene s (moves.TakesFirst place writer todo later move) = omega arith
-round_on scene s (moves.TakesVector place writer todo later item move) = omega arith
-round_on scene s (moves.TakesSub place x doing lists dev waits move) = omega arith
-round_on scene s (moves.TakesSlip place x bio lists move) = omega arith
-round_on scene s (moves.MissesOne place x number used) = omega arith
-round_on scene s (moves.MissesTry place x doing lists dev used) = omega arith
-round_on scene s (moves.Punts place x doing lists dev) = omega arith
-round_on scene s (moves.Pops place dev bio bios) = omega arith
-round_on scene s (moves.Pushes place x bio lists) = omega arith
-round_on scene s (moves.Completed place disk index bio status new) = omega arith
-round_on scene s (moves.Begins place writer todo later item vector key) = omega arith
-round_on scene s (moves.Chained place x bio lists hand number kind sizes members key node) = omega arith
-round_on scene s (moves.Mastered place x bio lists slip key node) = omega arith
-round_on scene s (moves.Legged place x bio lists master leg hand key node) = omega arith
-round_on scene s (moves.Told place disk carried writer key status part node) = omega arith
-round_on scene s (moves.Closes place disk carried writer key status part node) = omega arith
-round_on scene s (moves.Gives place disk writer number closed held) = omega arith
-round_on scene s (moves.Ends place disk writer closed) = omega arith
-round_on scene s (moves.Resized place pool min later duties) = omega arith
 -- rounds: the next round
 round_on scene s (moves.Started place round later duties) = omega arith
+-- all others: the same round
+round_on scene s _ = omega arith
 
 no_pairs : (R : Fragment → Fragment → Type 0) → AllPairs R []
 no_pairs R i j d lt within = absurd (omega (arith, within))

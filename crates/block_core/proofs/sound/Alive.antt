@@ -50,17 +50,6 @@ module _ (scene : Scene) (s : State) (g : DeviceGeometry scene.setup) (p : Place
   was writer key node at = subst IsAlive at (i writer key)
 
   pub alive : (m : Move) → Can scene s m → (w k : ℕ) → IsAlive (node_at ((after scene s m).objects.book w) k)
-  -- takes, misses, punts, pops, pushes and completions: no book changes
-  alive (moves.TakesFirst place writer todo later move) c = i
-  alive (moves.TakesVector place writer todo later item move) c = i
-  alive (moves.TakesSub place x doing lists dev waits move) c = i
-  alive (moves.TakesSlip place x bio lists move) c = i
-  alive (moves.MissesOne place x number used) c = i
-  alive (moves.MissesTry place x doing lists dev used) c = i
-  alive (moves.Punts place x doing lists dev) c = i
-  alive (moves.Pops place dev bio bios) c = i
-  alive (moves.Pushes place x bio lists) c = i
-  alive (moves.Completed place disk index bio status new) c = i
   -- links of writes: the top node waits for one end
   alive (moves.Begins place writer todo later item vector key) c =
       let v = vacant_at (s.objects.book writer) key c.3 in
@@ -92,8 +81,5 @@ module _ (scene : Scene) (s : State) (g : DeviceGeometry scene.setup) (p : Place
   -- drops that close a node: its place is vacant then
   alive (moves.Closes place disk carried writer key status part node) c =
       of_book writer _ (nodes_all IsAlive (s.objects.book writer) key None (within_book (s.objects.book writer) key node c.4) (i writer) tt)
-  -- gives, ends of writes, resizes and rounds: no book changes
-  alive (moves.Gives place disk writer number closed held) c = i
-  alive (moves.Ends place disk writer closed) c = i
-  alive (moves.Resized place pool min later duties) c = i
-  alive (moves.Started place round later duties) c = i
+  -- all others: no book changes
+  alive _ c = i

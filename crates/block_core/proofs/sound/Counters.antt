@@ -60,38 +60,14 @@ module _ (scene : Scene) (s : State) (g : DeviceGeometry scene.setup) (p : Place
   -- misses: none more is out
   outs (moves.MissesOne place x number used) c = one_pool number (misses used)
   outs (moves.MissesTry place x doing lists dev used) c = one_pool (2 * dev.0) (misses used)
-  -- punts, pops, pushes, completions, links and drops: pools stay as they are
-  outs (moves.Punts place x doing lists dev) c = stays
-  outs (moves.Pops place dev bio bios) c = stays
-  outs (moves.Pushes place x bio lists) c = stays
-  outs (moves.Completed place disk index bio status new) c = stays
-  outs (moves.Begins place writer todo later item vector key) c = stays
-  outs (moves.Chained place x bio lists hand number kind sizes members key node) c = stays
-  outs (moves.Mastered place x bio lists slip key node) c = stays
-  outs (moves.Legged place x bio lists master leg hand key node) c = stays
-  outs (moves.Told place disk carried writer key status part node) c = stays
-  outs (moves.Closes place disk carried writer key status part node) c = stays
   -- gives: one less is out
   outs (moves.Gives place disk writer number closed held) c = one_pool number gives
-  -- ends of writes: pools stay as they are
-  outs (moves.Ends place disk writer closed) c = stays
   -- resizes: as many are out as before
   outs (moves.Resized place pool min later duties) c = one_pool (pool_number pool) (resizes min)
-  -- rounds: pools stay as they are
-  outs (moves.Started place round later duties) c = stays
+  -- all others: pools stay as they are
+  outs _ c = stays
 
   ends : (m : Move) → Can scene s m → (w k : ℕ) → Small (node_at ((after scene s m).objects.book w) k)
-  -- takes, misses, punts, pops, pushes and completions: books stay as they are
-  ends (moves.TakesFirst place writer todo later move) c = nodes
-  ends (moves.TakesVector place writer todo later item move) c = nodes
-  ends (moves.TakesSub place x doing lists dev waits move) c = nodes
-  ends (moves.TakesSlip place x bio lists move) c = nodes
-  ends (moves.MissesOne place x number used) c = nodes
-  ends (moves.MissesTry place x doing lists dev used) c = nodes
-  ends (moves.Punts place x doing lists dev) c = nodes
-  ends (moves.Pops place dev bio bios) c = nodes
-  ends (moves.Pushes place x bio lists) c = nodes
-  ends (moves.Completed place disk index bio status new) c = nodes
   -- links of writes: the new node waits for one end
   ends (moves.Begins place writer todo later item vector key) c =
       let v = vacant_at (s.objects.book writer) key c.3 in
@@ -124,11 +100,8 @@ module _ (scene : Scene) (s : State) (g : DeviceGeometry scene.setup) (p : Place
   -- drops that close a node: none is there any more
   ends (moves.Closes place disk carried writer key status part node) c =
       of_book writer _ (nodes_all Small (s.objects.book writer) key None (within_book (s.objects.book writer) key node c.4) (nodes writer) (omega arith))
-  -- gives, ends of writes, resizes and rounds: books stay as they are
-  ends (moves.Gives place disk writer number closed held) c = nodes
-  ends (moves.Ends place disk writer closed) c = nodes
-  ends (moves.Resized place pool min later duties) c = nodes
-  ends (moves.Started place round later duties) c = nodes
+  -- all others: books stay as they are
+  ends _ c = nodes
 
   pub stays_counted : (m : Move) → Can scene s m → Counted (n + 1) (after scene s m)
   stays_counted m c = record { outs = outs m c; ends = ends m c }

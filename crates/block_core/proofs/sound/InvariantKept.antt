@@ -22,17 +22,6 @@ module _ (scene : Scene) (s : State) (f : LedgersAreNumbered scene) (i : Invaria
   other_book writer b lt w ge = ap (λ (book : BookState). book.nodes) (upd-other s.objects.book writer b w (λ q. omega arith)) ∙ i.inside w ge
 
   inside : (m : Move) → Can scene s m → (w : ℕ) → scene.books ≤ w → ((after scene s m).objects.book w).nodes ≡ []
-  -- takes, misses, punts, pops, pushes and completions: books stay as they are
-  inside (moves.TakesFirst place writer todo later move) c = i.inside
-  inside (moves.TakesVector place writer todo later item move) c = i.inside
-  inside (moves.TakesSub place x doing lists dev waits move) c = i.inside
-  inside (moves.TakesSlip place x bio lists move) c = i.inside
-  inside (moves.MissesOne place x number used) c = i.inside
-  inside (moves.MissesTry place x doing lists dev used) c = i.inside
-  inside (moves.Punts place x doing lists dev) c = i.inside
-  inside (moves.Pops place dev bio bios) c = i.inside
-  inside (moves.Pushes place x bio lists) c = i.inside
-  inside (moves.Completed place disk index bio status new) c = i.inside
   -- links and drops: the book is one of the scene's
   inside (moves.Begins place writer todo later item vector key) c = other_book writer (with_node (s.objects.book writer) key (Some (top_node todo.number (vector_of todo vector)))) c.2
   inside (moves.Chained place x bio lists hand number kind sizes members key node) c = other_book bio.bio.writer _ c.4
@@ -40,11 +29,8 @@ module _ (scene : Scene) (s : State) (f : LedgersAreNumbered scene) (i : Invaria
   inside (moves.Legged place x bio lists master leg hand key node) c = other_book bio.writer _ c.3
   inside (moves.Told place disk carried writer key status part node) c = other_book writer _ c.3
   inside (moves.Closes place disk carried writer key status part node) c = other_book writer _ c.3
-  -- gives, ends of writes, resizes and rounds: books stay as they are
-  inside (moves.Gives place disk writer number closed held) c = i.inside
-  inside (moves.Ends place disk writer closed) c = i.inside
-  inside (moves.Resized place pool min later duties) c = i.inside
-  inside (moves.Started place round later duties) c = i.inside
+  -- all others: books stay as they are
+  inside _ c = i.inside
 
   -- a pool that moves adds up
   pool_moves : (number : ℕ) (move : PoolMove) → CanMove (s.objects.pool number) move → (p : ℕ) → AddsUp (upd s.objects.pool number (after_move (s.objects.pool number) move) p).facts
@@ -59,25 +45,12 @@ module _ (scene : Scene) (s : State) (f : LedgersAreNumbered scene) (i : Invaria
   pools (moves.TakesSlip place x bio lists move) c = pool_moves (2 * bio.bio.dev.0 + 1) move c.4
   pools (moves.MissesOne place x number used) c = pool_moves number (misses used) c.2
   pools (moves.MissesTry place x doing lists dev used) c = pool_moves (2 * dev.0) (misses used) c.4
-  -- punts, pops, pushes, completions, links and drops: pools stay as they are
-  pools (moves.Punts place x doing lists dev) c = i.pools
-  pools (moves.Pops place dev bio bios) c = i.pools
-  pools (moves.Pushes place x bio lists) c = i.pools
-  pools (moves.Completed place disk index bio status new) c = i.pools
-  pools (moves.Begins place writer todo later item vector key) c = i.pools
-  pools (moves.Chained place x bio lists hand number kind sizes members key node) c = i.pools
-  pools (moves.Mastered place x bio lists slip key node) c = i.pools
-  pools (moves.Legged place x bio lists master leg hand key node) c = i.pools
-  pools (moves.Told place disk carried writer key status part node) c = i.pools
-  pools (moves.Closes place disk carried writer key status part node) c = i.pools
   -- gives: by one move of a pool
   pools (moves.Gives place disk writer number closed held) c = pool_moves number gives c.3
-  -- ends of writes: pools stay as they are
-  pools (moves.Ends place disk writer closed) c = i.pools
   -- resizes: by one move of a pool
   pools (moves.Resized place pool min later duties) c = pool_moves (pool_number pool) (resizes min) c.2
-  -- rounds: pools stay as they are
-  pools (moves.Started place round later duties) c = i.pools
+  -- all others: pools stay as they are
+  pools _ c = i.pools
 
   pub keeps : (m : Move) → Can scene s m → ((place : ℕ) → IsIn scene.setup ((after scene s m).task place)) → Invariant scene (after scene s m)
   keeps m c isin = record {

@@ -126,21 +126,8 @@ module _ (scene : Scene) (s : State) where
   stays_or_closes (moves.Closes place disk carried writer key status part old) c w k node at =
       in_books s.objects.book writer _ w k node
       (in_book (s.objects.book writer) key None k node (within_book (s.objects.book writer) key old c.4) (λ found is. inr refl)) at
-  -- takes, misses, punts, pops, pushes, completions, gives, ends of writes, resizes and rounds: no book changes
-  stays_or_closes (moves.TakesFirst place writer todo later move) c w k node at = stays w k node at
-  stays_or_closes (moves.TakesVector place writer todo later item move) c w k node at = stays w k node at
-  stays_or_closes (moves.TakesSub place x doing lists dev waits move) c w k node at = stays w k node at
-  stays_or_closes (moves.TakesSlip place x bio lists move) c w k node at = stays w k node at
-  stays_or_closes (moves.MissesOne place x number used) c w k node at = stays w k node at
-  stays_or_closes (moves.MissesTry place x doing lists dev used) c w k node at = stays w k node at
-  stays_or_closes (moves.Punts place x doing lists dev) c w k node at = stays w k node at
-  stays_or_closes (moves.Pops place dev bio bios) c w k node at = stays w k node at
-  stays_or_closes (moves.Pushes place x bio lists) c w k node at = stays w k node at
-  stays_or_closes (moves.Completed place disk index bio status new) c w k node at = stays w k node at
-  stays_or_closes (moves.Gives place disk writer number closed held) c w k node at = stays w k node at
-  stays_or_closes (moves.Ends place disk writer closed) c w k node at = stays w k node at
-  stays_or_closes (moves.Resized place pool min later duties) c w k node at = stays w k node at
-  stays_or_closes (moves.Started place round later duties) c w k node at = stays w k node at
+  -- all others: no book changes
+  stays_or_closes _ c w k node at = stays w k node at
 
 -- of a task that copies a bio: list 0 has legs of the master, and the bio's set is above its device
 abbrev pub HasLegs : State → Doing → TaskLists → Type 0

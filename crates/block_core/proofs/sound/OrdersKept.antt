@@ -147,24 +147,7 @@ module _ (scene : Scene) (s : State) (f : LedgersAreNumbered scene) (g : DeviceG
       let r : Each (IsOwn scene.setup dev.0 dev.0) (bio ∷ bios) = subst (Each (IsOwn scene.setup dev.0 dev.0)) c.3 (p.rescued dev.0) in
       upd_keeps (λ d bios. Each (IsOwn scene.setup d d) bios) s.objects.rescue dev.0 bios p.rescued r.1
   -- all others: rescue lists stay as they are
-  rescued (moves.TakesFirst place writer todo later move) c = p.rescued
-  rescued (moves.TakesVector place writer todo later item move) c = p.rescued
-  rescued (moves.TakesSub place x doing lists dev waits move) c = p.rescued
-  rescued (moves.TakesSlip place x bio lists move) c = p.rescued
-  rescued (moves.MissesOne place x number used) c = p.rescued
-  rescued (moves.MissesTry place x doing lists dev used) c = p.rescued
-  rescued (moves.Pushes place x bio lists) c = p.rescued
-  rescued (moves.Completed place disk index bio status new) c = p.rescued
-  rescued (moves.Begins place writer todo later item vector key) c = p.rescued
-  rescued (moves.Chained place x bio lists hand number kind sizes members key node) c = p.rescued
-  rescued (moves.Mastered place x bio lists slip key node) c = p.rescued
-  rescued (moves.Legged place x bio lists master leg hand key node) c = p.rescued
-  rescued (moves.Told place disk carried writer key status part node) c = p.rescued
-  rescued (moves.Closes place disk carried writer key status part node) c = p.rescued
-  rescued (moves.Gives place disk writer number closed held) c = p.rescued
-  rescued (moves.Ends place disk writer closed) c = p.rescued
-  rescued (moves.Resized place pool min later duties) c = p.rescued
-  rescued (moves.Started place round later duties) c = p.rescued
+  rescued _ c = p.rescued
 
   pub stays_placed : (m : Move) → Can scene s m → Placed scene.setup (after scene s m)
   stays_placed m c = record { tasks = tasks m c; rescued = rescued m c }

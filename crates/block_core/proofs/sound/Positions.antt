@@ -42,22 +42,9 @@ module _ (scene : Scene) (s : State) (all : (p : ℕ) → IsWithin (s.objects.po
   stays_within (moves.TakesSlip place x bio lists move) = moved (2 * bio.bio.dev.0 + 1) move
   stays_within (moves.MissesOne place x number used) = moved number (misses used)
   stays_within (moves.MissesTry place x doing lists dev used) = moved (2 * dev.0) (misses used)
-  -- punts, pops, pushes, completions, links and drops: no pool changes
-  stays_within (moves.Punts place x doing lists dev) = all
-  stays_within (moves.Pops place dev bio bios) = all
-  stays_within (moves.Pushes place x bio lists) = all
-  stays_within (moves.Completed place disk index bio status new) = all
-  stays_within (moves.Begins place writer todo later item vector key) = all
-  stays_within (moves.Chained place x bio lists hand number kind sizes members key node) = all
-  stays_within (moves.Mastered place x bio lists slip key node) = all
-  stays_within (moves.Legged place x bio lists master leg hand key node) = all
-  stays_within (moves.Told place disk carried writer key status part node) = all
-  stays_within (moves.Closes place disk carried writer key status part node) = all
   -- gives: the position stays
   stays_within (moves.Gives place disk writer number closed held) = moved number gives
-  -- ends of writes: no pool changes
-  stays_within (moves.Ends place disk writer closed) = all
   -- resizes: the position stays
   stays_within (moves.Resized place pool min later duties) = moved (pool_number pool) (resizes min)
-  -- rounds: no pool changes
-  stays_within (moves.Started place round later duties) = all
+  -- all others: no pool changes
+  stays_within _ = all

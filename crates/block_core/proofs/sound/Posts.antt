@@ -199,27 +199,14 @@ module _ (rounds : List ℕ) (ids : ℕ → TaskId) (keeper : ℕ) (scene : Scen
   mins (moves.TakesSlip place x bio lists move) c = one_pool (2 * bio.bio.dev.0 + 1) move (take_min (s.objects.pool (2 * bio.bio.dev.0 + 1)) move c.3)
   mins (moves.MissesOne place x number used) c = one_pool number (misses used) refl
   mins (moves.MissesTry place x doing lists dev used) c = one_pool (2 * dev.0) (misses used) refl
-  -- punts, pops, pushes, completions, links and drops: no pool changes
-  mins (moves.Punts place x doing lists dev) c = i.mins
-  mins (moves.Pops place dev bio bios) c = i.mins
-  mins (moves.Pushes place x bio lists) c = i.mins
-  mins (moves.Completed place disk index bio status new) c = i.mins
-  mins (moves.Begins place writer todo later item vector key) c = i.mins
-  mins (moves.Chained place x bio lists hand number kind sizes members key node) c = i.mins
-  mins (moves.Mastered place x bio lists slip key node) c = i.mins
-  mins (moves.Legged place x bio lists master leg hand key node) c = i.mins
-  mins (moves.Told place disk carried writer key status part node) c = i.mins
-  mins (moves.Closes place disk carried writer key status part node) c = i.mins
   -- gives: the pool keeps its reserve
   mins (moves.Gives place disk writer number closed held) c = one_pool number gives refl
-  -- ends of writes: no pool changes
-  mins (moves.Ends place disk writer closed) c = i.mins
   -- resizes: the new reserve is one element at least
   mins (moves.Resized place pool min later duties) c =
       let t = at place _ c.1 in
       upd_keeps (λ q (pool : PoolState). IsPool scene.setup q → 1 ≤ pool.facts.min) s.objects.pool (pool_number pool) (after_move (s.objects.pool (pool_number pool)) (resizes min)) i.mins (λ own. t.1.0.0)
-  -- rounds: no pool changes
-  mins (moves.Started place round later duties) c = i.mins
+  -- all others: no pool changes
+  mins _ c = i.mins
 
   disk_there : (bio : Bio) → bio.dev.0 < scene.setup.count → Suits (tree_at scene.setup bio.dev) ToPush → is_disk scene.setup bio.dev.0 ≡ true
   disk_there bio lt suits =
@@ -248,51 +235,15 @@ module _ (rounds : List ℕ) (ids : ℕ → TaskId) (keeper : ℕ) (scene : Scen
           let z : length (s.objects.disk disk.0).pending ≡ 0 = ap length none in
           absurd (omega (arith, lt, z))
       by_old (inr is) = inr is
-  -- takes, misses, punts, pops, links, drops, gives, ends of writes, resizes and rounds: no disk changes
-  disks (moves.TakesFirst place writer todo later move) c = i.disks
-  disks (moves.TakesVector place writer todo later item move) c = i.disks
-  disks (moves.TakesSub place x doing lists dev waits move) c = i.disks
-  disks (moves.TakesSlip place x bio lists move) c = i.disks
-  disks (moves.MissesOne place x number used) c = i.disks
-  disks (moves.MissesTry place x doing lists dev used) c = i.disks
-  disks (moves.Punts place x doing lists dev) c = i.disks
-  disks (moves.Pops place dev bio bios) c = i.disks
-  disks (moves.Begins place writer todo later item vector key) c = i.disks
-  disks (moves.Chained place x bio lists hand number kind sizes members key node) c = i.disks
-  disks (moves.Mastered place x bio lists slip key node) c = i.disks
-  disks (moves.Legged place x bio lists master leg hand key node) c = i.disks
-  disks (moves.Told place disk carried writer key status part node) c = i.disks
-  disks (moves.Closes place disk carried writer key status part node) c = i.disks
-  disks (moves.Gives place disk writer number closed held) c = i.disks
-  disks (moves.Ends place disk writer closed) c = i.disks
-  disks (moves.Resized place pool min later duties) c = i.disks
-  disks (moves.Started place round later duties) c = i.disks
+  -- all others: no disk changes
+  disks _ c = i.disks
 
   pub stays_posted : (m : Move) → Can scene s m → Posted ids keeper scene (after scene s m)
   stays_posted m c = record { tasks = tasks m c; mins = mins m c; disks = disks m c }
 
 -- no event adds a round
 pub left_long : (scene : Scene) (s : State) (m : Move) → length (after scene s m).objects.tally.left ≡ length s.objects.tally.left
--- takes, misses, punts, pops, pushes, completions, links, drops and gives: the tally stays as it is
-left_long scene s (moves.TakesFirst place writer todo later move) = refl
-left_long scene s (moves.TakesVector place writer todo later item move) = refl
-left_long scene s (moves.TakesSub place x doing lists dev waits move) = refl
-left_long scene s (moves.TakesSlip place x bio lists move) = refl
-left_long scene s (moves.MissesOne place x number used) = refl
-left_long scene s (moves.MissesTry place x doing lists dev used) = refl
-left_long scene s (moves.Punts place x doing lists dev) = refl
-left_long scene s (moves.Pops place dev bio bios) = refl
-left_long scene s (moves.Pushes place x bio lists) = refl
-left_long scene s (moves.Completed place disk index bio status new) = refl
-left_long scene s (moves.Begins place writer todo later item vector key) = refl
-left_long scene s (moves.Chained place x bio lists hand number kind sizes members key node) = refl
-left_long scene s (moves.Mastered place x bio lists slip key node) = refl
-left_long scene s (moves.Legged place x bio lists master leg hand key node) = refl
-left_long scene s (moves.Told place disk carried writer key status part node) = refl
-left_long scene s (moves.Closes place disk carried writer key status part node) = refl
-left_long scene s (moves.Gives place disk writer number closed held) = refl
 -- ends of writes: one count changes at its place
 left_long scene s (moves.Ends place disk writer closed) = length-set s.objects.tally.left s.objects.tally.round (slice_index_or s.objects.tally.left s.objects.tally.round 0 - 1)
--- resizes and rounds: the counts stay as they are
-left_long scene s (moves.Resized place pool min later duties) = refl
-left_long scene s (moves.Started place round later duties) = refl
+-- all others: the counts stay as they are
+left_long scene s _ = refl

@@ -222,25 +222,7 @@ pub closed_so : (scene : Scene) (s : State) (was_master : ℕ → Bool) (m : Mov
 -- drops that close a node: the node that closes is the one at its place
 closed_so scene s was_master (moves.Closes place disk carried writer key status part node) c = ap (λ found. upd was_master place (is_master_at found)) c.4
 -- all others: no node closes
-closed_so scene s was_master (moves.TakesFirst place writer todo later move) c = refl
-closed_so scene s was_master (moves.TakesVector place writer todo later item move) c = refl
-closed_so scene s was_master (moves.TakesSub place x doing lists dev waits move) c = refl
-closed_so scene s was_master (moves.TakesSlip place x bio lists move) c = refl
-closed_so scene s was_master (moves.MissesOne place x number used) c = refl
-closed_so scene s was_master (moves.MissesTry place x doing lists dev used) c = refl
-closed_so scene s was_master (moves.Punts place x doing lists dev) c = refl
-closed_so scene s was_master (moves.Pops place dev bio bios) c = refl
-closed_so scene s was_master (moves.Pushes place x bio lists) c = refl
-closed_so scene s was_master (moves.Completed place disk index bio status new) c = refl
-closed_so scene s was_master (moves.Begins place writer todo later item vector key) c = refl
-closed_so scene s was_master (moves.Chained place x bio lists hand number kind sizes members key node) c = refl
-closed_so scene s was_master (moves.Mastered place x bio lists slip key node) c = refl
-closed_so scene s was_master (moves.Legged place x bio lists master leg hand key node) c = refl
-closed_so scene s was_master (moves.Told place disk carried writer key status part node) c = refl
-closed_so scene s was_master (moves.Gives place disk writer number closed held) c = refl
-closed_so scene s was_master (moves.Ends place disk writer closed) c = refl
-closed_so scene s was_master (moves.Resized place pool min later duties) c = refl
-closed_so scene s was_master (moves.Started place round later duties) c = refl
+closed_so scene s was_master _ c = refl
 
 pub runs_stand : (scene : Scene) → LedgersAreNumbered scene → DeviceGeometry scene.setup → (s : State) (events : List Event) (new : State) (was_master : ℕ → Bool) → Whole scene s → Stands scene was_master s
     → (run : IsRun scene s events new) → Stands scene (were_masters scene s events new run was_master) new

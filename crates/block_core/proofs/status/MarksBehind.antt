@@ -61,20 +61,5 @@ module _ (scene : Scene) (ends : Fragment → Status) (written : ℕ → Status 
   fair_after (moves.Legged place x bio lists master leg hand key node) c =
       let item = leg_at bio hand leg key (tree_at setup bio.dev) in
       with_fair bio.writer key (new_mark false (bio_may setup ends item.bio)) (new_fair item.bio)
-  -- takes, misses, punts, pops, pushes, completions, drops, gives, ends of writes, resizes and rounds: no mark changes
-  fair_after (moves.TakesFirst place writer todo later move) c = h.fair
-  fair_after (moves.TakesVector place writer todo later item move) c = h.fair
-  fair_after (moves.TakesSub place x doing lists dev waits move) c = h.fair
-  fair_after (moves.TakesSlip place x bio lists move) c = h.fair
-  fair_after (moves.MissesOne place x number used) c = h.fair
-  fair_after (moves.MissesTry place x doing lists dev used) c = h.fair
-  fair_after (moves.Punts place x doing lists dev) c = h.fair
-  fair_after (moves.Pops place dev bio bios) c = h.fair
-  fair_after (moves.Pushes place x bio lists) c = h.fair
-  fair_after (moves.Completed place disk index bio status new) c = h.fair
-  fair_after (moves.Told place disk carried writer key status part node) c = h.fair
-  fair_after (moves.Closes place disk carried writer key status part node) c = h.fair
-  fair_after (moves.Gives place disk writer number closed held) c = h.fair
-  fair_after (moves.Ends place disk writer closed) c = h.fair
-  fair_after (moves.Resized place pool min later duties) c = h.fair
-  fair_after (moves.Started place round later duties) c = h.fair
+  -- all others: no mark changes
+  fair_after _ c = h.fair

@@ -75,19 +75,4 @@ module _ (scene : Scene) (ends : Fragment → Status) (s : State) (mark : ℕ �
       let at : opened_for setup (s.task place) key ≡ item = ap (λ x. opened_for setup x key) c.1 ∙ opens_submission setup x (Copies bio master leg (Links hand)) lists key c.2 tt in
       with_one bio.writer key (new_mark false (bio_may setup ends item)) (opened_for setup (s.task place) key) (sym (ap (bio_may setup ends) at))
   -- all others: no node is opened
-  stays_of_bios (moves.TakesFirst place writer todo later move) c = tied
-  stays_of_bios (moves.TakesVector place writer todo later item move) c = tied
-  stays_of_bios (moves.TakesSub place x doing lists dev waits move) c = tied
-  stays_of_bios (moves.TakesSlip place x bio lists move) c = tied
-  stays_of_bios (moves.MissesOne place x number used) c = tied
-  stays_of_bios (moves.MissesTry place x doing lists dev used) c = tied
-  stays_of_bios (moves.Punts place x doing lists dev) c = tied
-  stays_of_bios (moves.Pops place dev bio bios) c = tied
-  stays_of_bios (moves.Pushes place x bio lists) c = tied
-  stays_of_bios (moves.Completed place disk index bio status new) c = tied
-  stays_of_bios (moves.Told place disk carried writer key status part node) c = tied
-  stays_of_bios (moves.Closes place disk carried writer key status part node) c = tied
-  stays_of_bios (moves.Gives place disk writer number closed held) c = tied
-  stays_of_bios (moves.Ends place disk writer closed) c = tied
-  stays_of_bios (moves.Resized place pool min later duties) c = tied
-  stays_of_bios (moves.Started place round later duties) c = tied
+  stays_of_bios _ c = tied

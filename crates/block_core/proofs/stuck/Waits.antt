@@ -241,24 +241,7 @@ module _ (scene : Scene) (s : State) (g : DeviceGeometry scene.setup) (r : AreRe
       by_old (inl none) = let e : bio ∷ bios ≡ [] = sym c.3 ∙ none in absurd cc
       by_old (inr is) = inr is
   -- all others: rescue lists stay as they are
-  rescued (moves.TakesFirst place writer todo later move) c = i.rescued
-  rescued (moves.TakesVector place writer todo later item move) c = i.rescued
-  rescued (moves.TakesSub place x doing lists dev waits move) c = i.rescued
-  rescued (moves.TakesSlip place x bio lists move) c = i.rescued
-  rescued (moves.MissesOne place x number used) c = i.rescued
-  rescued (moves.MissesTry place x doing lists dev used) c = i.rescued
-  rescued (moves.Pushes place x bio lists) c = i.rescued
-  rescued (moves.Completed place disk index bio status new) c = i.rescued
-  rescued (moves.Begins place writer todo later item vector key) c = i.rescued
-  rescued (moves.Chained place x bio lists hand number kind sizes members key node) c = i.rescued
-  rescued (moves.Mastered place x bio lists slip key node) c = i.rescued
-  rescued (moves.Legged place x bio lists master leg hand key node) c = i.rescued
-  rescued (moves.Told place disk carried writer key status part node) c = i.rescued
-  rescued (moves.Closes place disk carried writer key status part node) c = i.rescued
-  rescued (moves.Gives place disk writer number closed held) c = i.rescued
-  rescued (moves.Ends place disk writer closed) c = i.rescued
-  rescued (moves.Resized place pool min later duties) c = i.rescued
-  rescued (moves.Started place round later duties) c = i.rescued
+  rescued _ c = i.rescued
 
   pub stays_waiting : (m : Move) → Can scene s m → Waits scene.setup (after scene s m)
   stays_waiting m c = record { tasks = tasks m c; rescued = rescued m c }

@@ -174,21 +174,8 @@ module _ (scene : Scene) (s : State) (g : DeviceGeometry scene.setup) (n : Needs
       kept_places s.objects.book scene.setup.places bio.writer _ all (length-set (s.objects.book bio.writer).nodes key _)
   places (moves.Told place disk carried writer key status part node) c all = kept_places s.objects.book scene.setup.places writer _ all (length-set (s.objects.book writer).nodes key _)
   places (moves.Closes place disk carried writer key status part node) c all = kept_places s.objects.book scene.setup.places writer _ all (length-set (s.objects.book writer).nodes key _)
-  -- takes, misses, punts, pops, pushes, completions, gives, ends of writes, resizes and rounds: no book changes
-  places (moves.TakesFirst place writer todo later move) c all = all
-  places (moves.TakesVector place writer todo later item move) c all = all
-  places (moves.TakesSub place x doing lists dev waits move) c all = all
-  places (moves.TakesSlip place x bio lists move) c all = all
-  places (moves.MissesOne place x number used) c all = all
-  places (moves.MissesTry place x doing lists dev used) c all = all
-  places (moves.Punts place x doing lists dev) c all = all
-  places (moves.Pops place dev bio bios) c all = all
-  places (moves.Pushes place x bio lists) c all = all
-  places (moves.Completed place disk index bio status new) c all = all
-  places (moves.Gives place disk writer number closed held) c all = all
-  places (moves.Ends place disk writer closed) c all = all
-  places (moves.Resized place pool min later duties) c all = all
-  places (moves.Started place round later duties) c all = all
+  -- all others: no book changes
+  places _ c all = all
 
   pub stays_roomy : (m : Move) → Can scene s m → HasRoomInBooks scene s → HasRoomInBooks scene (after scene s m)
   stays_roomy m c r = record {
