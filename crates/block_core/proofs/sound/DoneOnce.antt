@@ -21,7 +21,7 @@ use Rattle.run_machine.specs.Submissions.{submission_request}
 use Rattle.run_machine.specs.Requests as requests
 use Rattle.run_machine.specs.Requests.{Request, Reply}
 use Rattle.run_machine.specs.Tasks.{request, closed_request, with_bio, needs_vector}
-use Rattle.bio_books.specs.Links.{Made, NoRoom, Stray}
+use Rattle.bio_books.specs.Links.{Made}
 use Rattle.bio_books.specs.Drops as end
 use Rattle.block_core.specs.Dones.{done_in}
 use Rattle.block_core.specs.Rounds.{by_stage}
@@ -47,61 +47,38 @@ pub told_done : (w : ℕ) (request : Request) (reply : Reply) (what : What) → 
 told_done w (requests.TakeBio set true) (requests.HadBio from bio) what told = refl
 told_done w (requests.TakeBio set false) (requests.HadBio from bio) what told = refl
 told_done w (requests.TakeBio set true) (requests.Missed true) what told = refl
-told_done w (requests.TakeBio set true) (requests.Missed false) what told = none_told what told
 told_done w (requests.TakeBio set false) (requests.Missed used) what told = refl
-told_done w (requests.TakeBio set waits) reply what told = none_told what told
 told_done w requests.TakeVec (requests.HadVec from vector) what told = refl
 told_done w requests.TakeVec (requests.Missed true) what told = refl
-told_done w requests.TakeVec (requests.Missed false) what told = none_told what told
-told_done w requests.TakeVec reply what told = none_told what told
 told_done w (requests.TakeSlip dev) (requests.HadSlip from slip) what told = refl
 told_done w (requests.TakeSlip dev) (requests.Missed true) what told = refl
-told_done w (requests.TakeSlip dev) (requests.Missed false) what told = none_told what told
-told_done w (requests.TakeSlip dev) reply what told = none_told what told
 -- gives
 told_done w (requests.GiveBio bio) requests.Did what told = refl
-told_done w (requests.GiveBio bio) reply what told = none_told what told
 told_done w (requests.GiveVec vector) requests.Did what told = refl
-told_done w (requests.GiveVec vector) reply what told = none_told what told
 told_done w (requests.GiveSlip slip) requests.Did what told = refl
-told_done w (requests.GiveSlip slip) reply what told = none_told what told
 -- lists of rescuers
 told_done w (requests.Punt dev moved) requests.Did what told = refl
-told_done w (requests.Punt dev moved) reply what told = none_told what told
 told_done w (requests.Pop dev) (requests.Popped bio) what told = refl
-told_done w (requests.Pop dev) reply what told = none_told what told
 -- disks
 told_done w (requests.Push bio) requests.Did what told = refl
-told_done w (requests.Push bio) reply what told = none_told what told
 told_done w (requests.Complete disk) (requests.Completed index bio status) what told = refl
-told_done w (requests.Complete disk) reply what told = none_told what told
--- books: one that is refused is no event
+-- books
 told_done w (requests.Link writer opening) (requests.LinkedTo (Made node)) what told = refl
-told_done w (requests.Link writer opening) (requests.LinkedTo (NoRoom back)) what told = none_told what told
-told_done w (requests.Link writer opening) (requests.LinkedTo (Stray back)) what told = none_told what told
-told_done w (requests.Link writer opening) reply what told = none_told what told
 told_done w (requests.Drop writer node status part) (requests.DroppedTo end.Left) what told = refl
 told_done w (requests.Drop writer node status part) (requests.DroppedTo (end.Up closed)) what told = refl
 told_done w (requests.Drop writer node status part) (requests.DroppedTo (end.Top closed)) what told = refl
-told_done w (requests.Drop writer node status part) (requests.DroppedTo (end.Stray back)) what told = none_told what told
-told_done w (requests.Drop writer node status part) reply what told = none_told what told
 -- ends of writes: the event is of the write that was asked
 told_done w (requests.Done write status) requests.Did what told = refl
-told_done w (requests.Done write status) reply what told = none_told what told
 -- resizes: none tells a write done
 told_done w (requests.Resize pool min) (requests.OutIs out) what told = by_test (out == 0)
   where
     by_test : (v : Bool) → done_of w (resize_of v pool min) ≡ 0
     by_test true = refl
     by_test false = refl
-told_done w (requests.Resize pool min) reply what told = none_told what told
 -- starts of rounds
 told_done w (requests.NextRound round) requests.Did what told = refl
-told_done w (requests.NextRound round) reply what told = none_told what told
--- looks and rests are no events
-told_done w requests.LookRound reply what told = none_told what told
-told_done w requests.LookLeft reply what told = none_told what told
-told_done w requests.Rest reply what told = none_told what told
+-- all other answers, and all to looks and rests, are no events
+told_done w _ _ what told = none_told what told
 
 -- no submission tells a write done
 submission_asks_none : (w : ℕ) (setup : Setup) (doing : Doing) (lists : TaskLists) → asked w (submission_request setup doing lists) ≡ 0

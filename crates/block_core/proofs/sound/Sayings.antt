@@ -3,7 +3,7 @@ use Rattle.std.proofs.Common.{◌≡◌, ◌+◌, ◌==◌, ℕ, Bool, true, fal
 use Rattle.std.proofs.lemmas.Option.{same_Some}
 use Rattle.elem_ledger.specs.Ledger.{LedgerId}
 use Rattle.stack_base.specs.declared.ids.Status.{Status}
-use Rattle.bio_books.specs.Links.{Made, NoRoom, Stray}
+use Rattle.bio_books.specs.Links.{Made}
 use Rattle.bio_books.specs.Drops as end
 use Rattle.run_machine.specs.declared.event.What.{What}
 use Rattle.run_machine.specs.declared.event.What.TheVariants as what
@@ -32,115 +32,57 @@ pub says : (request : Request) (reply : Reply) (what : What) → what_of request
 -- takes: where an event is told, it is of the others
 says (requests.TakeBio set true) (requests.HadBio from bio) what tells = subst IsOther (same_Some _ what tells) tt
 says (requests.TakeBio set true) (requests.Missed true) what tells = subst IsOther (same_Some _ what tells) tt
-says (requests.TakeBio set true) (requests.Missed false) what tells = none_told what tells
 says (requests.TakeBio set false) (requests.HadBio from bio) what tells = subst IsOther (same_Some _ what tells) tt
 says (requests.TakeBio set false) (requests.Missed used) what tells = subst IsOther (same_Some _ what tells) tt
-says (requests.TakeBio set waits) reply what tells = none_told what tells
 says requests.TakeVec (requests.HadVec from vector) what tells = subst IsOther (same_Some _ what tells) tt
 says requests.TakeVec (requests.Missed true) what tells = subst IsOther (same_Some _ what tells) tt
-says requests.TakeVec (requests.Missed false) what tells = none_told what tells
-says requests.TakeVec reply what tells = none_told what tells
 says (requests.TakeSlip dev) (requests.HadSlip from slip) what tells = subst IsOther (same_Some _ what tells) tt
 says (requests.TakeSlip dev) (requests.Missed true) what tells = subst IsOther (same_Some _ what tells) tt
-says (requests.TakeSlip dev) (requests.Missed false) what tells = none_told what tells
-says (requests.TakeSlip dev) reply what tells = none_told what tells
 -- gives
 says (requests.GiveBio bio) requests.Did what tells = subst IsOther (same_Some _ what tells) tt
-says (requests.GiveBio bio) reply what tells = none_told what tells
 says (requests.GiveVec vector) requests.Did what tells = subst IsOther (same_Some _ what tells) tt
-says (requests.GiveVec vector) reply what tells = none_told what tells
 says (requests.GiveSlip slip) requests.Did what tells = subst IsOther (same_Some _ what tells) tt
-says (requests.GiveSlip slip) reply what tells = none_told what tells
 -- lists of rescuers
 says (requests.Punt dev moved) requests.Did what tells = subst IsOther (same_Some _ what tells) tt
-says (requests.Punt dev moved) reply what tells = none_told what tells
 says (requests.Pop dev) (requests.Popped bio) what tells = subst IsOther (same_Some _ what tells) tt
-says (requests.Pop dev) reply what tells = none_told what tells
 -- disks
 says (requests.Push bio) requests.Did what tells = subst IsOther (same_Some _ what tells) tt
-says (requests.Push bio) reply what tells = none_told what tells
 says (requests.Complete disk) (requests.Completed index bio status) what tells = subst IsOther (same_Some _ what tells) tt
-says (requests.Complete disk) reply what tells = none_told what tells
--- books: one that is refused is no event
+-- books
 says (requests.Link writer opening) (requests.LinkedTo (Made key)) what tells = subst IsOther (same_Some _ what tells) tt
-says (requests.Link writer opening) (requests.LinkedTo (NoRoom back)) what tells = none_told what tells
-says (requests.Link writer opening) (requests.LinkedTo (Stray back)) what tells = none_told what tells
-says (requests.Link writer opening) reply what tells = none_told what tells
 says (requests.Drop writer key status part) (requests.DroppedTo end.Left) what tells = subst IsOther (same_Some _ what tells) tt
 says (requests.Drop writer key status part) (requests.DroppedTo (end.Up closed)) what tells = subst IsOther (same_Some _ what tells) tt
 says (requests.Drop writer key status part) (requests.DroppedTo (end.Top closed)) what tells = subst IsOther (same_Some _ what tells) tt
-says (requests.Drop writer key status part) (requests.DroppedTo (end.Stray back)) what tells = none_told what tells
-says (requests.Drop writer key status part) reply what tells = none_told what tells
 -- ends of writes: the event has the write and the status that were asked
 says (requests.Done write status) requests.Did what tells = sym (same_Some _ what tells)
-says (requests.Done write status) reply what tells = none_told what tells
 -- resizes: one that found elements out is no event
 says (requests.Resize pool min) (requests.OutIs out) what tells = by_test (out == 0) tells
   where
     by_test : (v : Bool) → resize_of v pool min ≡ Some what → IsOther what
     by_test true tells = subst IsOther (same_Some _ what tells) tt
     by_test false tells = none_told what tells
-says (requests.Resize pool min) reply what tells = none_told what tells
 -- starts of rounds: the event has the number that was asked
 says (requests.NextRound round) requests.Did what tells = sym (same_Some _ what tells)
-says (requests.NextRound round) reply what tells = none_told what tells
--- looks and rests are no events
-says requests.LookRound reply what tells = none_told what tells
-says requests.LookLeft reply what tells = none_told what tells
-says requests.Rest reply what tells = none_told what tells
+-- all other answers, and all to looks and rests, are no events
+says _ _ what tells = none_told what tells
 
 -- so a write is told done by a request to do so,
 pub asks_done : (request : Request) (write : ℕ) (status : Status) → EventSays request (what.Done write status) → request ≡ requests.Done write status
--- takes and gives tell other events
-asks_done (requests.TakeBio set waits) write status h = absurd h
-asks_done requests.TakeVec write status h = absurd h
-asks_done (requests.TakeSlip dev) write status h = absurd h
-asks_done (requests.GiveBio bio) write status h = absurd h
-asks_done (requests.GiveVec vector) write status h = absurd h
-asks_done (requests.GiveSlip slip) write status h = absurd h
--- so do lists of rescuers and disks
-asks_done (requests.Punt dev moved) write status h = absurd h
-asks_done (requests.Pop dev) write status h = absurd h
-asks_done (requests.Push bio) write status h = absurd h
-asks_done (requests.Complete disk) write status h = absurd h
--- and books
-asks_done (requests.Link writer opening) write status h = absurd h
-asks_done (requests.Drop writer key ending part) write status h = absurd h
 -- an end of a write is of this one, with this status
 asks_done (requests.Done other ending) write status h = let a : other ≡ write = cc in let b : ending ≡ status = cc in λ i. requests.Done (a i) (b i)
--- resizes, rounds, looks and rests tell other events, or none
-asks_done (requests.Resize pool min) write status h = absurd h
+-- a start of a round tells another event
 asks_done (requests.NextRound round) write status h = absurd cc
-asks_done requests.LookRound write status h = absurd h
-asks_done requests.LookLeft write status h = absurd h
-asks_done requests.Rest write status h = absurd h
+-- all others tell other events, or none
+asks_done _ write status h = absurd h
 
 -- and a round started by one
 pub asks_round : (request : Request) (number : ℕ) → EventSays request (what.Round number) → request ≡ requests.NextRound number
--- takes and gives tell other events
-asks_round (requests.TakeBio set waits) number h = absurd h
-asks_round requests.TakeVec number h = absurd h
-asks_round (requests.TakeSlip dev) number h = absurd h
-asks_round (requests.GiveBio bio) number h = absurd h
-asks_round (requests.GiveVec vector) number h = absurd h
-asks_round (requests.GiveSlip slip) number h = absurd h
--- so do lists of rescuers and disks
-asks_round (requests.Punt dev moved) number h = absurd h
-asks_round (requests.Pop dev) number h = absurd h
-asks_round (requests.Push bio) number h = absurd h
-asks_round (requests.Complete disk) number h = absurd h
--- and books
-asks_round (requests.Link writer opening) number h = absurd h
-asks_round (requests.Drop writer key status part) number h = absurd h
--- ends of writes and resizes tell other events
+-- an end of a write tells another event
 asks_round (requests.Done write status) number h = absurd cc
-asks_round (requests.Resize pool min) number h = absurd h
 -- a start of a round is of this one
 asks_round (requests.NextRound round) number h = let a : round ≡ number = cc in ap requests.NextRound a
--- looks and rests tell none
-asks_round requests.LookRound number h = absurd h
-asks_round requests.LookLeft number h = absurd h
-asks_round requests.Rest number h = absurd h
+-- all others tell other events, or none
+asks_round _ number h = absurd h
 
 -- all other requests keep statuses and the round
 pub tally_stays : (ledger : ℕ → LedgerId) (old new : Objects) (request : Request) (reply : Reply) (what : What) → EventSays request what → IsOther what → Serves ledger old request reply new

@@ -12,7 +12,7 @@ use Rattle.bio_records.specs.Items.{Item}
 use Rattle.bio_books.specs.declared.node.Role.{Role}
 use Rattle.bio_books.specs.declared.node.Role.TheVariants as role
 use Rattle.bio_books.specs.Books.{Node, BookState, node_at, with_node, top_node, child_node, master_node, leg_node, keeping, raised, kept_with, first_failing}
-use Rattle.bio_books.specs.Links.{Made, NoRoom, Stray, IsVacant, ChainsAt, MastersAt, LegsAt}
+use Rattle.bio_books.specs.Links.{Made, Stray, IsVacant, ChainsAt, MastersAt, LegsAt}
 use Rattle.bio_books.specs.Drops.{DropOutcome, DropsAt}
 use Rattle.bio_books.specs.Drops as end
 use Rattle.run_machine.specs.declared.event.Event.{Event}
@@ -202,49 +202,31 @@ module _ (ledger : ℕ → LedgerId) (old new : Objects) (w k : ℕ) (ends : Lis
 
   -- what is no event of a book tells no node of an end
   pub served_keeps : (request : Request) (reply : Reply) (what : What) → what_of request reply ≡ Some what → Serves ledger old request reply new → Keeps (what_of request reply)
-  -- takes: books stay as they are; a miss of a take that waits, with no entry used up, is no event
+  -- takes: books stay as they are
   served_keeps (requests.TakeBio set true) (requests.HadBio from bio) what tells serves = books_stay (ap (λ (o : Objects). o.book) (one_object_changes ledger old new (requests.TakeBio set true) (requests.HadBio from bio) serves))
   served_keeps (requests.TakeBio set true) (requests.Missed true) what tells serves = books_stay (ap (λ (o : Objects). o.book) (one_object_changes ledger old new (requests.TakeBio set true) (requests.Missed true) serves))
-  served_keeps (requests.TakeBio set true) (requests.Missed false) what tells serves = none_told what tells
   served_keeps (requests.TakeBio set false) (requests.HadBio from bio) what tells serves = books_stay (ap (λ (o : Objects). o.book) (one_object_changes ledger old new (requests.TakeBio set false) (requests.HadBio from bio) serves))
   served_keeps (requests.TakeBio set false) (requests.Missed used) what tells serves = books_stay (ap (λ (o : Objects). o.book) (one_object_changes ledger old new (requests.TakeBio set false) (requests.Missed used) serves))
-  served_keeps (requests.TakeBio set waits) reply what tells serves = none_told what tells
   served_keeps requests.TakeVec (requests.HadVec from vector) what tells serves = books_stay (ap (λ (o : Objects). o.book) (one_object_changes ledger old new requests.TakeVec (requests.HadVec from vector) serves))
   served_keeps requests.TakeVec (requests.Missed true) what tells serves = books_stay (ap (λ (o : Objects). o.book) (one_object_changes ledger old new requests.TakeVec (requests.Missed true) serves))
-  served_keeps requests.TakeVec (requests.Missed false) what tells serves = none_told what tells
-  served_keeps requests.TakeVec reply what tells serves = none_told what tells
   served_keeps (requests.TakeSlip dev) (requests.HadSlip from slip) what tells serves = books_stay (ap (λ (o : Objects). o.book) (one_object_changes ledger old new (requests.TakeSlip dev) (requests.HadSlip from slip) serves))
   served_keeps (requests.TakeSlip dev) (requests.Missed true) what tells serves = books_stay (ap (λ (o : Objects). o.book) (one_object_changes ledger old new (requests.TakeSlip dev) (requests.Missed true) serves))
-  served_keeps (requests.TakeSlip dev) (requests.Missed false) what tells serves = none_told what tells
-  served_keeps (requests.TakeSlip dev) reply what tells serves = none_told what tells
   -- gives: books stay as they are
   served_keeps (requests.GiveBio bio) requests.Did what tells serves = books_stay (ap (λ (o : Objects). o.book) (one_object_changes ledger old new (requests.GiveBio bio) requests.Did serves))
-  served_keeps (requests.GiveBio bio) reply what tells serves = none_told what tells
   served_keeps (requests.GiveVec vector) requests.Did what tells serves = books_stay (ap (λ (o : Objects). o.book) (one_object_changes ledger old new (requests.GiveVec vector) requests.Did serves))
-  served_keeps (requests.GiveVec vector) reply what tells serves = none_told what tells
   served_keeps (requests.GiveSlip slip) requests.Did what tells serves = books_stay (ap (λ (o : Objects). o.book) (one_object_changes ledger old new (requests.GiveSlip slip) requests.Did serves))
-  served_keeps (requests.GiveSlip slip) reply what tells serves = none_told what tells
   -- lists of rescuers: books stay as they are
   served_keeps (requests.Punt dev moved) requests.Did what tells serves = books_stay (ap (λ (o : Objects). o.book) (one_object_changes ledger old new (requests.Punt dev moved) requests.Did serves))
-  served_keeps (requests.Punt dev moved) reply what tells serves = none_told what tells
   served_keeps (requests.Pop dev) (requests.Popped bio) what tells serves = books_stay (ap (λ (o : Objects). o.book) (one_object_changes ledger old new (requests.Pop dev) (requests.Popped bio) serves))
-  served_keeps (requests.Pop dev) reply what tells serves = none_told what tells
   -- disks: books stay as they are
   served_keeps (requests.Push bio) requests.Did what tells serves = books_stay (ap (λ (o : Objects). o.book) (one_object_changes ledger old new (requests.Push bio) requests.Did serves))
-  served_keeps (requests.Push bio) reply what tells serves = none_told what tells
   served_keeps (requests.Complete disk) (requests.Completed index bio status) what tells serves = books_stay (ap (λ (o : Objects). o.book) (one_object_changes ledger old new (requests.Complete disk) (requests.Completed index bio status) serves))
-  served_keeps (requests.Complete disk) reply what tells serves = none_told what tells
-  -- books: a node is opened, or told of an end; one that is refused is no event
+  -- books: a node is opened, or told of an end
   served_keeps (requests.Link writer opening) (requests.LinkedTo (Made key)) what tells serves = links writer opening key serves.0 serves.1
-  served_keeps (requests.Link writer opening) (requests.LinkedTo (NoRoom back)) what tells serves = none_told what tells
-  served_keeps (requests.Link writer opening) (requests.LinkedTo (Stray back)) what tells serves = none_told what tells
-  served_keeps (requests.Link writer opening) reply what tells serves = none_told what tells
   served_keeps (requests.Drop writer key status part) (requests.DroppedTo ended) what tells serves =
       told_drop writer key status part ended (node_at (old.book writer) key) what refl tells serves.0 serves.1
-  served_keeps (requests.Drop writer key status part) reply what tells serves = none_told what tells
   -- ends of writes: books stay as they are
   served_keeps (requests.Done write status) requests.Did what tells serves = books_stay (ap (λ (o : Objects). o.book) (one_object_changes ledger old new (requests.Done write status) requests.Did serves))
-  served_keeps (requests.Done write status) reply what tells serves = none_told what tells
   -- resizes: books stay as they are, whether one is an event or not
   served_keeps (requests.Resize pool min) (requests.OutIs out) what tells serves = λ held.
       subst (λ told. KeepsAt told (node_at (new.book w) k)) (sym (by_test (out == 0)))
@@ -253,14 +235,10 @@ module _ (ledger : ℕ → LedgerId) (old new : Objects) (w k : ℕ) (ends : Lis
       by_test : (v : Bool) → ends_by w k (resize_of v pool min) ends ≡ ends
       by_test true = refl
       by_test false = refl
-  served_keeps (requests.Resize pool min) reply what tells serves = none_told what tells
   -- starts of rounds: books stay as they are
   served_keeps (requests.NextRound round) requests.Did what tells serves = books_stay (ap (λ (o : Objects). o.book) (one_object_changes ledger old new (requests.NextRound round) requests.Did serves))
-  served_keeps (requests.NextRound round) reply what tells serves = none_told what tells
-  -- looks and rests are no events
-  served_keeps requests.LookRound reply what tells serves = none_told what tells
-  served_keeps requests.LookLeft reply what tells serves = none_told what tells
-  served_keeps requests.Rest reply what tells serves = none_told what tells
+  -- all other answers, and all to looks and rests, are no events
+  served_keeps _ _ what tells serves = none_told what tells
 
 -- so does each step, and each run
 step_keeps_ends : (scene : Scene) (old new : State) (place : ℕ) (event : Event) (w k : ℕ) (ends : List Status) → Steps scene old place event new → KeepsAt ends (node_at (old.objects.book w) k)

@@ -94,21 +94,13 @@ module _ (scene : Scene) (s : State) (g : DeviceGeometry scene.setup) (n : Needs
       omega (arith, b, sum_by-cons ((room_worth scene.setup w worth).bio (Lined 32)) filled_item [], all)
 
   pub spends : (w : ℕ) (worth : ℕ → ℕ) (m : Move) → Can scene s m → Spends w worth m
-  -- takes, misses, punts, pops, pushes, completions and links of writes
-  spends w worth (moves.TakesFirst place writer todo later move) c = omega arith
-  spends w worth (moves.TakesVector place writer todo later item move) c = omega arith
-  spends w worth (moves.TakesSub place x doing lists dev waits move) c = omega arith
-  spends w worth (moves.TakesSlip place x bio lists move) c = omega arith
-  spends w worth (moves.MissesOne place x number used) c = omega arith
-  spends w worth (moves.MissesTry place x doing lists dev used) c = omega arith
-  spends w worth (moves.Punts place x doing lists dev) c = omega arith
+  -- pops, pushes and links of writes
   spends w worth (moves.Pops place dev bio bios) c =
       let r : Each (IsOwn scene.setup dev.0 dev.0) (bio ∷ bios) = subst (Each (IsOwn scene.setup dev.0 dev.0)) c.3 (a.rescued dev.0) in
       omega (arith, settled_there scene.setup (room_worth scene.setup w worth) (lands w worth) dev.0 (bio ∷ []) (r.0.0.0, tt), sum_by-cons ((room_worth scene.setup w worth).bio (Lined dev.0)) bio [])
   spends w worth (moves.Pushes place x bio lists) c =
       let d = placed_at scene.setup s a place x (Drives bio ToPush) lists c.1 c.2 in
       omega (arith, goes_there scene.setup (room_worth scene.setup w worth) (lands w worth) (limit_of x) bio.bio.dev lists (none_there scene.setup (limit_of x) lists d.0) (all_there scene.setup (limit_of x) lists.list1 d.1.1))
-  spends w worth (moves.Completed place disk index bio status new) c = omega arith
   spends w worth (moves.Begins place writer todo later item vector key) c =
       let t : TaskPlaced scene.setup (Writer writer (todo ∷ later) (gathered_of item vector) rests) = subst (TaskPlaced scene.setup) c.1 (a.tasks place) in
       begins w worth place writer todo later item vector key t.0.0
@@ -153,13 +145,8 @@ module _ (scene : Scene) (s : State) (g : DeviceGeometry scene.setup) (n : Needs
       leg_writer bio hand leg key (Leaf number sectors) lt = absurd (omega (arith, lt))
       leg_writer bio hand leg key (Split number kind sizes members) lt = absurd (omega (arith, lt))
       leg_writer bio hand leg key (Mirrored number sizes members) lt = refl
-  -- drops that leave a node open, drops that close a node, gives, ends of writes, resizes and rounds
-  spends w worth (moves.Told place disk carried writer key status part node) c = omega arith
-  spends w worth (moves.Closes place disk carried writer key status part node) c = omega arith
-  spends w worth (moves.Gives place disk writer number closed held) c = omega arith
-  spends w worth (moves.Ends place disk writer closed) c = omega arith
-  spends w worth (moves.Resized place pool min later duties) c = omega arith
-  spends w worth (moves.Started place round later duties) c = omega arith
+  -- all others: no node is opened, and none more is to be
+  spends w worth _ c = omega arith
 
   places : (m : Move) → Can scene s m → ((w : ℕ) → length (s.objects.book w).nodes ≡ scene.setup.places w) → (w : ℕ) → length ((after scene s m).objects.book w).nodes ≡ scene.setup.places w
   -- links of writes: one place of the book changes

@@ -16,7 +16,7 @@ use Rattle.bio_books.specs.Links.{HasNoVacant, Linked, Made, NoRoom, Stray, Chai
 use Rattle.bio_books.specs.Drops.{DropOutcome, DropsAt}
 use Rattle.bio_books.specs.Drops as end
 use Rattle.run_machine.specs.Scene.{Scene, tree_at}
-use Rattle.run_machine.specs.Submissions.{Takes, Punts, Links, ToPush, ToCut, ToRecord, ToMaster, Doing, Rests, Drives, Copies, Breaks, Submission, submission_request}
+use Rattle.run_machine.specs.Submissions.{Links, ToCut, ToMaster, Doing, Rests, Drives, Copies, Breaks, Submission, submission_request}
 use Rattle.run_machine.specs.Requests as requests
 use Rattle.run_machine.specs.Requests.{Request, Reply, Opening}
 use Rattle.run_machine.specs.Tasks.{TaskState, Writer, Rescuer, Completer, Keeper, Keeping, Keeps, Stops, Resizes, Starts, Todo, Gathered, NoBio, HasBio, HasBoth, Carried, Empty, Brings, Carries, Fails, request, with_bio, needs_vector}
@@ -134,23 +134,7 @@ module _ (ledger : ℕ → LedgerId) (old : Objects) (new : Objects) where
   -- a link
   linked (requests.Link writer opening) answer ready h = opens writer opening answer ready h
   -- nothing else is answered so
-  linked (requests.TakeBio set waits) answer ready h = absurd h
-  linked requests.TakeVec answer ready h = absurd h
-  linked (requests.TakeSlip dev) answer ready h = absurd h
-  linked (requests.GiveBio bio) answer ready h = absurd h
-  linked (requests.GiveVec vector) answer ready h = absurd h
-  linked (requests.GiveSlip slip) answer ready h = absurd h
-  linked (requests.Punt dev moved) answer ready h = absurd h
-  linked (requests.Pop dev) answer ready h = absurd h
-  linked (requests.Push bio) answer ready h = absurd h
-  linked (requests.Complete disk) answer ready h = absurd h
-  linked (requests.Drop writer node status part) answer ready h = absurd h
-  linked (requests.Done write status) answer ready h = absurd h
-  linked (requests.Resize pool min) answer ready h = absurd h
-  linked (requests.NextRound round) answer ready h = absurd h
-  linked requests.LookRound answer ready h = absurd h
-  linked requests.LookLeft answer ready h = absurd h
-  linked requests.Rest answer ready h = absurd h
+  linked _ answer ready h = absurd h
 
   dropped : (request : Request) (ended : DropOutcome) → IsReady old request → Serves ledger old request (requests.DroppedTo ended) new → is_refusal (requests.DroppedTo ended) ≡ false
   -- a drop
@@ -158,41 +142,15 @@ module _ (ledger : ℕ → LedgerId) (old : Objects) (new : Objects) where
       drop_made (old.book writer) (new.book writer) node status part ended ready.node
       (subst (λ found. DropsAt (old.book writer) node found status part ended (new.book writer)) ready.is h.0)
   -- nothing else is answered so
-  dropped (requests.Link writer opening) ended ready h = absurd h
-  dropped (requests.TakeBio set waits) ended ready h = absurd h
-  dropped requests.TakeVec ended ready h = absurd h
-  dropped (requests.TakeSlip dev) ended ready h = absurd h
-  dropped (requests.GiveBio bio) ended ready h = absurd h
-  dropped (requests.GiveVec vector) ended ready h = absurd h
-  dropped (requests.GiveSlip slip) ended ready h = absurd h
-  dropped (requests.Punt dev moved) ended ready h = absurd h
-  dropped (requests.Pop dev) ended ready h = absurd h
-  dropped (requests.Push bio) ended ready h = absurd h
-  dropped (requests.Complete disk) ended ready h = absurd h
-  dropped (requests.Done write status) ended ready h = absurd h
-  dropped (requests.Resize pool min) ended ready h = absurd h
-  dropped (requests.NextRound round) ended ready h = absurd h
-  dropped requests.LookRound ended ready h = absurd h
-  dropped requests.LookLeft ended ready h = absurd h
-  dropped requests.Rest ended ready h = absurd h
+  dropped _ ended ready h = absurd h
 
   pub not_refused : (request : Request) (reply : Reply) → IsReady old request → Serves ledger old request reply new → is_refusal reply ≡ false
   -- replies that may refuse
   not_refused request (requests.LinkedTo answer) ready h = linked request answer ready h
   not_refused request (requests.DroppedTo ended) ready h = dropped request ended ready h
   not_refused request requests.Spent ready h = absurd (no_spent request h)
-  -- replies that never do
-  not_refused request (requests.HadBio got bio) ready h = refl
-  not_refused request (requests.HadVec got vector) ready h = refl
-  not_refused request (requests.HadSlip got slip) ready h = refl
-  not_refused request (requests.Missed used) ready h = refl
-  not_refused request requests.Did ready h = refl
-  not_refused request (requests.Popped bio) ready h = refl
-  not_refused request (requests.Completed index bio status) ready h = refl
-  not_refused request (requests.OutIs out) ready h = refl
-  not_refused request (requests.Present round) ready h = refl
-  not_refused request (requests.LeftOver count) ready h = refl
-  not_refused request requests.Nothing ready h = refl
+  -- all others never do
+  not_refused request _ ready h = refl
 
 own_few : (node : Option Node) → own_of node ≤ 1
 own_few None = omega arith
@@ -240,11 +198,7 @@ module _ (scene : Scene) (s : State) (n : Needs scene.setup) (small : IsSmall sc
 
   -- a submission
   ready_submission : (x : TaskState) (doing : Doing) (lists : TaskLists) → s.task place ≡ x → HasSubmission x doing lists → IsReady s.objects (submission_request scene.setup doing lists)
-  ready_submission x Rests lists is h = tt
-  ready_submission x (Breaks breach kept) lists is h = tt
-  ready_submission x (Drives bio ToPush) lists is h = tt
-  ready_submission x (Drives bio (ToCut (Takes waits))) lists is h = tt
-  ready_submission x (Drives bio (ToCut Punts)) lists is h = tt
+  -- links of pieces: the book has a vacant place, and the node above is open
   ready_submission x (Drives bio (ToCut (Links hand))) lists is h =
       let doing : Doing = Drives bio (ToCut (Links hand)) in
       let writer = bio.bio.writer in
@@ -255,7 +209,7 @@ module _ (scene : Scene) (s : State) (n : Needs scene.setup) (small : IsSmall sc
       let names_it : one writer writer * one key key ≡ 1 = ap (λ k. k * one key key) (one-same writer) ∙ (ap (λ k. 1 * k) (one-same key)) in
       let stands = is_open x writer key is (omega (arith, names_it, submission_part (references scene.setup writer key) place x doing lists h)) in
       (has_vacant scene s r place x writer here is (in_books writer key stands) (omega (arith, need, all, submission_part (room scene.setup writer) place x doing lists h)), stands)
-  ready_submission x (Drives bio ToRecord) lists is h = tt
+  -- links of masters: likewise
   ready_submission x (Drives bio (ToMaster slip)) lists is h =
       let doing : Doing = Drives bio (ToMaster slip) in
       let writer = bio.bio.writer in
@@ -267,8 +221,7 @@ module _ (scene : Scene) (s : State) (n : Needs scene.setup) (small : IsSmall sc
       let names_it : one writer writer * one key key ≡ 1 = ap (λ k. k * one key key) (one-same writer) ∙ (ap (λ k. 1 * k) (one-same key)) in
       let stands = is_open x writer key is (omega (arith, names_it, submission_part (references scene.setup writer key) place x doing lists h)) in
       (has_vacant scene s r place x writer here is (in_books writer key stands) (omega (arith, need, all, submission_part (room scene.setup writer) place x doing lists h)), stands)
-  ready_submission x (Copies bio master leg (Takes waits)) lists is h = tt
-  ready_submission x (Copies bio master leg Punts) lists is h = tt
+  -- links of legs: likewise, and the node above is the master
   ready_submission x (Copies bio master leg (Links hand)) lists is h =
       let doing : Doing = Copies bio master leg (Links hand) in
       let writer = bio.writer in
@@ -279,6 +232,8 @@ module _ (scene : Scene) (s : State) (n : Needs scene.setup) (small : IsSmall sc
       let refers : one writer writer * one master master * left ≡ left = ap (λ k. k * one master master * left) (one-same writer) ∙ (ap (λ k. 1 * k * left) (one-same master) ∙ omega arith) in
       let stands = is_open x writer master is (omega (arith, refers, lt, submission_part (references scene.setup writer master) place x doing lists h)) in
       (has_vacant scene s r place x writer here is (in_books writer master stands) (omega (arith, few, lt, all, submission_part (room scene.setup writer) place x doing lists h)), stands)
+  -- no other asks a book
+  ready_submission x _ lists is h = tt
 
   -- a writer that has still to begin a write
   begins : (number : ℕ) (todo : Todo) (later : List Todo) (taken : Gathered) (submission : Submission) → s.task place ≡ Writer number (todo ∷ later) taken submission → number < scene.books

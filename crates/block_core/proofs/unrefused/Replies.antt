@@ -31,65 +31,50 @@ module _ (ledger : ℕ → LedgerId) (old new : Objects) where
   told_or_idle (requests.TakeBio set true) (requests.HadBio got bio) ready fair h = inl (_, refl)
   told_or_idle (requests.TakeBio set true) (requests.Missed true) ready fair h = inl (_, refl)
   told_or_idle (requests.TakeBio set true) (requests.Missed false) ready fair h = inr (tt, same_pool old new (pool_number (bios_of set)) h.0.1 h.1)
-  told_or_idle (requests.TakeBio set true) _ ready fair h = absurd h
   told_or_idle (requests.TakeBio set false) (requests.HadBio got bio) ready fair h = inl (_, refl)
   told_or_idle (requests.TakeBio set false) (requests.Missed used) ready fair h = inl (_, refl)
-  told_or_idle (requests.TakeBio set false) _ ready fair h = absurd h
   told_or_idle requests.TakeVec (requests.HadVec got vector) ready fair h = inl (_, refl)
   told_or_idle requests.TakeVec (requests.Missed true) ready fair h = inl (_, refl)
   told_or_idle requests.TakeVec (requests.Missed false) ready fair h = inr (tt, same_pool old new (pool_number FsVecs) h.0.1 h.1)
-  told_or_idle requests.TakeVec _ ready fair h = absurd h
   told_or_idle (requests.TakeSlip dev) (requests.HadSlip got slip) ready fair h = inl (_, refl)
   told_or_idle (requests.TakeSlip dev) (requests.Missed true) ready fair h = inl (_, refl)
   told_or_idle (requests.TakeSlip dev) (requests.Missed false) ready fair h = inr (tt, same_pool old new (pool_number (Records dev)) h.0.1 h.1)
-  told_or_idle (requests.TakeSlip dev) _ ready fair h = absurd h
   -- gives: an event
   told_or_idle (requests.GiveBio bio) requests.Did ready fair h = inl (_, refl)
-  told_or_idle (requests.GiveBio bio) _ ready fair h = absurd h
   told_or_idle (requests.GiveVec vector) requests.Did ready fair h = inl (_, refl)
-  told_or_idle (requests.GiveVec vector) _ ready fair h = absurd h
   told_or_idle (requests.GiveSlip slip) requests.Did ready fair h = inl (_, refl)
-  told_or_idle (requests.GiveSlip slip) _ ready fair h = absurd h
   -- lists of rescuers: an event, but for a pop of an empty list
   told_or_idle (requests.Punt dev moved) requests.Did ready fair h = inl (_, refl)
-  told_or_idle (requests.Punt dev moved) _ ready fair h = absurd h
   told_or_idle (requests.Pop dev) (requests.Popped bio) ready fair h = inl (_, refl)
   told_or_idle (requests.Pop dev) requests.Nothing ready fair h = inr (tt, h.1)
-  told_or_idle (requests.Pop dev) _ ready fair h = absurd h
   -- disks: an event, but for a completion where no bio waits
   told_or_idle (requests.Push bio) requests.Did ready fair h = inl (_, refl)
-  told_or_idle (requests.Push bio) _ ready fair h = absurd h
   told_or_idle (requests.Complete disk) (requests.Completed index bio status) ready fair h = inl (_, refl)
   told_or_idle (requests.Complete disk) requests.Nothing ready fair h = inr (tt, h.1)
-  told_or_idle (requests.Complete disk) _ ready fair h = absurd h
   -- books: an event, since none is refused
   told_or_idle (requests.Link writer opening) (requests.LinkedTo (Made place)) ready fair h = inl (_, refl)
   told_or_idle (requests.Link writer opening) (requests.LinkedTo (NoRoom back)) ready fair h =
       absurd (true≢false (not_refused ledger old new (requests.Link writer opening) (requests.LinkedTo (NoRoom back)) ready h))
   told_or_idle (requests.Link writer opening) (requests.LinkedTo (Stray back)) ready fair h =
       absurd (true≢false (not_refused ledger old new (requests.Link writer opening) (requests.LinkedTo (Stray back)) ready h))
-  told_or_idle (requests.Link writer opening) _ ready fair h = absurd h
   told_or_idle (requests.Drop writer node status part) (requests.DroppedTo end.Left) ready fair h = inl (_, refl)
   told_or_idle (requests.Drop writer node status part) (requests.DroppedTo (end.Up closed)) ready fair h = inl (_, refl)
   told_or_idle (requests.Drop writer node status part) (requests.DroppedTo (end.Top closed)) ready fair h = inl (_, refl)
   told_or_idle (requests.Drop writer node status part) (requests.DroppedTo (end.Stray back)) ready fair h =
       absurd (true≢false (not_refused ledger old new (requests.Drop writer node status part) (requests.DroppedTo (end.Stray back)) ready h))
-  told_or_idle (requests.Drop writer node status part) _ ready fair h = absurd h
   -- ends of writes: an event
   told_or_idle (requests.Done write status) requests.Did ready fair h = inl (_, refl)
-  told_or_idle (requests.Done write status) _ ready fair h = absurd h
   -- resizes: an event, since nothing is out
   told_or_idle (requests.Resize pool min) (requests.OutIs out) ready fair h =
       let none : out ≡ 0 = h.0 ∙ fair in
       inl (_, ap (λ b. resize_of b pool min) (eq-eqb out 0 none))
-  told_or_idle (requests.Resize pool min) _ ready fair h = absurd h
   -- starts of rounds: an event
   told_or_idle (requests.NextRound round) requests.Did ready fair h = inl (_, refl)
-  told_or_idle (requests.NextRound round) _ ready fair h = absurd h
-  -- looks are not asked for, and rests are not answered
+  -- looks are not asked for
   told_or_idle requests.LookRound reply ready fair h = absurd fair
   told_or_idle requests.LookLeft reply ready fair h = absurd fair
-  told_or_idle requests.Rest reply ready fair h = absurd h
+  -- no request has another answer, and rests have none
+  told_or_idle _ _ ready fair h = absurd h
 
 pub event_or_nothing : (scene : Scene) (s : State) (place : ℕ) → place < scene.tasks → IsLet scene.ledger s.objects (s.task place) (look_of (s.task place))
     → IsReady s.objects (request scene.setup (s.task place))
