@@ -130,11 +130,14 @@ module _ (scene : Scene) (s : State) (i : Invariant scene s) (level : ℕ → �
   resting q limit submission at = rw (at.0, at.1) refl
 
   task_home : (q place : ℕ) (x : TaskState) → place < scene.tasks → s.task place ≡ x → TaskFits scene x → task_weight (elements_of_pool q) place x ≡ 0
+  -- writers: none has a submission or a bio in its hand
   task_home q place (Writer number todos NoBio submission) here is fits =
       omega (arith, resting q 32 submission (no_submission place (Writer number todos NoBio submission) submission.doing submission.lists here is refl fits.1))
   task_home q place (Writer number todos (HasBio item) submission) here is fits = absurd (let same = none.hands place number todos (HasBio item) submission here is in cc)
   task_home q place (Writer number todos (HasBoth item vector) submission) here is fits = absurd (let same = none.hands place number todos (HasBoth item vector) submission here is in cc)
+  -- rescuers: none has a submission
   task_home q place (Rescuer dev submission) here is fits = resting q dev.0 submission (no_submission place (Rescuer dev submission) submission.doing submission.lists here is refl fits.1)
+  -- completers: what one brings or carries would refer to a node, and none is open
   task_home q place (Completer disk Empty) here is fits = refl
   task_home q place (Completer disk (Brings bio status)) here is fits =
       absurd (omega (
@@ -152,6 +155,7 @@ module _ (scene : Scene) (s : State) (i : Invariant scene s) (level : ℕ → �
           ap (under writer parent writer) same ∙ (ap (λ n. n * one parent parent) (one-same writer) ∙ ap (λ n. 1 * n) (one-same parent)) in
           omega (arith, refers, no_ref writer parent, task_part scene (references scene.setup writer parent) s place (Completer disk (Carries writer closed)) here is)
   task_home q place (Completer disk (Fails breach kept)) here is fits = refl
+  -- the keeper holds no element
   task_home q place (Keeper keeping) here is fits = refl
 
   -- no bio waits for a rescuer, or at a disk

@@ -80,11 +80,14 @@ module _ (scene : Scene) (s : State) (n : Needs scene.setup) (k : Invariant scen
   -- a submission that does not stand still
   pub submission_free : (place : ℕ) → place < scene.tasks → (x : TaskState) → s.task place ≡ x → (doing : Doing) (lists : TaskLists) → HasSubmission x doing lists → IsBusy doing
       → DoingFits setup doing lists → DoingPlaced setup (limit_of x) doing lists → HasFree scene s ⊎ StillDoing s doing
+  -- one that rests has nothing to do, and none has broken off
   submission_free place here x at Rests lists h busy fits d = absurd busy
   submission_free place here x at (Breaks breach kept) lists h busy fits d = absurd fits
+  -- pushes: a disk takes each bio
   submission_free place here x at (Drives bio ToPush) lists h busy fits d =
       inl (free_submission scene s place here x at (Drives bio ToPush) lists h busy requests.Did (what.Push bio.bio.dev bio.bio.range.start bio.bio.range.len bio.pad.leg) refl refl
       (record s.objects { disk = upd s.objects.disk bio.bio.dev.0 (pushed bio (s.objects.disk bio.bio.dev.0)) }) refl)
+  -- pieces: one that takes goes on or waits, one that punts goes on, and one that links has a vacant place
   submission_free place here x at (Drives bio (ToCut (Takes waits))) lists h busy fits d =
       want_free place here x at (Drives bio (ToCut (Takes waits))) lists h busy bio.bio.dev waits refl
   submission_free place here x at (Drives bio (ToCut WantsPunt)) lists h busy fits d =
@@ -101,6 +104,7 @@ module _ (scene : Scene) (s : State) (n : Needs scene.setup) (k : Invariant scen
       let opened : ChainsAt (s.objects.book w) bio.bio.node (Some o.0) (Made v.0) book = (numbers.ends w bio.bio.node o.0 o.1, v.1, refl) in
       inl (free_submission scene s place here x at doing lists h busy (requests.LinkedTo (Made v.0)) _ refl refl (with_book s.objects w book)
       (link_serves scene s w (requests.Chain bio.bio.node) (Made v.0) book (subst (λ found. ChainsAt (s.objects.book w) bio.bio.node found (Made v.0) book) (sym o.1) opened)))
+  -- records: one is spare, or the submission waits
   submission_free place here x at (Drives bio ToRecord) lists h busy fits d = by_spare (zero_or (spares s (2 * bio.bio.dev.0 + 1)))
     where
       by_spare : (spares s (2 * bio.bio.dev.0 + 1) ≡ 0) ⊎ (1 ≤ spares s (2 * bio.bio.dev.0 + 1)) → HasFree scene s ⊎ StillDoing s (Drives bio ToRecord)
@@ -108,6 +112,7 @@ module _ (scene : Scene) (s : State) (n : Needs scene.setup) (k : Invariant scen
       by_spare (inr some) =
           inl (free_submission scene s place here x at (Drives bio ToRecord) lists h busy (requests.HadSlip got.Spare (clear_slip (scene.ledger (2 * bio.bio.dev.0 + 1)))) _ refl refl
           (with_pool s.objects (2 * bio.bio.dev.0 + 1) takes_spare) (((omega (arith, some), numbers.outs (2 * bio.bio.dev.0 + 1)), refl), refl))
+  -- links of masters: the book has a vacant place
   submission_free place here x at (Drives bio (ToMaster slip)) lists h busy fits d =
       let doing : Doing = Drives bio (ToMaster slip) in
       let w = bio.bio.writer in
@@ -122,6 +127,7 @@ module _ (scene : Scene) (s : State) (n : Needs scene.setup) (k : Invariant scen
       inl (free_submission scene s place here x at doing lists h busy (requests.LinkedTo (Made v.0)) _ refl refl (with_book s.objects w book)
       (link_serves scene s w (requests.Master bio.bio.node bio slip legs) (Made v.0) book
       (subst (λ found. MastersAt (s.objects.book w) bio.bio.node found bio slip legs (Made v.0) book) (sym o.1) opened)))
+  -- legs: as pieces
   submission_free place here x at (Copies bio master leg (Takes waits)) lists h busy fits d =
       want_free place here x at (Copies bio master leg (Takes waits)) lists h busy bio.dev waits refl
   submission_free place here x at (Copies bio master leg WantsPunt) lists h busy fits d =

@@ -84,6 +84,7 @@ module _ (scene : Scene) (s : State) (level : ℕ → ℕ → ℕ) (known : Wait
 
   task_found : (u : Weight) → ((n : ℕ) (todos : List Todo) (taken : Gathered) → u.todo n todos taken ≡ 0) → (place : ℕ) (x : TaskState) → TaskFits scene x → TaskPlaced setup x → TaskWaits setup x → IsStill s x
       → 1 ≤ task_weight u place x → task_weight off place x ≡ 0 → Has u
+  -- writers: one without a bio has its submission, one with a bio waits for a vector, and one with both does not stand still
   task_found u todos place (Writer number todo NoBio submission) fits t w still some none =
       let z = todos number todo NoBio in
       inl (32, submission_any u 32 submission fits.1 t.1 w (λ busy. still_submission s todo NoBio submission.doing busy still) (omega (arith, some, z)) (omega (arith, none)))
@@ -96,12 +97,15 @@ module _ (scene : Scene) (s : State) (level : ℕ → ℕ → ℕ) (known : Wait
   task_found u todos place (Writer number todo (HasBoth item vector) submission) fits t w still some none =
       let at_rest : submission ≡ rests = fits.2 in
       absurd (subst (λ (l : Submission). StillWriter s todo (HasBoth item vector) l.doing) at_rest still)
+  -- rescuers: what weighs is the submission
   task_found u todos place (Rescuer dev submission) fits t w still some none =
       inl (dev.0, submission_any u dev.0 submission fits.1 t w (λ busy. still_rescuer s dev.0 submission.doing busy still) some none)
+  -- completers: one that is empty has no weight, and no other stands still
   task_found u todos place (Completer disk Empty) fits t w still some none = absurd (omega (arith, some))
   task_found u todos place (Completer disk (Brings bio status)) fits t w still some none = absurd still
   task_found u todos place (Completer disk (Carries writer closed)) fits t w still some none = absurd still
   task_found u todos place (Completer disk (Fails breach kept)) fits t w still some none = absurd still
+  -- the keeper has no weight
   task_found u todos place (Keeper keeping) fits t w still some none = absurd (omega (arith, some))
 
   -- the rescuer of a list that is not empty waits below its set
