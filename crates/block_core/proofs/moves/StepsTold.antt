@@ -3,9 +3,10 @@ use Rattle.std.proofs.Common.{◌≡◌, ℕ, Bool, true, false, Option, None, S
 use Rattle.std.proofs.lemmas.Option.{none-some}
 use Rattle.stack_base.specs.declared.ids.PoolId.{PoolId}
 use Rattle.bio_books.specs.Books.{told}
+use Rattle.run_machine.specs.Maps.{upd}
 use Rattle.run_machine.specs.Scene.{Scene}
-use Rattle.run_machine.specs.Tasks.{TaskState}
-use Rattle.run_machine.specs.Objects.{Objects}
+use Rattle.run_machine.specs.Tasks.{TaskState, request, answered}
+use Rattle.run_machine.specs.Objects.{Objects, Serves}
 use Rattle.run_machine.specs.Runs.{State}
 use Rattle.block_core.specs.Payers.{payer_of, Paid}
 use Rattle.block_core.specs.Payers as paid
@@ -16,7 +17,8 @@ use Rattle.block_core.proofs.moves.PaidKinds.{kind_of}
 use Rattle.run_machine.specs.declared.event.Got.{Got}
 use Rattle.run_machine.specs.declared.event.Got.TheVariants as got
 use Rattle.run_machine.specs.declared.event.What.{What}
-use Rattle.run_machine.specs.Events.{take_of, miss_of}
+use Rattle.run_machine.specs.Events.{what_of, take_of, miss_of}
+use Rattle.run_machine.specs.Requests.{Reply}
 
 pub record IsMove (scene : Scene) (s : State) (place : ℕ) (what : What) (new : State) : Type 0 where
   pub move : Move
@@ -25,6 +27,20 @@ pub record IsMove (scene : Scene) (s : State) (place : ℕ) (what : What) (new :
   pub at : place_of move ≡ place
   pub touches : touch_of what ≡ touch_by move
   pub pays : (was_master : Bool) → paid_as (end_told was_master (s.task place)) what ≡ kind_of was_master move
+
+-- the kind of an end that the task tells next
+abbrev pub its_end : State → ℕ → Bool → Paid
+its_end s place was_master = end_told was_master (s.task place)
+
+-- a step leaves its own task so, and every other as it was
+abbrev pub Goes : State → ℕ → State → TaskState → Type 0
+Goes s place new y = new.task ≡ upd s.task place y
+
+-- a step of a task with this answer is one of the events
+abbrev pub Moved : Scene → State → ℕ → What → State → TaskState → Reply → Type 0
+Moved scene s place what new x reply =
+    what_of (request scene.setup x) reply ≡ Some what → Serves scene.ledger s.objects (request scene.setup x) reply new.objects
+    → Goes s place new (answered scene.setup x reply) → IsMove scene s place what new
 
 -- what is told of a take touches no node
 abbrev pub touch_in : Option What → Touch

@@ -18,8 +18,6 @@ use Rattle.run_machine.specs.Scene.{Setup, Scene, tree_at}
 use Rattle.run_machine.specs.Submissions.{Want, Takes, Punts as WantsPunt, Links, ToPush, ToCut, ToRecord, ToMaster, Doing, Rests, Drives, Copies, Breaks, Submission, legs_of}
 use Rattle.run_machine.specs.Tasks.{TaskState, Writer, Rescuer, Completer, Keeper}
 use Rattle.run_machine.specs.Runs.{State}
-use Rattle.block_core.specs.Paying.{end_told}
-use Rattle.block_core.specs.Payers.{Paid}
 use Rattle.block_core.proofs.moves.Moves.{IsTaking, with_submission, HasSubmission, Wants, with_want}
 use Rattle.block_core.proofs.moves.Moves as moves
 use Rattle.block_core.proofs.sound.Invariant.{Suits, TaskFits, DoingIsIn, IsIn, LedgersAreNumbered, Invariant}
@@ -35,7 +33,7 @@ use Rattle.run_machine.specs.Tasks.{request}
 use Rattle.run_machine.specs.Objects.{Serves}
 use Rattle.block_core.proofs.sound.TaskSubmissions.{submission_fits, IsBusy, wants_busy}
 use Rattle.block_core.proofs.stuck.Idle.{open_in_books}
-use Rattle.block_core.proofs.moves.StepsTold.{IsMove, touch_in, take_passes, paid_in, take_ordinary, take_spare, miss_passes, state_is, used_told, miss_pays}
+use Rattle.block_core.proofs.moves.StepsTold.{IsMove, touch_in, take_passes, paid_in, take_ordinary, take_spare, miss_passes, state_is, used_told, miss_pays, its_end, Goes}
 
 -- what is wanted is of a device of the stack
 wants_in : (setup : Setup) (doing : Doing) (dev : DevId) (want : Want) → Wants doing dev want → DoingIsIn setup doing → dev.0 < setup.count
@@ -97,13 +95,6 @@ asks_submission setup (Completer disk carried) doing lists h busy = absurd h
 asks_submission setup (Keeper keeping) doing lists h busy = absurd h
 
 module _ (scene : Scene) (s : State) (f : LedgersAreNumbered scene) (i : Invariant scene s) (place : ℕ) (here : place < scene.tasks) (what : What) (new : State) where
-  -- the kind of an end that the task tells next
-  abbrev its_end : Bool → Paid
-  its_end was_master = end_told was_master (s.task place)
-
-  abbrev Goes : TaskState → Type 0
-  Goes y = new.task ≡ upd s.task place y
-
   asks_sub : (x : TaskState) (doing : Doing) (lists : TaskLists) (dev : DevId) (waits : Bool) → HasSubmission x doing lists → Wants doing dev (Takes waits) → IsTaking (request scene.setup x)
   asks_sub x doing lists dev waits h wants =
       subst IsTaking (sym (asks_submission scene.setup x doing lists h (wants_busy doing dev (Takes waits) wants))) (asks_sub_in scene.setup doing lists dev waits wants)
@@ -125,15 +116,15 @@ module _ (scene : Scene) (s : State) (f : LedgersAreNumbered scene) (i : Invaria
   takes_sub : (x : TaskState) (doing : Doing) (lists : TaskLists) (dev : DevId) (waits : Bool) → s.task place ≡ x → HasSubmission x doing lists → Wants doing dev (Takes waits)
       → with_want doing (Takes waits) ≡ doing → (reply : Reply) → what_of (requests.TakeBio (Of dev) waits) reply ≡ Some what
       → Serves scene.ledger s.objects (requests.TakeBio (Of dev) waits) reply new.objects
-      → ((from : Got) (hand : Item Pad) → reply ≡ requests.HadBio from hand → Goes (with_submission x (record { doing = with_want doing (Links hand); lists = lists })))
-      → ((used : Bool) → reply ≡ requests.Missed used → Goes (with_submission x (record { doing = with_want doing (after_miss waits); lists = lists }))) → IsMove scene s place what new
+      → ((from : Got) (hand : Item Pad) → reply ≡ requests.HadBio from hand → Goes s place new (with_submission x (record { doing = with_want doing (Links hand); lists = lists })))
+      → ((used : Bool) → reply ≡ requests.Missed used → Goes s place new (with_submission x (record { doing = with_want doing (after_miss waits); lists = lists }))) → IsMove scene s place what new
   -- it has a bio, an ordinary one or a spare
   takes_sub x doing lists dev waits is h wants own (requests.HadBio got.Ordinary hand) told serves had missed =
       let goes2 = had got.Ordinary hand refl ∙ ap (λ item. upd s.task place (with_submission x (record { doing = with_want doing (Links item); lists = lists }))) serves.1 in
-      record { move = moves.TakesSub place x doing lists dev waits takes_ordinary; can = (here, is, h, wants, tt, serves.0.0); is = state_is new _ _ serves.0.1 goes2; at = refl; touches = sym (ap touch_in told) ∙ take_passes waits (Bios dev) got.Ordinary; pays = λ was_master. sym (ap (paid_in (its_end was_master)) told) ∙ take_ordinary (its_end was_master) waits (Bios dev) }
+      record { move = moves.TakesSub place x doing lists dev waits takes_ordinary; can = (here, is, h, wants, tt, serves.0.0); is = state_is new _ _ serves.0.1 goes2; at = refl; touches = sym (ap touch_in told) ∙ take_passes waits (Bios dev) got.Ordinary; pays = λ was_master. sym (ap (paid_in (its_end s place was_master)) told) ∙ take_ordinary (its_end s place was_master) waits (Bios dev) }
   takes_sub x doing lists dev waits is h wants own (requests.HadBio got.Spare hand) told serves had missed =
       let goes2 = had got.Spare hand refl ∙ ap (λ item. upd s.task place (with_submission x (record { doing = with_want doing (Links item); lists = lists }))) serves.1 in
-      record { move = moves.TakesSub place x doing lists dev waits takes_spare; can = (here, is, h, wants, tt, serves.0.0); is = state_is new _ _ serves.0.1 goes2; at = refl; touches = sym (ap touch_in told) ∙ take_passes waits (Bios dev) got.Spare; pays = λ was_master. sym (ap (paid_in (its_end was_master)) told) ∙ take_spare (its_end was_master) waits (Bios dev) }
+      record { move = moves.TakesSub place x doing lists dev waits takes_spare; can = (here, is, h, wants, tt, serves.0.0); is = state_is new _ _ serves.0.1 goes2; at = refl; touches = sym (ap touch_in told) ∙ take_passes waits (Bios dev) got.Spare; pays = λ was_master. sym (ap (paid_in (its_end s place was_master)) told) ∙ take_spare (its_end s place was_master) waits (Bios dev) }
   takes_sub x doing lists dev waits is h wants own (requests.HadBio got.Missed hand) told serves had missed = absurd serves.0
   -- it misses: a take that waits stays, and behind a try the task punts
   takes_sub x doing lists dev true is h wants own (requests.Missed used) told serves had missed =
@@ -151,39 +142,39 @@ module _ (scene : Scene) (s : State) (f : LedgersAreNumbered scene) (i : Invaria
         is = state_is new _ _ serves.1 (missed used refl ∙ ap (upd s.task place) stays);
         at = refl;
         touches = sym (ap touch_in told) ∙ miss_passes true used (Bios dev);
-        pays = λ was_master. miss_pays (its_end was_master) used (Bios dev) what told;
+        pays = λ was_master. miss_pays (its_end s place was_master) used (Bios dev) what told;
       }
   takes_sub x doing lists dev false is h wants own (requests.Missed used) told serves had missed =
-      record { move = moves.MissesTry place x doing lists dev used; can = (here, is, h, wants, serves.0); is = state_is new _ _ serves.1 (missed used refl); at = refl; touches = sym (ap touch_in told) ∙ miss_passes false used (Bios dev); pays = λ was_master. sym (ap (paid_in (its_end was_master)) told) }
+      record { move = moves.MissesTry place x doing lists dev used; can = (here, is, h, wants, serves.0); is = state_is new _ _ serves.1 (missed used refl); at = refl; touches = sym (ap touch_in told) ∙ miss_passes false used (Bios dev); pays = λ was_master. sym (ap (paid_in (its_end s place was_master)) told) }
   takes_sub x doing lists dev waits is h wants own _ told serves had missed = absurd serves
 
   -- the bios of a set go from the lists to its rescuer
   punts : (x : TaskState) (doing : Doing) (lists : TaskLists) (dev : DevId) → s.task place ≡ x → HasSubmission x doing lists → Wants doing dev WantsPunt → dev.0 < scene.setup.count → (reply : Reply)
       → what_of (requests.Punt dev (punted (Of dev) lists)) reply ≡ Some what → Serves scene.ledger s.objects (requests.Punt dev (punted (Of dev) lists)) reply new.objects
-      → (reply ≡ requests.Did → Goes (with_submission x (record { doing = with_want doing (Takes true); lists = unpunted (Of dev) lists }))) → IsMove scene s place what new
+      → (reply ≡ requests.Did → Goes s place new (with_submission x (record { doing = with_want doing (Takes true); lists = unpunted (Of dev) lists }))) → IsMove scene s place what new
   punts x doing lists dev is h wants there requests.Did told serves goes =
-      record { move = moves.Punts place x doing lists dev; can = (here, is, h, wants, there); is = state_is new _ _ serves (goes refl); at = refl; touches = sym (ap touch_in told); pays = λ was_master. sym (ap (paid_in (its_end was_master)) told) }
+      record { move = moves.Punts place x doing lists dev; can = (here, is, h, wants, there); is = state_is new _ _ serves (goes refl); at = refl; touches = sym (ap touch_in told); pays = λ was_master. sym (ap (paid_in (its_end s place was_master)) told) }
   punts x doing lists dev is h wants there _ told serves goes = absurd serves
 
   -- a bio goes to its disk
   pushes : (x : TaskState) (bio : Item Pad) (lists : TaskLists) → s.task place ≡ x → HasSubmission x (Drives bio ToPush) lists → (reply : Reply)
       → what_of (requests.Push bio) reply ≡ Some what → Serves scene.ledger s.objects (requests.Push bio) reply new.objects
-      → Goes (with_submission x (submission_answered scene.setup (Drives bio ToPush) lists reply)) → IsMove scene s place what new
+      → Goes s place new (with_submission x (submission_answered scene.setup (Drives bio ToPush) lists reply)) → IsMove scene s place what new
   pushes x bio lists is h requests.Did told serves goes =
-      record { move = moves.Pushes place x bio lists; can = (here, is, h, there x (Drives bio ToPush) lists is h); is = state_is new _ _ serves goes; at = refl; touches = sym (ap touch_in told); pays = λ was_master. sym (ap (paid_in (its_end was_master)) told) }
+      record { move = moves.Pushes place x bio lists; can = (here, is, h, there x (Drives bio ToPush) lists is h); is = state_is new _ _ serves goes; at = refl; touches = sym (ap touch_in told); pays = λ was_master. sym (ap (paid_in (its_end s place was_master)) told) }
   pushes x bio lists is h _ told serves goes = absurd serves
 
   -- a mirror takes a record
   takes_slip : (x : TaskState) (bio : Item Pad) (lists : TaskLists) → s.task place ≡ x → HasSubmission x (Drives bio ToRecord) lists → (reply : Reply)
       → Serves scene.ledger s.objects (requests.TakeSlip bio.bio.dev) reply new.objects
-      → Goes (with_submission x (submission_answered scene.setup (Drives bio ToRecord) lists reply)) → what_of (requests.TakeSlip bio.bio.dev) reply ≡ Some what → IsMove scene s place what new
+      → Goes s place new (with_submission x (submission_answered scene.setup (Drives bio ToRecord) lists reply)) → what_of (requests.TakeSlip bio.bio.dev) reply ≡ Some what → IsMove scene s place what new
   -- it has a record, an ordinary one or a spare
   takes_slip x bio lists is h (requests.HadSlip got.Ordinary slip) serves goes told =
       let goes2 = goes ∙ ap (λ r. upd s.task place (with_submission x (record { doing = Drives bio (ToMaster r); lists = lists }))) serves.1 in
-      record { move = moves.TakesSlip place x bio lists takes_ordinary; can = (here, is, h, tt, serves.0.0); is = state_is new _ _ serves.0.1 goes2; at = refl; touches = sym (ap touch_in told); pays = λ was_master. sym (ap (paid_in (its_end was_master)) told) }
+      record { move = moves.TakesSlip place x bio lists takes_ordinary; can = (here, is, h, tt, serves.0.0); is = state_is new _ _ serves.0.1 goes2; at = refl; touches = sym (ap touch_in told); pays = λ was_master. sym (ap (paid_in (its_end s place was_master)) told) }
   takes_slip x bio lists is h (requests.HadSlip got.Spare slip) serves goes told =
       let goes2 = goes ∙ ap (λ r. upd s.task place (with_submission x (record { doing = Drives bio (ToMaster r); lists = lists }))) serves.1 in
-      record { move = moves.TakesSlip place x bio lists takes_spare; can = (here, is, h, tt, serves.0.0); is = state_is new _ _ serves.0.1 goes2; at = refl; touches = sym (ap touch_in told); pays = λ was_master. sym (ap (paid_in (its_end was_master)) told) }
+      record { move = moves.TakesSlip place x bio lists takes_spare; can = (here, is, h, tt, serves.0.0); is = state_is new _ _ serves.0.1 goes2; at = refl; touches = sym (ap touch_in told); pays = λ was_master. sym (ap (paid_in (its_end s place was_master)) told) }
   takes_slip x bio lists is h (requests.HadSlip got.Missed slip) serves goes told = absurd serves.0
   -- it misses, and stays
   takes_slip x bio lists is h (requests.Missed used) serves goes told =
@@ -200,7 +191,7 @@ module _ (scene : Scene) (s : State) (f : LedgersAreNumbered scene) (i : Invaria
         is = state_is new _ _ serves.1 (goes ∙ ap (upd s.task place) (same_submission x (Drives bio ToRecord) lists h));
         at = refl;
         touches = sym (ap touch_in told) ∙ miss_passes true used (Records bio.bio.dev);
-        pays = λ was_master. miss_pays (its_end was_master) used (Records bio.bio.dev) what told;
+        pays = λ was_master. miss_pays (its_end s place was_master) used (Records bio.bio.dev) what told;
       }
   takes_slip x bio lists is h _ serves goes told = absurd serves
 
@@ -208,7 +199,7 @@ module _ (scene : Scene) (s : State) (f : LedgersAreNumbered scene) (i : Invaria
   chains : (x : TaskState) (bio : Item Pad) (lists : TaskLists) (hand : Item Pad) → s.task place ≡ x → HasSubmission x (Drives bio (ToCut (Links hand))) lists → TaskFits scene x → (reply : Reply)
       → what_of (requests.Link bio.bio.writer (requests.Chain bio.bio.node)) reply ≡ Some what
       → Serves scene.ledger s.objects (requests.Link bio.bio.writer (requests.Chain bio.bio.node)) reply new.objects
-      → Goes (with_submission x (submission_answered scene.setup (Drives bio (ToCut (Links hand))) lists reply)) → IsMove scene s place what new
+      → Goes s place new (with_submission x (submission_answered scene.setup (Drives bio (ToCut (Links hand))) lists reply)) → IsMove scene s place what new
   chains x bio lists hand is h fits (requests.LinkedTo (Made key)) told serves goes =
       at_node (node_at (s.objects.book bio.bio.writer) bio.bio.node) refl serves.0
     where
@@ -227,7 +218,7 @@ module _ (scene : Scene) (s : State) (f : LedgersAreNumbered scene) (i : Invaria
             is = state_is new _ _ objects goes2;
             at = refl;
             touches = sym (ap touch_in told);
-            pays = λ was_master. sym (ap (paid_in (its_end was_master)) told);
+            pays = λ was_master. sym (ap (paid_in (its_end s place was_master)) told);
           }
   -- a refused node is no event
   chains x bio lists hand is h fits (requests.LinkedTo (NoRoom back)) told serves goes = absurd (none-some what told)
@@ -238,7 +229,7 @@ module _ (scene : Scene) (s : State) (f : LedgersAreNumbered scene) (i : Invaria
   masters : (x : TaskState) (bio : Item Pad) (lists : TaskLists) (slip : SlipItem) → s.task place ≡ x → HasSubmission x (Drives bio (ToMaster slip)) lists → (reply : Reply)
       → what_of (submission_request scene.setup (Drives bio (ToMaster slip)) lists) reply ≡ Some what
       → Serves scene.ledger s.objects (submission_request scene.setup (Drives bio (ToMaster slip)) lists) reply new.objects
-      → Goes (with_submission x (submission_answered scene.setup (Drives bio (ToMaster slip)) lists reply)) → IsMove scene s place what new
+      → Goes s place new (with_submission x (submission_answered scene.setup (Drives bio (ToMaster slip)) lists reply)) → IsMove scene s place what new
   masters x bio lists slip is h (requests.LinkedTo (Made key)) told serves goes =
       at_node (node_at (s.objects.book bio.bio.writer) bio.bio.node) refl serves.0
     where
@@ -252,7 +243,7 @@ module _ (scene : Scene) (s : State) (f : LedgersAreNumbered scene) (i : Invaria
             is = state_is new _ _ (serves.1 ∙ ap (λ b. record s.objects { book = upd s.objects.book bio.bio.writer b }) c.1) goes;
             at = refl;
             touches = sym (ap touch_in told);
-            pays = λ was_master. sym (ap (paid_in (its_end was_master)) told);
+            pays = λ was_master. sym (ap (paid_in (its_end s place was_master)) told);
           }
   -- a refused node is no event
   masters x bio lists slip is h (requests.LinkedTo (NoRoom back)) told serves goes = absurd (none-some what told)
@@ -263,7 +254,7 @@ module _ (scene : Scene) (s : State) (f : LedgersAreNumbered scene) (i : Invaria
   legs : (x : TaskState) (bio : Bio) (master leg : ℕ) (lists : TaskLists) (hand : Item Pad) → s.task place ≡ x → HasSubmission x (Copies bio master leg (Links hand)) lists → (reply : Reply)
       → what_of (requests.Link bio.writer (requests.Leg master)) reply ≡ Some what
       → Serves scene.ledger s.objects (requests.Link bio.writer (requests.Leg master)) reply new.objects
-      → Goes (with_submission x (submission_answered scene.setup (Copies bio master leg (Links hand)) lists reply)) → IsMove scene s place what new
+      → Goes s place new (with_submission x (submission_answered scene.setup (Copies bio master leg (Links hand)) lists reply)) → IsMove scene s place what new
   legs x bio master leg lists hand is h (requests.LinkedTo (Made key)) told serves goes =
       at_node (node_at (s.objects.book bio.writer) master) refl serves.0
     where
@@ -277,7 +268,7 @@ module _ (scene : Scene) (s : State) (f : LedgersAreNumbered scene) (i : Invaria
             is = state_is new _ _ (serves.1 ∙ ap (λ b. record s.objects { book = upd s.objects.book bio.writer b }) c.1) goes;
             at = refl;
             touches = sym (ap touch_in told);
-            pays = λ was_master. sym (ap (paid_in (its_end was_master)) told);
+            pays = λ was_master. sym (ap (paid_in (its_end s place was_master)) told);
           }
   -- a refused node is no event
   legs x bio master leg lists hand is h (requests.LinkedTo (NoRoom back)) told serves goes = absurd (none-some what told)
@@ -288,7 +279,7 @@ module _ (scene : Scene) (s : State) (f : LedgersAreNumbered scene) (i : Invaria
   abbrev Submits : TaskState → Doing → TaskLists → Reply → Type 0
   Submits x doing lists reply =
       what_of (submission_request scene.setup doing lists) reply ≡ Some what → Serves scene.ledger s.objects (submission_request scene.setup doing lists) reply new.objects
-      → Goes (with_submission x (submission_answered scene.setup doing lists reply)) → IsMove scene s place what new
+      → Goes s place new (with_submission x (submission_answered scene.setup doing lists reply)) → IsMove scene s place what new
 
   pub submits : (x : TaskState) (doing : Doing) (lists : TaskLists) → s.task place ≡ x → HasSubmission x doing lists → TaskFits scene x → (reply : Reply) → Submits x doing lists reply
   -- it is over, or broke off: nothing is asked
@@ -300,12 +291,12 @@ module _ (scene : Scene) (s : State) (f : LedgersAreNumbered scene) (i : Invaria
   submits x (Drives bio (ToCut (Takes waits))) lists is h fits reply told serves goes =
       takes_sub x (Drives bio (ToCut (Takes waits))) lists bio.bio.dev waits is h (refl, refl) refl reply told serves (had_submission reply goes) (missed_submission reply goes)
     where
-      had_submission : (reply : Reply) → Goes (with_submission x (submission_answered scene.setup (Drives bio (ToCut (Takes waits))) lists reply)) → (from : Got) (hand : Item Pad) → reply ≡ requests.HadBio from hand
-          → Goes (with_submission x (record { doing = Drives bio (ToCut (Links hand)); lists = lists }))
+      had_submission : (reply : Reply) → Goes s place new (with_submission x (submission_answered scene.setup (Drives bio (ToCut (Takes waits))) lists reply)) → (from : Got) (hand : Item Pad) → reply ≡ requests.HadBio from hand
+          → Goes s place new (with_submission x (record { doing = Drives bio (ToCut (Links hand)); lists = lists }))
       had_submission reply goes from hand same = goes ∙ ap (λ r. upd s.task place (with_submission x (submission_answered scene.setup (Drives bio (ToCut (Takes waits))) lists r))) same
 
-      missed_submission : (reply : Reply) → Goes (with_submission x (submission_answered scene.setup (Drives bio (ToCut (Takes waits))) lists reply)) → (used : Bool) → reply ≡ requests.Missed used
-          → Goes (with_submission x (record { doing = Drives bio (ToCut (after_miss waits)); lists = lists }))
+      missed_submission : (reply : Reply) → Goes s place new (with_submission x (submission_answered scene.setup (Drives bio (ToCut (Takes waits))) lists reply)) → (used : Bool) → reply ≡ requests.Missed used
+          → Goes s place new (with_submission x (record { doing = Drives bio (ToCut (after_miss waits)); lists = lists }))
       missed_submission reply goes used same = goes ∙ ap (λ r. upd s.task place (with_submission x (submission_answered scene.setup (Drives bio (ToCut (Takes waits))) lists r))) same
   submits x (Drives bio (ToCut WantsPunt)) lists is h fits reply told serves goes =
       punts x (Drives bio (ToCut WantsPunt)) lists bio.bio.dev is h (refl, refl) (there x (Drives bio (ToCut WantsPunt)) lists is h) reply told serves
@@ -318,12 +309,12 @@ module _ (scene : Scene) (s : State) (f : LedgersAreNumbered scene) (i : Invaria
   submits x (Copies bio master leg (Takes waits)) lists is h fits reply told serves goes =
       takes_sub x (Copies bio master leg (Takes waits)) lists bio.dev waits is h (refl, refl) refl reply told serves (had_submission reply goes) (missed_submission reply goes)
     where
-      had_submission : (reply : Reply) → Goes (with_submission x (submission_answered scene.setup (Copies bio master leg (Takes waits)) lists reply)) → (from : Got) (hand : Item Pad) → reply ≡ requests.HadBio from hand
-          → Goes (with_submission x (record { doing = Copies bio master leg (Links hand); lists = lists }))
+      had_submission : (reply : Reply) → Goes s place new (with_submission x (submission_answered scene.setup (Copies bio master leg (Takes waits)) lists reply)) → (from : Got) (hand : Item Pad) → reply ≡ requests.HadBio from hand
+          → Goes s place new (with_submission x (record { doing = Copies bio master leg (Links hand); lists = lists }))
       had_submission reply goes from hand same = goes ∙ ap (λ r. upd s.task place (with_submission x (submission_answered scene.setup (Copies bio master leg (Takes waits)) lists r))) same
 
-      missed_submission : (reply : Reply) → Goes (with_submission x (submission_answered scene.setup (Copies bio master leg (Takes waits)) lists reply)) → (used : Bool) → reply ≡ requests.Missed used
-          → Goes (with_submission x (record { doing = Copies bio master leg (after_miss waits); lists = lists }))
+      missed_submission : (reply : Reply) → Goes s place new (with_submission x (submission_answered scene.setup (Copies bio master leg (Takes waits)) lists reply)) → (used : Bool) → reply ≡ requests.Missed used
+          → Goes s place new (with_submission x (record { doing = Copies bio master leg (after_miss waits); lists = lists }))
       missed_submission reply goes used same = goes ∙ ap (λ r. upd s.task place (with_submission x (submission_answered scene.setup (Copies bio master leg (Takes waits)) lists r))) same
   submits x (Copies bio master leg WantsPunt) lists is h fits reply told serves goes =
       punts x (Copies bio master leg WantsPunt) lists bio.dev is h (refl, refl) (there x (Copies bio master leg WantsPunt) lists is h) reply told serves

@@ -12,10 +12,8 @@ use Rattle.bio_books.specs.Books.{VectorItem, told}
 use Rattle.run_machine.specs.Maps.{upd}
 use Rattle.run_machine.specs.Scene.{Scene}
 use Rattle.run_machine.specs.Submissions.{Doing, Rests, Drives, Copies, Breaks, rests}
-use Rattle.run_machine.specs.Tasks.{TaskState, Writer, Todo, Gathered, NoBio, HasBio, HasBoth}
+use Rattle.run_machine.specs.Tasks.{Writer, Todo, Gathered, NoBio, HasBio, HasBoth}
 use Rattle.run_machine.specs.Runs.{State}
-use Rattle.block_core.specs.Paying.{end_told}
-use Rattle.block_core.specs.Payers.{Paid}
 use Rattle.block_core.proofs.moves.Moves.{IsTaking}
 use Rattle.block_core.proofs.moves.Moves as moves
 use Rattle.block_core.proofs.sound.Invariant.{TaskFits, LedgersAreNumbered, Invariant}
@@ -28,21 +26,14 @@ use Rattle.run_machine.specs.Requests.{Reply}
 use Rattle.run_machine.specs.Tasks.{request, answered, look_of, with_bio, needs_vector}
 use Rattle.run_machine.specs.Objects.{Serves}
 use Rattle.run_machine.specs.Runs.{IsLet}
-use Rattle.block_core.proofs.moves.StepsTold.{IsMove, touch_in, paid_in, miss_passes, state_is, used_told, miss_pays}
+use Rattle.block_core.proofs.moves.StepsTold.{IsMove, touch_in, paid_in, miss_passes, state_is, used_told, miss_pays, its_end, Goes, Moved}
 use Rattle.block_core.proofs.moves.SubmissionSteps.{submits}
 
 module _ (scene : Scene) (s : State) (f : LedgersAreNumbered scene) (i : Invariant scene s) (place : ℕ) (here : place < scene.tasks) (what : What) (new : State) where
-  -- the kind of an end that the task tells next
-  abbrev its_end : Bool → Paid
-  its_end was_master = end_told was_master (s.task place)
-
-  abbrev Goes : TaskState → Type 0
-  Goes y = new.task ≡ upd s.task place y
-
   -- a writer at rest takes its bio
   takes_first : (number : ℕ) (todo : Todo) (later : List Todo) → s.task place ≡ Writer number (todo ∷ later) NoBio rests → todo.round ≤ s.objects.tally.round → (reply : Reply)
       → what_of (requests.TakeBio Fs true) reply ≡ Some what → Serves scene.ledger s.objects (requests.TakeBio Fs true) reply new.objects
-      → Goes (answered scene.setup (Writer number (todo ∷ later) NoBio rests) reply) → IsMove scene s place what new
+      → Goes s place new (answered scene.setup (Writer number (todo ∷ later) NoBio rests) reply) → IsMove scene s place what new
   takes_first number todo later is now (requests.HadBio got.Ordinary hand) told serves goes =
       record {
         move = moves.TakesFirst place number todo later takes_ordinary;
@@ -50,7 +41,7 @@ module _ (scene : Scene) (s : State) (f : LedgersAreNumbered scene) (i : Invaria
         is = state_is new _ _ serves.0.1 (goes ∙ ap (λ item. upd s.task place (Writer number (todo ∷ later) (HasBio item) rests)) serves.1);
         at = refl;
         touches = sym (ap touch_in told);
-        pays = λ was_master. sym (ap (paid_in (its_end was_master)) told);
+        pays = λ was_master. sym (ap (paid_in (its_end s place was_master)) told);
       }
   takes_first number todo later is now (requests.HadBio got.Spare hand) told serves goes =
       record {
@@ -59,18 +50,18 @@ module _ (scene : Scene) (s : State) (f : LedgersAreNumbered scene) (i : Invaria
         is = state_is new _ _ serves.0.1 (goes ∙ ap (λ item. upd s.task place (Writer number (todo ∷ later) (HasBio item) rests)) serves.1);
         at = refl;
         touches = sym (ap touch_in told);
-        pays = λ was_master. sym (ap (paid_in (its_end was_master)) told);
+        pays = λ was_master. sym (ap (paid_in (its_end s place was_master)) told);
       }
   takes_first number todo later is now (requests.HadBio got.Missed hand) told serves goes = absurd serves.0
   takes_first number todo later is now (requests.Missed used) told serves goes =
-      record { move = moves.MissesOne place (Writer number (todo ∷ later) NoBio rests) 65 used; can = (here, is, serves.0, tt, used_told used FsBios what told, inr (omega arith)); is = state_is new _ _ serves.1 goes; at = refl; touches = sym (ap touch_in told) ∙ miss_passes true used FsBios; pays = λ was_master. miss_pays (its_end was_master) used FsBios what told }
+      record { move = moves.MissesOne place (Writer number (todo ∷ later) NoBio rests) 65 used; can = (here, is, serves.0, tt, used_told used FsBios what told, inr (omega arith)); is = state_is new _ _ serves.1 goes; at = refl; touches = sym (ap touch_in told) ∙ miss_passes true used FsBios; pays = λ was_master. miss_pays (its_end s place was_master) used FsBios what told }
   takes_first number todo later is now _ told serves goes = absurd serves
 
   -- its vector, or the write's node
   goes_with : (b : Bool) (number : ℕ) (todo : Todo) (later : List Todo) (item : Item Pad) → needs_vector todo.write ≡ b → s.task place ≡ Writer number (todo ∷ later) (HasBio item) rests → number < scene.books → (reply : Reply)
       → what_of (with_bio number b todo) reply ≡ Some what
       → Serves scene.ledger s.objects (with_bio number b todo) reply new.objects
-      → Goes (answered scene.setup (Writer number (todo ∷ later) (HasBio item) rests) reply) → IsMove scene s place what new
+      → Goes s place new (answered scene.setup (Writer number (todo ∷ later) (HasBio item) rests) reply) → IsMove scene s place what new
   goes_with true number todo later item needs is lt (requests.HadVec got.Ordinary vector) told serves goes =
       record {
         move = moves.TakesVector place number todo later item takes_ordinary;
@@ -78,7 +69,7 @@ module _ (scene : Scene) (s : State) (f : LedgersAreNumbered scene) (i : Invaria
         is = state_is new _ _ serves.0.1 (goes ∙ ap (λ v. upd s.task place (Writer number (todo ∷ later) (HasBoth item v) rests)) serves.1);
         at = refl;
         touches = sym (ap touch_in told);
-        pays = λ was_master. sym (ap (paid_in (its_end was_master)) told);
+        pays = λ was_master. sym (ap (paid_in (its_end s place was_master)) told);
       }
   goes_with true number todo later item needs is lt (requests.HadVec got.Spare vector) told serves goes =
       record {
@@ -87,15 +78,15 @@ module _ (scene : Scene) (s : State) (f : LedgersAreNumbered scene) (i : Invaria
         is = state_is new _ _ serves.0.1 (goes ∙ ap (λ v. upd s.task place (Writer number (todo ∷ later) (HasBoth item v) rests)) serves.1);
         at = refl;
         touches = sym (ap touch_in told);
-        pays = λ was_master. sym (ap (paid_in (its_end was_master)) told);
+        pays = λ was_master. sym (ap (paid_in (its_end s place was_master)) told);
       }
   goes_with true number todo later item needs is lt (requests.HadVec got.Missed vector) told serves goes = absurd serves.0
   goes_with true number todo later item needs is lt (requests.Missed used) told serves goes =
-      record { move = moves.MissesOne place (Writer number (todo ∷ later) (HasBio item) rests) 64 used; can = (here, is, serves.0, subst (λ b. IsTaking (with_bio number b todo)) (sym needs) tt, used_told used FsVecs what told, inr (omega arith)); is = state_is new _ _ serves.1 goes; at = refl; touches = sym (ap touch_in told) ∙ miss_passes true used FsVecs; pays = λ was_master. miss_pays (its_end was_master) used FsVecs what told }
+      record { move = moves.MissesOne place (Writer number (todo ∷ later) (HasBio item) rests) 64 used; can = (here, is, serves.0, subst (λ b. IsTaking (with_bio number b todo)) (sym needs) tt, used_told used FsVecs what told, inr (omega arith)); is = state_is new _ _ serves.1 goes; at = refl; touches = sym (ap touch_in told) ∙ miss_passes true used FsVecs; pays = λ was_master. miss_pays (its_end s place was_master) used FsVecs what told }
   goes_with true number todo later item needs is lt _ told serves goes = absurd serves
   goes_with false number todo later item needs is lt (requests.LinkedTo (Made key)) told serves goes =
       let objects = serves.1 ∙ ap (λ b. record s.objects { book = upd s.objects.book number b }) serves.0.1 in
-      record { move = moves.Begins place number todo later item None key; can = (here, is, lt, serves.0.0, needs); is = state_is new _ _ objects goes; at = refl; touches = sym (ap touch_in told); pays = λ was_master. sym (ap (paid_in (its_end was_master)) told) }
+      record { move = moves.Begins place number todo later item None key; can = (here, is, lt, serves.0.0, needs); is = state_is new _ _ objects goes; at = refl; touches = sym (ap touch_in told); pays = λ was_master. sym (ap (paid_in (its_end s place was_master)) told) }
   goes_with false number todo later item needs is lt (requests.LinkedTo (NoRoom back)) told serves goes = absurd (none-some what told)
   goes_with false number todo later item needs is lt (requests.LinkedTo (Stray back)) told serves goes = absurd (none-some what told)
   goes_with false number todo later item needs is lt _ told serves goes = absurd serves
@@ -103,10 +94,10 @@ module _ (scene : Scene) (s : State) (f : LedgersAreNumbered scene) (i : Invaria
   begins_both : (number : ℕ) (todo : Todo) (later : List Todo) (item : Item Pad) (vector : VectorItem) → s.task place ≡ Writer number (todo ∷ later) (HasBoth item vector) rests → number < scene.books → (reply : Reply)
       → what_of (request scene.setup (Writer number (todo ∷ later) (HasBoth item vector) rests)) reply ≡ Some what
       → Serves scene.ledger s.objects (request scene.setup (Writer number (todo ∷ later) (HasBoth item vector) rests)) reply new.objects
-      → Goes (answered scene.setup (Writer number (todo ∷ later) (HasBoth item vector) rests) reply) → IsMove scene s place what new
+      → Goes s place new (answered scene.setup (Writer number (todo ∷ later) (HasBoth item vector) rests) reply) → IsMove scene s place what new
   begins_both number todo later item vector is lt (requests.LinkedTo (Made key)) told serves goes =
       let objects = serves.1 ∙ ap (λ b. record s.objects { book = upd s.objects.book number b }) serves.0.1 in
-      record { move = moves.Begins place number todo later item (Some vector) key; can = (here, is, lt, serves.0.0, tt); is = state_is new _ _ objects goes; at = refl; touches = sym (ap touch_in told); pays = λ was_master. sym (ap (paid_in (its_end was_master)) told) }
+      record { move = moves.Begins place number todo later item (Some vector) key; can = (here, is, lt, serves.0.0, tt); is = state_is new _ _ objects goes; at = refl; touches = sym (ap touch_in told); pays = λ was_master. sym (ap (paid_in (its_end s place was_master)) told) }
   begins_both number todo later item vector is lt (requests.LinkedTo (NoRoom back)) told serves goes = absurd (none-some what told)
   begins_both number todo later item vector is lt (requests.LinkedTo (Stray back)) told serves goes = absurd (none-some what told)
   begins_both number todo later item vector is lt _ told serves goes = absurd serves
@@ -120,25 +111,20 @@ module _ (scene : Scene) (s : State) (f : LedgersAreNumbered scene) (i : Invaria
       → IsLet scene.ledger s.objects (Writer number todos taken rests) (look_of (Writer number todos taken rests)) → (reply : Reply)
       → what_of (request scene.setup (Writer number todos taken rests)) reply ≡ Some what
       → Serves scene.ledger s.objects (request scene.setup (Writer number todos taken rests)) reply new.objects
-      → Goes (answered scene.setup (Writer number todos taken rests) reply) → IsMove scene s place what new
+      → Goes s place new (answered scene.setup (Writer number todos taken rests) reply) → IsMove scene s place what new
   writer_rests number [] taken is lt see reply told serves goes = absurd serves
   writer_rests number (todo ∷ later) NoBio is lt see reply told serves goes = takes_first number todo later is (seen_round number todo later see) reply told serves goes
   writer_rests number (todo ∷ later) (HasBio item) is lt see reply told serves goes = goes_with (needs_vector todo.write) number todo later item refl is lt reply told serves goes
   writer_rests number (todo ∷ later) (HasBoth item vector) is lt see reply told serves goes = begins_both number todo later item vector is lt reply told serves goes
 
-  abbrev Moved : TaskState → Reply → Type 0
-  Moved x reply =
-      what_of (request scene.setup x) reply ≡ Some what → Serves scene.ledger s.objects (request scene.setup x) reply new.objects
-      → Goes (answered scene.setup x reply) → IsMove scene s place what new
-
   pub writes : (number : ℕ) (todo : List Todo) (taken : Gathered) (doing : Doing) (lists : TaskLists) → s.task place ≡ Writer number todo taken (record { doing = doing; lists = lists })
       → TaskFits scene (Writer number todo taken (record { doing = doing; lists = lists }))
       → IsLet scene.ledger s.objects (Writer number todo taken (record { doing = doing; lists = lists })) (look_of (Writer number todo taken (record { doing = doing; lists = lists })))
-      → (reply : Reply) → Moved (Writer number todo taken (record { doing = doing; lists = lists })) reply
+      → (reply : Reply) → Moved scene s place what new (Writer number todo taken (record { doing = doing; lists = lists })) reply
   writes number todo taken Rests lists is fits see reply told serves goes =
       let same : lists ≡ no_lists = fits.1 in
       let Q : TaskLists → Type 0 = λ l. IsLet scene.ledger s.objects (Writer number todo taken (record { doing = Rests; lists = l })) (look_of (Writer number todo taken (record { doing = Rests; lists = l }))) in
-      let G : TaskLists → Type 0 = λ l. Goes (answered scene.setup (Writer number todo taken (record { doing = Rests; lists = l })) reply) in
+      let G : TaskLists → Type 0 = λ l. Goes s place new (answered scene.setup (Writer number todo taken (record { doing = Rests; lists = l })) reply) in
       writer_rests number todo taken (is ∙ ap (λ l. Writer number todo taken (record { doing = Rests; lists = l })) same) fits.0 (subst Q same see) reply told serves (subst G same goes)
   writes number todo taken (Drives bio ask) lists is fits see reply told serves goes =
       submits scene s f i place here what new (Writer number todo taken (record { doing = Drives bio ask; lists = lists })) (Drives bio ask) lists is refl fits reply told serves goes

@@ -12,7 +12,7 @@ use Rattle.bio_records.specs.Items.{Item}
 use Rattle.bio_books.specs.declared.node.Role.{Role}
 use Rattle.bio_books.specs.declared.node.Role.TheVariants as role
 use Rattle.bio_books.specs.Books.{Node, BookState, node_at, with_node, top_node, child_node, master_node, leg_node, keeping, raised, kept_with, first_failing}
-use Rattle.bio_books.specs.Links.{Made, Stray, IsVacant, ChainsAt, MastersAt, LegsAt}
+use Rattle.bio_books.specs.Links.{Made, IsVacant, ChainsAt, MastersAt, LegsAt}
 use Rattle.bio_books.specs.Drops.{DropOutcome, DropsAt}
 use Rattle.bio_books.specs.Drops as end
 use Rattle.run_machine.specs.declared.event.Event.{Event}
