@@ -105,15 +105,16 @@ NoOtherIsCompleted = (s : Scenario) (ledger : ℕ → LedgerId) (events : List E
     → (run : IsRun (scene s ledger) (start s) events state) (f : Fragment)
     → 0 < fragment_count f (completed (scene s ledger) (start s) events state run) → IsOfScenario s f
 
--- a task with nothing to submit, and no bio in any list or disk
-abbrev pub HasNone : TaskState → Type 0
-HasNone (Writer number todos taken submission) = (todos ≡ []) × (submission ≡ rests)
-HasNone (Rescuer dev submission) = submission ≡ rests
-HasNone (Completer disk carried) = Unit {0}
-HasNone (Keeper keeping) = Unit {0}
+-- a task that submits nothing, and has no write to begin
+abbrev pub SubmitsNothing : TaskState → Type 0
+SubmitsNothing (Writer number todos taken submission) = (todos ≡ []) × (submission ≡ rests)
+SubmitsNothing (Rescuer dev submission) = submission ≡ rests
+SubmitsNothing (Completer disk carried) = Unit {0}
+SubmitsNothing (Keeper keeping) = Unit {0}
 
+-- no task submits or has a write to begin, and no bio waits for a rescuer or in a disk
 pub record NothingComes (scene : Scene) (state : State) : Type 0 where
-  pub tasks : (place : ℕ) → place < scene.tasks → HasNone (state.task place)
+  pub tasks : (place : ℕ) → place < scene.tasks → SubmitsNothing (state.task place)
   pub rescued : (dev : ℕ) → dev < scene.setup.count → state.objects.rescue dev ≡ []
   pub pending : (dev : ℕ) → dev < scene.setup.count → (state.objects.disk dev).pending ≡ []
 
@@ -123,23 +124,24 @@ EachIsCompletedOnce = (s : Scenario) (ledger : ℕ → LedgerId) (events : List 
     → (run : IsRun (scene s ledger) (start s) events state) → NothingComes (scene s ledger) state → (f : Fragment) → IsOfScenario s f
     → fragment_count f (completed (scene s ledger) (start s) events state run) ≡ 1
 
--- no element is out of any pool, and no writer has a write that is still to begin
-abbrev pub HasBegun : TaskState → Type 0
-HasBegun (Writer number todos taken submission) = todos ≡ []
-HasBegun (Rescuer dev submission) = Unit {0}
-HasBegun (Completer disk carried) = Unit {0}
-HasBegun (Keeper keeping) = Unit {0}
+-- it has no write that is still to begin
+abbrev pub HasBegunAll : TaskState → Type 0
+HasBegunAll (Writer number todos taken submission) = todos ≡ []
+HasBegunAll (Rescuer dev submission) = Unit {0}
+HasBegunAll (Completer disk carried) = Unit {0}
+HasBegunAll (Keeper keeping) = Unit {0}
 
-pub record AllIsHome (scene : Scene) (state : State) : Type 0 where
+-- no element is out of any pool, and no writer has a write that is still to begin
+pub record AllIsHomeAndBegun (scene : Scene) (state : State) : Type 0 where
   pub pools : (number : ℕ) → (state.objects.pool number).facts.out ≡ 0
-  pub tasks : (place : ℕ) → place < scene.tasks → HasBegun (state.task place)
+  pub tasks : (place : ℕ) → place < scene.tasks → HasBegunAll (state.task place)
 
 -- then nothing is left to come
 abbrev pub NothingComesWhereAllIsHome : Type 0
 NothingComesWhereAllIsHome = (s : Scenario) (ledger : ℕ → LedgerId) (events : List Event) (state : State) → IsScenario s → IsNaming ledger
-    → IsRun (scene s ledger) (start s) events state → AllIsHome (scene s ledger) state → NothingComes (scene s ledger) state
+    → IsRun (scene s ledger) (start s) events state → AllIsHomeAndBegun (scene s ledger) state → NothingComes (scene s ledger) state
 
 -- as it is where a run has ended
 abbrev pub NothingComesWhereEnded : Type 0
 NothingComesWhereEnded = (s : Scenario) (ledger : ℕ → LedgerId) (events : List Event) (state : State) → IsScenario s → IsNaming ledger
-    → IsRun (scene s ledger) (start s) events state → HasEnded state → AllIsHome (scene s ledger) state × NothingComes (scene s ledger) state
+    → IsRun (scene s ledger) (start s) events state → HasEnded state → AllIsHomeAndBegun (scene s ledger) state × NothingComes (scene s ledger) state

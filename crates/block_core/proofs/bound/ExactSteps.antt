@@ -34,7 +34,7 @@ use Rattle.block_core.specs.Weights.{Weight, Rescued, Pending, total_weight, one
 use Rattle.block_core.proofs.moves.References.{references}
 use Rattle.block_core.specs.Charges.{task_duties, duties_left}
 use Rattle.block_core.specs.Exact.{is_miss, NoneMissed, all_nodes, all_below, starts_round, StepsWithoutMisses}
-use Rattle.block_core.specs.Fragments.{todo_fragments, HasNone, NothingComes}
+use Rattle.block_core.specs.Fragments.{todo_fragments, SubmitsNothing, NothingComes}
 use Rattle.block_core.specs.Rounds.{round_of, is_of_round, tops_left, unfinished_of}
 use Rattle.block_core.specs.Scenarios.{IsScenario, IsNaming}
 use Rattle.block_core.proofs.stuck.Idle.{sum_none}
@@ -239,7 +239,7 @@ module _ (scene : Scene) (s : State) (i : Invariant scene s) (held : total_weigh
   taken_due (HasBio bio) = refl
   taken_due (HasBoth bio vector) = refl
 
-  task_none : (place : ℕ) (x : TaskState) → place < scene.tasks → s.task place ≡ x → HasNone x → (task_weight (due scene.setup) place x ≡ 0) × (task_weight in_hand place x ≡ 0)
+  task_none : (place : ℕ) (x : TaskState) → place < scene.tasks → s.task place ≡ x → SubmitsNothing x → (task_weight (due scene.setup) place x ≡ 0) × (task_weight in_hand place x ≡ 0)
   task_none place (Writer number todo taken submission) lt is none =
       let hands = no_taken taken (λ p. omega (arith, home p place (Writer number todo taken submission) lt is)) in
       (rw (none.0, none.1) (omega (arith, taken_due taken)), rw (none.1) (omega (arith, hands)))

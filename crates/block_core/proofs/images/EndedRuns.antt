@@ -8,7 +8,7 @@ use Rattle.run_machine.specs.Opened.{scene}
 use Rattle.run_machine.specs.Runs.{State}
 use Rattle.block_core.specs.Weights.{total_weight, task_weight}
 use Rattle.block_core.specs.Rounds.{round_of, is_of_round, unfinished_of}
-use Rattle.block_core.specs.Fragments.{HasBegun, AllIsHome, NothingComesWhereEnded}
+use Rattle.block_core.specs.Fragments.{HasBegunAll, AllIsHomeAndBegun, NothingComesWhereEnded}
 use Rattle.block_core.proofs.moves.Sums.{one-same}
 use Rattle.block_core.proofs.moves.Totals.{part_of}
 use Rattle.block_core.proofs.sound.EveryRun.{run_tallied}
@@ -20,7 +20,7 @@ zero_at (x ∷ xs) zero none = let next = sum_by-cons (λ (n : ℕ). n) x xs in 
 zero_at (x ∷ xs) (suc r) none = let next = sum_by-cons (λ (n : ℕ). n) x xs in zero_at xs r (omega (arith, none, next))
 
 begun : (scene : Scene) (s : State) (rounds : List ℕ) → ((r : ℕ) → total_weight scene (unfinished_of (is_of_round rounds r)) s ≡ 0)
-    → (place : ℕ) (x : TaskState) → place < scene.tasks → s.task place ≡ x → HasBegun x
+    → (place : ℕ) (x : TaskState) → place < scene.tasks → s.task place ≡ x → HasBegunAll x
 begun scene s rounds none place (Writer number [] taken submission) lt is = refl
 begun scene s rounds none place (Writer number (todo ∷ later) taken submission) lt is =
     let r : ℕ = round_of rounds todo.number in
@@ -36,5 +36,5 @@ pub nothing_comes_where_ended : NothingComesWhereEnded
 nothing_comes_where_ended s ledger events state good naming run ended =
     let tally = run_tallied s ledger good naming events state run in
     let none : (r : ℕ) → total_weight (scene s ledger) (unfinished_of (is_of_round s.rounds r)) state ≡ 0 = λ r. sym (tally.left r) ∙ zero_at state.objects.tally.left r ended.writes in
-    let home : AllIsHome (scene s ledger) state = record { pools = ended.pools; tasks = λ place lt. begun (scene s ledger) state s.rounds none place (state.task place) lt refl } in
+    let home : AllIsHomeAndBegun (scene s ledger) state = record { pools = ended.pools; tasks = λ place lt. begun (scene s ledger) state s.rounds none place (state.task place) lt refl } in
     (home, nothing_comes_where_all_is_home s ledger events state good naming run home)

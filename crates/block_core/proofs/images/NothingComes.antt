@@ -14,7 +14,7 @@ use Rattle.run_machine.specs.Tasks.{TaskState, Writer, Rescuer, Completer, Keepe
 use Rattle.run_machine.specs.Runs.{State}
 use Rattle.block_core.specs.Weights.{Weight, Pending, Rescued, Lined, total_weight, one, weigh_option, doing_weight, task_weight, submission_weight, gathered_weight, book_weight, elements_of_pool, holding_elements, legs_left}
 use Rattle.block_core.proofs.moves.References.{references, awaited_ends}
-use Rattle.block_core.specs.Fragments.{HasNone, NothingComes, HasBegun, AllIsHome, NothingComesWhereAllIsHome}
+use Rattle.block_core.specs.Fragments.{SubmitsNothing, NothingComes, HasBegunAll, AllIsHomeAndBegun, NothingComesWhereAllIsHome}
 use Rattle.block_core.proofs.stuck.Idle.{sum_none}
 use Rattle.block_core.proofs.moves.Sums.{one-same, within_book, below_or}
 use Rattle.block_core.proofs.moves.Totals.{part_of}
@@ -166,13 +166,13 @@ module _ (scene : Scene) (s : State) (i : Invariant scene s) (slips : total_weig
           let c : one bio.writer bio.writer * one master master * legs_left scene.setup bio leg ≡ legs_left scene.setup bio leg = rw (one-same bio.writer, one-same master) (omega arith) in
           absurd (omega (arith, a, b, c, lt, no_refs bio.writer master))
 
-  has_none : (place : ℕ) (x : TaskState) → place < scene.tasks → s.task place ≡ x → TaskFits scene x → HasBegun x → HasNone x
+  has_none : (place : ℕ) (x : TaskState) → place < scene.tasks → s.task place ≡ x → TaskFits scene x → HasBegunAll x → SubmitsNothing x
   has_none place (Writer number todos taken submission) lt is fits begun = (begun, submission_rests place 32 (Writer number todos taken submission) submission lt is fits.1 (λ w. omega arith))
   has_none place (Rescuer dev submission) lt is fits begun = submission_rests place dev.0 (Rescuer dev submission) submission lt is fits.1 (λ w. omega arith)
   has_none place (Completer disk carried) lt is fits begun = tt
   has_none place (Keeper keeping) lt is fits begun = tt
 
-  pub home_comes : AllIsHome scene s → NothingComes scene s
+  pub home_comes : AllIsHomeAndBegun scene s → NothingComes scene s
   home_comes home = record {
     tasks = λ place lt. has_none place (s.task place) lt refl (i.tasks place) (home.tasks place lt);
     rescued = rescue_home;

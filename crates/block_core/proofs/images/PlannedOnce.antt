@@ -18,7 +18,7 @@ use Rattle.run_machine.specs.Opened.{Scenario, scene, todos, setup as setup_in}
 use Rattle.run_machine.specs.Runs.{State}
 use Rattle.block_core.specs.Weights.{Weight, Pending, Rescued, one, total_weight, weigh_option, task_weight, gathered_weight, book_weight}
 use Rattle.block_core.specs.Scenarios.{IsScenario}
-use Rattle.block_core.specs.Fragments.{todo_fragments, to_come, planned, equal_fragments, is_it, fragment_count, IsOfScenario, HasNone, NothingComes, NoneIsCompletedTwice, NoOtherIsCompleted, EachIsCompletedOnce}
+use Rattle.block_core.specs.Fragments.{todo_fragments, to_come, planned, equal_fragments, is_it, fragment_count, IsOfScenario, SubmitsNothing, NothingComes, NoneIsCompletedTwice, NoOtherIsCompleted, EachIsCompletedOnce}
 use Rattle.block_core.proofs.stuck.Idle.{sum_none}
 use Rattle.block_core.proofs.moves.Sums.{one-same, same_or_not}
 use Rattle.block_core.proofs.start.InvariantAtStart.{sum_at-zero, todos_all, all_map}
@@ -176,7 +176,7 @@ module _ (scene : Scene) (state : State) (value : Fragment → ℕ) where
   taken_none (HasBio bio) = refl
   taken_none (HasBoth bio vector) = refl
 
-  task_none : (place : ℕ) (x : TaskState) → HasNone x → task_weight w place x ≡ 0
+  task_none : (place : ℕ) (x : TaskState) → SubmitsNothing x → task_weight w place x ≡ 0
   task_none place (Writer number todos taken submission) h = rw (h.0, h.1) (omega (arith, taken_none taken))
   task_none place (Rescuer dev submission) h = rw h refl
   task_none place (Completer disk carried) h = carried_none scene.setup value place carried
