@@ -12,8 +12,8 @@ use Rattle.block_core.specs.Scenarios.{IsScenario, EveryPoolKeepsSome, AreSorted
 
 -- 65,536 entries in each of 66 scripts, 1,024 rounds behind the first and 4,096 changes of reserves. A text has no more entries than those of one
 -- script here; the bound is for the number of tickets alone, which it keeps small enough
-abbrev pub most_waits : ℕ
-most_waits = 4330496
+abbrev pub most_extra_steps : ℕ
+most_extra_steps = 4330496
 
 pub record IsRunnable (s : Scenario) : Type 0 where
   -- a stack, and writes that it serves, by writers of numbers below 8, each with its round
@@ -27,9 +27,9 @@ pub record IsRunnable (s : Scenario) : Type 0 where
   -- no two writes of a round have a sector in common, and each goes to a device that is no member
   pub apart : AreApartByRounds s.stack s.writes s.rounds
   -- and there are not too many entries, rounds and changes
-  pub few : extra_steps s ≤ most_waits
+  pub few : extra_steps s ≤ most_extra_steps
 
--- then no run has many events
+-- then the bound on a run's events is below 2 ^ 24
 abbrev pub StepsFitIn24Bits : Type 0
 StepsFitIn24Bits = (s : Scenario) → IsRunnable s → most_steps s < 2 ^ 24
 

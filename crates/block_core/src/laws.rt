@@ -223,7 +223,8 @@ pub fn ended_runs_leave_the_same()
 {}
 
 /// What a text means of which no line is refused is a scenario that can be run: all that the laws ask of one holds, but that mirrors have
-/// rescuers, which the check of declarations says by itself. Its bound is 8 E + 2 G + Z of the scenario, and no such scenario has 2^24 steps.
+/// rescuers, which the check of declarations says by itself. Its bound is 8 E + 2 G + Z of the scenario, and the bound of each such scenario is
+/// below 2^24.
 pub fn accepted_texts_are_runnable()
     ensures runnable { AcceptedTextsAreRunnable }
     ensures few { StepsFitIn24Bits }
