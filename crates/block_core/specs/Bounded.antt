@@ -1,14 +1,12 @@
 -- How many events a run can have.
-use Rattle.std.specs.Prelude.{◌+◌, ◌-◌, ◌*◌, ◌≤◌, ℕ, List, length, sum_by}
+use Rattle.std.specs.Prelude.{◌+◌, ◌-◌, ◌*◌, ◌≤◌, ℕ, length, sum_by}
 use Rattle.elem_ledger.specs.Ledger.{LedgerId}
 use Rattle.fail_script.specs.Script.{Answers, entries_of}
 use Rattle.stack_base.specs.declared.ids.PoolId.{PoolId}
 use Rattle.layout_model.specs.Bound.{all_elements, all_parts}
-use Rattle.run_machine.specs.declared.event.Event.{Event}
 use Rattle.run_machine.specs.Opened.{Scenario, round_count, scene, start}
-use Rattle.run_machine.specs.Runs.{State, IsRun}
 use Rattle.block_core.specs.Charges.{state_rank}
-use Rattle.block_core.specs.Scenarios.{IsScenario, IsNaming}
+use Rattle.block_core.specs.Scenarios.{InEveryRun, IsScenario, IsNaming}
 
 -- the entries of scripts, the rounds behind the first, and the changes of reserves
 abbrev pub extra_steps : Scenario → ℕ
@@ -25,5 +23,4 @@ OpenedRankIsBounded = (s : Scenario) (ledger : ℕ → LedgerId) → IsScenario 
 
 -- no run of any scenario has more events
 abbrev pub RunsAreBounded : Type 0
-RunsAreBounded = (s : Scenario) (ledger : ℕ → LedgerId) (events : List Event) (state : State) → IsScenario s → IsNaming ledger
-    → IsRun (scene s ledger) (start s) events state → length events ≤ most_steps s
+RunsAreBounded = InEveryRun (λ s ledger events state. length events ≤ most_steps s)

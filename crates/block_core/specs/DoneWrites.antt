@@ -9,7 +9,7 @@ use Rattle.run_machine.specs.declared.event.Event.{Event}
 use Rattle.run_machine.specs.declared.event.What.TheVariants as what
 use Rattle.run_machine.specs.Opened.{Scenario, scene, start}
 use Rattle.run_machine.specs.Runs.{State, Happens, IsRun, HasEnded}
-use Rattle.block_core.specs.Scenarios.{IsScenario, IsNaming}
+use Rattle.block_core.specs.Scenarios.{InEveryRun, IsScenario, IsNaming}
 use Rattle.block_core.specs.Fragments.{completed, fragment_count, IsOfScenario}
 
 -- each fragment of the write with this number is among these, exactly once, and no other with its number
@@ -29,9 +29,8 @@ WriteMayEnd s number status = (write : Write) × (slice_get s.writes number ≡ 
 
 -- and the status that the event tells is one with which the write may end
 abbrev pub StatusesAreGiven : Type 0
-StatusesAreGiven = (s : Scenario) (ledger : ℕ → LedgerId) (events : List Event) (state : State) → IsScenario s → IsNaming ledger
-    → IsRun (scene s ledger) (start s) events state → (event : Event) (new : State) → Happens (scene s ledger) state event new
-    → (write : ℕ) (status : Status) → event.what ≡ what.Done write status → WriteMayEnd s write status
+StatusesAreGiven = InEveryRun (λ s ledger events state. (event : Event) (new : State) → Happens (scene s ledger) state event new
+    → (write : ℕ) (status : Status) → event.what ≡ what.Done write status → WriteMayEnd s write status)
 
 -- so where a run has ended, the tally has such a status for each write, and no other
 pub record HasGivenStatuses (s : Scenario) (statuses : List Status) : Type 0 where
@@ -39,5 +38,4 @@ pub record HasGivenStatuses (s : Scenario) (statuses : List Status) : Type 0 whe
   pub each : (number : ℕ) → number < length s.writes → (status : Status) × (slice_get statuses number ≡ Some status) × WriteMayEnd s number status
 
 abbrev pub EndedStatusesAreGiven : Type 0
-EndedStatusesAreGiven = (s : Scenario) (ledger : ℕ → LedgerId) (events : List Event) (state : State) → IsScenario s → IsNaming ledger
-    → IsRun (scene s ledger) (start s) events state → HasEnded state → HasGivenStatuses s state.objects.tally.statuses
+EndedStatusesAreGiven = InEveryRun (λ s ledger events state. HasEnded state → HasGivenStatuses s state.objects.tally.statuses)

@@ -5,9 +5,9 @@ use Rattle.stack_base.specs.declared.ids.Status.{Status}
 use Rattle.run_machine.specs.declared.event.Event.{Event}
 use Rattle.run_machine.specs.declared.event.What.{What}
 use Rattle.run_machine.specs.declared.event.What.TheVariants as what
-use Rattle.run_machine.specs.Opened.{Scenario, scene, start}
-use Rattle.run_machine.specs.Runs.{State, Happens, IsRun, unfinished}
-use Rattle.block_core.specs.Scenarios.{IsScenario, IsNaming}
+use Rattle.run_machine.specs.Opened.{Scenario, scene}
+use Rattle.run_machine.specs.Runs.{State, Happens, unfinished}
+use Rattle.block_core.specs.Scenarios.{InEveryRun}
 use Rattle.block_core.specs.Rounds.{round_of, unfinished_of}
 use Rattle.block_core.specs.Weights.{Weight, total_weight, one}
 
@@ -22,8 +22,7 @@ times_done write (event ∷ events) = done_in write event.what + times_done writ
 
 -- no run tells a write done twice
 abbrev pub EachIsDoneOnce : Type 0
-EachIsDoneOnce = (s : Scenario) (ledger : ℕ → LedgerId) (events : List Event) (state : State) → IsScenario s → IsNaming ledger
-    → IsRun (scene s ledger) (start s) events state → (write : ℕ) → times_done write events ≤ 1
+EachIsDoneOnce = InEveryRun (λ s ledger events state. (write : ℕ) → times_done write events ≤ 1)
 
 -- the write with this number, while it is to be begun, or its top node is open, or what is left of that is carried
 abbrev pub unfinished_write : ℕ → Weight
@@ -53,21 +52,16 @@ RoundsAreNext s ledger state = (event : Event) (new : State) → Happens (scene 
 
 -- so it is in every run of every scenario
 abbrev pub WritesAreUnfinishedUntilDone : Type 0
-WritesAreUnfinishedUntilDone = (s : Scenario) (ledger : ℕ → LedgerId) (events : List Event) (state : State) → IsScenario s → IsNaming ledger
-    → IsRun (scene s ledger) (start s) events state → DoneOrUnfinished s ledger events state
+WritesAreUnfinishedUntilDone = InEveryRun DoneOrUnfinished
 
 abbrev pub TallyHasStatuses : Type 0
-TallyHasStatuses = (s : Scenario) (ledger : ℕ → LedgerId) (events : List Event) (state : State) → IsScenario s → IsNaming ledger
-    → IsRun (scene s ledger) (start s) events state → StatusesAreTold events state
+TallyHasStatuses = InEveryRun (λ s ledger events state. StatusesAreTold events state)
 
 abbrev pub NoneIsLeftUndone : Type 0
-NoneIsLeftUndone = (s : Scenario) (ledger : ℕ → LedgerId) (events : List Event) (state : State) → IsScenario s → IsNaming ledger
-    → IsRun (scene s ledger) (start s) events state → unfinished state ≡ 0 → AllAreDone s events
+NoneIsLeftUndone = InEveryRun (λ s ledger events state. unfinished state ≡ 0 → AllAreDone s events)
 
 abbrev pub WritesAreDoneInTheirRound : Type 0
-WritesAreDoneInTheirRound = (s : Scenario) (ledger : ℕ → LedgerId) (events : List Event) (state : State) → IsScenario s → IsNaming ledger
-    → IsRun (scene s ledger) (start s) events state → DonesArePresent s ledger state
+WritesAreDoneInTheirRound = InEveryRun (λ s ledger events state. DonesArePresent s ledger state)
 
 abbrev pub RoundsStartInTurn : Type 0
-RoundsStartInTurn = (s : Scenario) (ledger : ℕ → LedgerId) (events : List Event) (state : State) → IsScenario s → IsNaming ledger
-    → IsRun (scene s ledger) (start s) events state → RoundsAreNext s ledger state
+RoundsStartInTurn = InEveryRun (λ s ledger events state. RoundsAreNext s ledger state)

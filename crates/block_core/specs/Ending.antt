@@ -5,12 +5,11 @@ use Rattle.run_machine.specs.declared.event.Event.{Event}
 use Rattle.run_machine.specs.Opened.{Scenario, scene, start}
 use Rattle.run_machine.specs.Runs.{State, IsRun, unfinished, HasEnded}
 use Rattle.run_machine.specs.Tasks.{Keeper, Keeps, Starts, Duty}
-use Rattle.block_core.specs.Scenarios.{IsScenario, IsNaming, EveryPoolKeepsSome, AreSorted}
+use Rattle.block_core.specs.Scenarios.{InEveryRun, IsScenario, IsNaming, EveryPoolKeepsSome, AreSorted}
 
 -- once no write is unfinished, the run has ended: each element is at home
 abbrev pub RunsEndWithTheirWrites : Type 0
-RunsEndWithTheirWrites = (s : Scenario) (ledger : ℕ → LedgerId) (events : List Event) (state : State) → IsScenario s → IsNaming ledger
-    → IsRun (scene s ledger) (start s) events state → unfinished state ≡ 0 → HasEnded state
+RunsEndWithTheirWrites = InEveryRun (λ s ledger events state. unfinished state ≡ 0 → HasEnded state)
 
 -- where the keeper is to start a round next, there is one behind the present one: where each pool keeps an element and the rounds do not fall
 abbrev pub StartedRoundsAreThere : Type 0

@@ -1,6 +1,5 @@
 -- How many events a run has in which no take missed.
 use Rattle.std.specs.Prelude.{◌≡◌, ◌+◌, not, ℕ, Bool, true, false, List, length, filter, sum_by, All}
-use Rattle.elem_ledger.specs.Ledger.{LedgerId}
 use Rattle.stack_base.specs.declared.stack.Stack.{Stack}
 use Rattle.stack_base.specs.Tree.{tree}
 use Rattle.layout_model.specs.declared.write.Write.{Write}
@@ -11,10 +10,10 @@ use Rattle.run_machine.specs.declared.event.Event.{Event}
 use Rattle.run_machine.specs.declared.event.Got.TheVariants as got
 use Rattle.run_machine.specs.declared.event.What.{What}
 use Rattle.run_machine.specs.declared.event.What.TheVariants as what
-use Rattle.run_machine.specs.Opened.{Scenario, scene, start, duties}
-use Rattle.run_machine.specs.Runs.{State, IsRun, HasEnded}
+use Rattle.run_machine.specs.Opened.{Scenario, start, duties}
+use Rattle.run_machine.specs.Runs.{HasEnded}
 use Rattle.run_machine.specs.Tasks.{Duty, Resizes, Starts}
-use Rattle.block_core.specs.Scenarios.{IsScenario, IsNaming}
+use Rattle.block_core.specs.Scenarios.{InEveryRun}
 
 abbrev pub is_miss : What → Bool
 is_miss (what.Take pool got.Missed) = true
@@ -52,6 +51,4 @@ exact_steps s =
 
 -- So many events has each run that has ended and in which no take missed: its keeper has done all, since the last round has a write.
 abbrev pub StepsWithoutMisses : Type 0
-StepsWithoutMisses = (s : Scenario) (ledger : ℕ → LedgerId) (events : List Event) (state : State) → IsScenario s → IsNaming ledger
-    → IsRun (scene s ledger) (start s) events state → HasEnded state → NoneMissed events
-    → length events ≡ exact_steps s
+StepsWithoutMisses = InEveryRun (λ s ledger events state. HasEnded state → NoneMissed events → length events ≡ exact_steps s)

@@ -18,7 +18,7 @@ use Rattle.run_machine.specs.Tasks.{Todo, TaskState, Writer, Rescuer, Completer,
 use Rattle.run_machine.specs.Opened.{Scenario, scene, start, setup, todos}
 use Rattle.run_machine.specs.Runs.{State, IsRun, HasEnded}
 use Rattle.block_core.specs.Weights.{Weight, Spot, Lined, Rescued, Pending, Brought, total_weight, legs_left, no_weight}
-use Rattle.block_core.specs.Scenarios.{IsScenario, IsNaming}
+use Rattle.block_core.specs.Scenarios.{InEveryRun, IsScenario, IsNaming}
 
 -- the place of a bio's first sector in its write
 abbrev pub offset_of : Bio → ℕ
@@ -138,10 +138,8 @@ pub record AllIsHomeAndBegun (scene : Scene) (state : State) : Type 0 where
 
 -- then nothing is left to come
 abbrev pub NothingComesWhereAllIsHome : Type 0
-NothingComesWhereAllIsHome = (s : Scenario) (ledger : ℕ → LedgerId) (events : List Event) (state : State) → IsScenario s → IsNaming ledger
-    → IsRun (scene s ledger) (start s) events state → AllIsHomeAndBegun (scene s ledger) state → NothingComes (scene s ledger) state
+NothingComesWhereAllIsHome = InEveryRun (λ s ledger events state. AllIsHomeAndBegun (scene s ledger) state → NothingComes (scene s ledger) state)
 
 -- as it is where a run has ended
 abbrev pub NothingComesWhereEnded : Type 0
-NothingComesWhereEnded = (s : Scenario) (ledger : ℕ → LedgerId) (events : List Event) (state : State) → IsScenario s → IsNaming ledger
-    → IsRun (scene s ledger) (start s) events state → HasEnded state → AllIsHomeAndBegun (scene s ledger) state × NothingComes (scene s ledger) state
+NothingComesWhereEnded = InEveryRun (λ s ledger events state. HasEnded state → AllIsHomeAndBegun (scene s ledger) state × NothingComes (scene s ledger) state)

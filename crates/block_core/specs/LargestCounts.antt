@@ -6,19 +6,17 @@ use Rattle.bio_books.specs.Books.{Node, node_at}
 use Rattle.run_machine.specs.declared.event.Event.{Event}
 use Rattle.run_machine.specs.Opened.{Scenario, scene, start, tasks, places_of}
 use Rattle.run_machine.specs.Runs.{State, IsRun}
-use Rattle.block_core.specs.Scenarios.{IsScenario, IsNaming}
+use Rattle.block_core.specs.Scenarios.{InEveryRun, IsScenario, IsNaming}
 use Rattle.block_core.specs.Breaks.{ElementsAreAllowed}
 
 -- no pool of any run has more elements out than all writes need
 abbrev pub OutsAreWithinWhatWritesNeed : Type 0
-OutsAreWithinWhatWritesNeed = (s : Scenario) (ledger : ℕ → LedgerId) (events : List Event) (state : State) → IsScenario s → IsNaming ledger
-    → IsRun (scene s ledger) (start s) events state → (number : ℕ) → (state.objects.pool number).facts.out ≤ all_elements s.stack s.writes
+OutsAreWithinWhatWritesNeed = InEveryRun (λ s ledger events state. (number : ℕ) → (state.objects.pool number).facts.out ≤ all_elements s.stack s.writes)
 
 -- no node waits for more ends than its own part's, one for each place of its book, and one for each task
 abbrev pub EndsAreWithinPlacesAndTasks : Type 0
-EndsAreWithinPlacesAndTasks = (s : Scenario) (ledger : ℕ → LedgerId) (events : List Event) (state : State) → IsScenario s → IsNaming ledger
-    → IsRun (scene s ledger) (start s) events state → (writer place : ℕ) (node : Node) → node_at (state.objects.book writer) place ≡ Some node
-    → node.count ≤ 1 + places_of s writer + length (tasks s)
+EndsAreWithinPlacesAndTasks = InEveryRun (λ s ledger events state. (writer place : ℕ) (node : Node) → node_at (state.objects.book writer) place ≡ Some node
+    → node.count ≤ 1 + places_of s writer + length (tasks s))
 
 pub record CountersAreSmall (state : State) : Type 0 where
   pub outs : (number : ℕ) → (state.objects.pool number).facts.out < 2 ^ 64 - 1

@@ -1,16 +1,14 @@
 -- That the bios that name a node, and the nodes under it, are parts of the node's own write.
-use Rattle.std.specs.Prelude.{◌≡◌, ◌<◌, ℕ, List, Some}
-use Rattle.elem_ledger.specs.Ledger.{LedgerId}
+use Rattle.std.specs.Prelude.{◌≡◌, ◌<◌, ℕ, Some}
 use Rattle.stack_base.specs.declared.ids.DevId.{DevId}
 use Rattle.bio_books.specs.Books.{Node, node_at, parent_of}
 use Rattle.bio_books.specs.Drops.{Closed}
-use Rattle.run_machine.specs.declared.event.Event.{Event}
 use Rattle.run_machine.specs.Scene.{Scene}
 use Rattle.run_machine.specs.Tasks.{Completer, Carries}
-use Rattle.run_machine.specs.Opened.{Scenario, scene, start}
-use Rattle.run_machine.specs.Runs.{State, IsRun}
+use Rattle.run_machine.specs.Opened.{scene}
+use Rattle.run_machine.specs.Runs.{State}
 use Rattle.block_core.specs.EachBio.{EachBio, EachCopied}
-use Rattle.block_core.specs.Scenarios.{IsScenario, IsNaming}
+use Rattle.block_core.specs.Scenarios.{InEveryRun}
 
 -- Each place of each book has a write, of which is all that stands there or refers to it:
 pub record AreOfOneWrite (scene : Scene) (state : State) : Type 0 where
@@ -28,5 +26,4 @@ pub record AreOfOneWrite (scene : Scene) (state : State) : Type 0 where
 
 -- after every event of every run of every scenario
 abbrev pub AllAreOfOneWrite : Type 0
-AllAreOfOneWrite = (s : Scenario) (ledger : ℕ → LedgerId) (events : List Event) (state : State) → IsScenario s → IsNaming ledger
-    → IsRun (scene s ledger) (start s) events state → AreOfOneWrite (scene s ledger) state
+AllAreOfOneWrite = InEveryRun (λ s ledger events state. AreOfOneWrite (scene s ledger) state)

@@ -1,17 +1,15 @@
 -- What is at work is of writes of the present round.
-use Rattle.std.specs.Prelude.{◌≡◌, ◌<◌, ℕ, List, Some}
-use Rattle.elem_ledger.specs.Ledger.{LedgerId}
+use Rattle.std.specs.Prelude.{◌≡◌, ◌<◌, ℕ, Some}
 use Rattle.stack_base.specs.declared.ids.DevId.{DevId}
 use Rattle.layout_model.specs.Laid.{round_of}
 use Rattle.bio_books.specs.Books.{Node, node_at}
 use Rattle.bio_books.specs.Drops.{Closed}
-use Rattle.run_machine.specs.declared.event.Event.{Event}
 use Rattle.run_machine.specs.Scene.{Scene}
 use Rattle.run_machine.specs.Tasks.{Completer, Carries}
-use Rattle.run_machine.specs.Opened.{Scenario, scene, start}
-use Rattle.run_machine.specs.Runs.{State, IsRun}
+use Rattle.run_machine.specs.Opened.{Scenario, scene}
+use Rattle.run_machine.specs.Runs.{State}
 use Rattle.block_core.specs.EachBio.{EachBio, EachCopied}
-use Rattle.block_core.specs.Scenarios.{IsScenario, IsNaming}
+use Rattle.block_core.specs.Scenarios.{InEveryRun}
 
 -- The writes of all that is at work are such:
 pub record AllAtWork (IsSuch : ℕ → Type 0) (scene : Scene) (state : State) : Type 0 where
@@ -29,5 +27,4 @@ IsOfPresent s state write = round_of s.rounds write ≡ state.objects.tally.roun
 
 -- after every event of every run of every scenario: nothing of an earlier round is left when a round starts
 abbrev pub WorkIsPresent : Type 0
-WorkIsPresent = (s : Scenario) (ledger : ℕ → LedgerId) (events : List Event) (state : State) → IsScenario s → IsNaming ledger
-    → IsRun (scene s ledger) (start s) events state → AllAtWork (IsOfPresent s state) (scene s ledger) state
+WorkIsPresent = InEveryRun (λ s ledger events state. AllAtWork (IsOfPresent s state) (scene s ledger) state)

@@ -1,18 +1,16 @@
 -- That the books of writers always have room: how many nodes are still to be opened.
-use Rattle.std.specs.Prelude.{◌≡◌, ◌+◌, ◌*◌, ◌≤◌, ℕ, List, length, sum_by}
+use Rattle.std.specs.Prelude.{◌≡◌, ◌+◌, ◌*◌, ◌≤◌, ℕ, length, sum_by}
 use Rattle.std.specs.List.{range_with_len}
-use Rattle.elem_ledger.specs.Ledger.{LedgerId}
 use Rattle.stack_base.specs.declared.ids.Range.{Range}
 use Rattle.stack_base.specs.Tree.{Tree, Leaf, Split, Mirrored}
 use Rattle.layout_model.specs.Need.{needed}
 use Rattle.bio_records.specs.declared.bio.Bio.{Bio}
-use Rattle.run_machine.specs.declared.event.Event.{Event}
 use Rattle.run_machine.specs.Scene.{Setup, Scene, tree_at}
 use Rattle.run_machine.specs.Tasks.{Todo}
-use Rattle.run_machine.specs.Opened.{Scenario, scene, start}
-use Rattle.run_machine.specs.Runs.{State, IsRun}
+use Rattle.run_machine.specs.Opened.{scene, start}
+use Rattle.run_machine.specs.Runs.{State}
 use Rattle.block_core.specs.Weights.{Weight, Spot, Lined, Rescued, Pending, Brought, total_weight, one, legs_left, no_weight}
-use Rattle.block_core.specs.Scenarios.{IsScenario, IsNaming}
+use Rattle.block_core.specs.Scenarios.{InEveryRun}
 
 -- the nodes that a bio at its device still needs
 abbrev pub need_at : Setup → Bio → ℕ
@@ -55,5 +53,4 @@ pub record HasRoomInBooks (scene : Scene) (state : State) : Type 0 where
 
 -- after every event of every run of every scenario
 abbrev pub BooksHaveRoom : Type 0
-BooksHaveRoom = (s : Scenario) (ledger : ℕ → LedgerId) (events : List Event) (state : State) → IsScenario s → IsNaming ledger
-    → IsRun (scene s ledger) (start s) events state → HasRoomInBooks (scene s ledger) state
+BooksHaveRoom = InEveryRun (λ s ledger events state. HasRoomInBooks (scene s ledger) state)

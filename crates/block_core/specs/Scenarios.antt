@@ -7,7 +7,9 @@ use Rattle.stack_base.specs.declared.stack.Kind.TheVariants.{Disk, Linear, Strip
 use Rattle.stack_base.specs.Stack.{IsStack}
 use Rattle.layout_model.specs.declared.write.Write.{Write}
 use Rattle.layout_model.specs.Writes.{IsWrite}
-use Rattle.run_machine.specs.Opened.{Change, Scenario}
+use Rattle.run_machine.specs.declared.event.Event.{Event}
+use Rattle.run_machine.specs.Opened.{Change, Scenario, scene, start}
+use Rattle.run_machine.specs.Runs.{State, IsRun}
 
 -- what an accepted text means: its stack is one, and serves its writes, whose writers have numbers below 8, and each write has a round
 pub record IsScenario (s : Scenario) : Type 0 where
@@ -19,6 +21,11 @@ pub record IsScenario (s : Scenario) : Type 0 where
 -- the ledger of each pool has the pool's number
 abbrev pub IsNaming : (ℕ → LedgerId) → Type 0
 IsNaming ledger = (number : ℕ) → (ledger number).no ≡ number
+
+-- so it is after every event of every run of every scenario
+abbrev pub InEveryRun : (Scenario → (ℕ → LedgerId) → List Event → State → Type 0) → Type 0
+InEveryRun Holds = (s : Scenario) (ledger : ℕ → LedgerId) (events : List Event) (state : State) → IsScenario s → IsNaming ledger
+    → IsRun (scene s ledger) (start s) events state → Holds s ledger events state
 
 -- the rounds of writes do not fall: each is at most any later one
 abbrev pub AreSorted : List ℕ → Type 0
