@@ -11,11 +11,12 @@ use Rattle.block_core.specs.Scenarios.{InEveryRun}
 use Rattle.block_core.specs.Rounds.{round_of, unfinished_of}
 use Rattle.block_core.specs.Weights.{Weight, total_weight, one}
 
--- how often events tell a write done
+-- 1 where an event tells the write done
 abbrev pub done_in : ℕ → What → ℕ
 done_in write (what.Done other status) = one other write
 done_in write what = 0
 
+-- how often events tell a write done
 abbrev pub times_done : ℕ → List Event → ℕ
 times_done write [] = 0
 times_done write (event ∷ events) = done_in write event.what + times_done write events
@@ -41,11 +42,12 @@ StatusesAreTold events state = (event : Event) (write : ℕ) (status : Status) �
 abbrev pub AllAreDone : Scenario → List Event → Type 0
 AllAreDone s events = (write : ℕ) → write < length s.writes → times_done write events ≡ 1
 
--- a write that is told done next is of the present round, and a round that starts next is the one behind it
+-- a write that is told done next is of the present round
 abbrev pub DonesArePresent : Scenario → (ℕ → LedgerId) → State → Type 0
 DonesArePresent s ledger state = (event : Event) (new : State) → Happens (scene s ledger) state event new → (write : ℕ) (status : Status) → event.what ≡ what.Done write status
     → round_of s.rounds write ≡ state.objects.tally.round
 
+-- a round that starts next is the one behind it
 abbrev pub RoundsAreNext : Scenario → (ℕ → LedgerId) → State → Type 0
 RoundsAreNext s ledger state = (event : Event) (new : State) → Happens (scene s ledger) state event new → (round : ℕ) → event.what ≡ what.Round round
     → round ≡ state.objects.tally.round + 1

@@ -81,13 +81,15 @@ FragmentsAddUp = (s : Scenario) (ledger : ℕ → LedgerId) (events : List Event
     → sum_by value (completed (scene s ledger) (start s) events state run) + total_weight (scene s ledger) (to_come (setup s) value) state
     ≡ sum_by value (planned s)
 
--- how often a fragment is among these
+-- whether two fragments are the same in all that they have
 abbrev pub equal_fragments : Fragment → Fragment → Bool
 equal_fragments f g = f.write == g.write && f.offset == g.offset && f.len == g.len && f.disk.0 == g.disk.0 && f.at == g.at
 
+-- 1 where the second is the first
 abbrev pub is_it : Fragment → Fragment → ℕ
 is_it f g = if equal_fragments f g then 1 else 0
 
+-- how often a fragment is among these
 abbrev pub fragment_count : Fragment → List Fragment → ℕ
 fragment_count f fragments = sum_by (is_it f) fragments
 
