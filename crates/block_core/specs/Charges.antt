@@ -67,9 +67,9 @@ leg_charge price (Mirrored number sizes members) range leg = cost price PieceBio
 abbrev pub legs_charge : (Paid → ℕ) → Setup → Bio → ℕ → ℕ
 legs_charge price setup bio leg = sum_by (leg_charge price (tree_at setup bio.dev) bio.range) (range_with_len leg (legs_left setup bio leg))
 
-abbrev pub there : {X : Type 0} → Option X → ℕ
-there None = 0
-there (Some x) = 1
+abbrev pub one_if_some : {X : Type 0} → Option X → ℕ
+one_if_some None = 0
+one_if_some (Some x) = 1
 
 -- a write that is still to begin, whether it has its bio, and whether it has its vector too
 abbrev pub write_run : (Paid → ℕ) → Setup → Todo → ℕ

@@ -9,11 +9,11 @@ use Rattle.run_machine.specs.Opened.{Scenario, scene}
 use Rattle.run_machine.specs.Runs.{State, Happens, unfinished}
 use Rattle.block_core.specs.Scenarios.{InEveryRun}
 use Rattle.block_core.specs.Rounds.{round_of, unfinished_of}
-use Rattle.block_core.specs.Weights.{Weight, total_weight, one}
+use Rattle.block_core.specs.Weights.{Weight, total_weight, one_if_same}
 
 -- 1 where an event tells the write done
 abbrev pub done_in : ℕ → What → ℕ
-done_in write (what.Done other status) = one other write
+done_in write (what.Done other status) = one_if_same other write
 done_in write what = 0
 
 -- how often events tell a write done
@@ -27,7 +27,7 @@ EachIsDoneOnce = InEveryRun (λ s ledger events state. (write : ℕ) → times_d
 
 -- the write with this number, while it is to be begun, or its top node is open, or what is left of that is carried
 abbrev pub unfinished_write : ℕ → Weight
-unfinished_write write = unfinished_of (λ number. one number write)
+unfinished_write write = unfinished_of (λ number. one_if_same number write)
 
 -- a write is unfinished until it is told done: it is the one or was the other, once
 abbrev pub DoneOrUnfinished : Scenario → (ℕ → LedgerId) → List Event → State → Type 0

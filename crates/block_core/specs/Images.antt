@@ -36,13 +36,13 @@ abbrev pub writes_at : Scenario → Fragment → ℕ → ℕ → Bool
 writes_at s f disk at = lies_at f disk at && status_eq (fault_of s.stack f) status.Ok
 
 -- what the sector holds then: the data of that sector of the write, or what it held before
-abbrev pub put : Scenario → ℕ → ℕ → Fragment → List ℕ → List ℕ
-put s disk at f held = if writes_at s f disk at then sector_data (tag_of s f.write) (f.offset + (at - f.at)) else held
+abbrev pub sector_after : Scenario → ℕ → ℕ → Fragment → List ℕ → List ℕ
+sector_after s disk at f held = if writes_at s f disk at then sector_data (tag_of s f.write) (f.offset + (at - f.at)) else held
 
 -- and after all of these, one after the other
 abbrev pub held_after : Scenario → ℕ → ℕ → List Fragment → List ℕ → List ℕ
 held_after s disk at [] held = held
-held_after s disk at (f ∷ fragments) held = held_after s disk at fragments (put s disk at f held)
+held_after s disk at (f ∷ fragments) held = held_after s disk at fragments (sector_after s disk at f held)
 
 -- Each sector of each disk holds the data of the last fragment without a fault there that the run has completed, and zeros where there is
 -- none.

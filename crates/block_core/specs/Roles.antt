@@ -12,7 +12,7 @@ use Rattle.run_machine.specs.Tasks.{Completer, Carries}
 use Rattle.run_machine.specs.Runs.{State}
 use Rattle.block_core.specs.EachBio.{EachBio, EachCopied}
 use Rattle.block_core.specs.Touches.{is_master}
-use Rattle.block_core.specs.Weights.{Weight, total_weight, one, names_node, under, legs_left, no_weight}
+use Rattle.block_core.specs.Weights.{Weight, total_weight, one_if_same, names_node, under, legs_left, no_weight}
 
 abbrev pub is_leg : Role → Bool
 is_leg role.Top = false
@@ -41,7 +41,7 @@ children was_master w k = record no_weight {
 
 -- the legs that are still to be made of it
 abbrev pub legs_to_make : Setup → ℕ → ℕ → Weight
-legs_to_make setup w k = record no_weight { copy = λ bio master leg. one bio.writer w * one master k * legs_left setup bio leg }
+legs_to_make setup w k = record no_weight { copy = λ bio master leg. one_if_same bio.writer w * one_if_same master k * legs_left setup bio leg }
 
 -- where a node's own part is, by what the node keeps: it is away, in the one bio that names the node, or it is in the node, while a master stands
 -- for it, or has been dropped

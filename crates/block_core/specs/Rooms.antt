@@ -9,7 +9,7 @@ use Rattle.run_machine.specs.Scene.{Setup, Scene, tree_at}
 use Rattle.run_machine.specs.Tasks.{Todo}
 use Rattle.run_machine.specs.Opened.{scene, start}
 use Rattle.run_machine.specs.Runs.{State}
-use Rattle.block_core.specs.Weights.{Weight, Spot, Lined, Rescued, Pending, Brought, total_weight, one, legs_left, no_weight}
+use Rattle.block_core.specs.Weights.{Weight, Spot, Lined, Rescued, Pending, Brought, total_weight, one_if_same, legs_left, no_weight}
 use Rattle.block_core.specs.Scenarios.{InEveryRun}
 
 -- the nodes that a bio at its device still needs
@@ -39,10 +39,10 @@ todo_need setup todo = 1 + needed (tree_at setup todo.write.dev) todo.write.star
 -- the nodes that are open in the book of writer w, and those that its writes have still to open there
 abbrev pub room : Setup → ℕ → Weight
 room setup w = record no_weight {
-  todo = λ writer todos taken. one writer w * sum_by (todo_need setup) todos;
-  bio = λ spot item. one item.bio.writer w * to_open setup spot item.bio;
-  copy = λ bio master leg. one bio.writer w * legs_need setup bio leg;
-  node = λ writer place node. one writer w;
+  todo = λ writer todos taken. one_if_same writer w * sum_by (todo_need setup) todos;
+  bio = λ spot item. one_if_same item.bio.writer w * to_open setup spot item.bio;
+  copy = λ bio master leg. one_if_same bio.writer w * legs_need setup bio leg;
+  node = λ writer place node. one_if_same writer w;
 }
 
 pub record HasRoomInBooks (scene : Scene) (state : State) : Type 0 where

@@ -5,12 +5,12 @@ use Rattle.bio_books.specs.declared.node.Role.TheVariants as role
 use Rattle.run_machine.specs.Scene.{Scene}
 use Rattle.run_machine.specs.Tasks.{Todo, Gathered, NoBio, HasBio, HasBoth}
 use Rattle.run_machine.specs.Runs.{State}
-use Rattle.block_core.specs.Weights.{Weight, total_weight, one, no_weight}
+use Rattle.block_core.specs.Weights.{Weight, total_weight, one_if_same, no_weight}
 pub use Rattle.layout_model.specs.Laid.{round_of}
 
 -- 1 where a write is of this round
 abbrev pub is_of_round : List ℕ → ℕ → ℕ → ℕ
-is_of_round rounds round write = one (round_of rounds write) round
+is_of_round rounds round write = one_if_same (round_of rounds write) round
 
 abbrev pub tops : Role → ℕ
 tops role.Top = 1

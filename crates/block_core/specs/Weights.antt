@@ -12,8 +12,8 @@ use Rattle.run_machine.specs.Tasks.{Todo, Gathered, NoBio, HasBio, HasBoth, Carr
 use Rattle.run_machine.specs.Runs.{State}
 
 -- 1 where two numbers are the same
-unfoldable pub one : ℕ → ℕ → ℕ
-one i j = if i == j then 1 else 0
+unfoldable pub one_if_same : ℕ → ℕ → ℕ
+one_if_same i j = if i == j then 1 else 0
 
 -- the sum of the weights of the places below n
 unfoldable pub sum_at : {X : Type 0} → (ℕ → X → ℕ) → ℕ → (ℕ → X) → ℕ
@@ -111,30 +111,30 @@ total_weight scene w s =
 -- the elements of pool p
 abbrev pub holding_elements : ℕ → Holding → ℕ
 holding_elements p held =
-    weigh_option (λ (bio : Item Pad). one bio.share.no p) held.bio
-    + weigh_option (λ (vector : VectorItem). one vector.share.no p) held.vector
-    + weigh_option (λ (slip : SlipItem). one slip.share.no p) held.slip
+    weigh_option (λ (bio : Item Pad). one_if_same bio.share.no p) held.bio
+    + weigh_option (λ (vector : VectorItem). one_if_same vector.share.no p) held.vector
+    + weigh_option (λ (slip : SlipItem). one_if_same slip.share.no p) held.slip
 
 abbrev pub elements_of_pool : ℕ → Weight
 elements_of_pool p = record {
   todo = λ writer todos taken. 0;
-  bio = λ spot bio. one bio.share.no p;
+  bio = λ spot bio. one_if_same bio.share.no p;
   copy = λ bio master leg. 0;
-  hand = λ bio. one bio.share.no p;
-  vector = λ vector. one vector.share.no p;
-  slip = λ slip. one slip.share.no p;
+  hand = λ bio. one_if_same bio.share.no p;
+  vector = λ vector. one_if_same vector.share.no p;
+  slip = λ slip. one_if_same slip.share.no p;
   node = λ writer place node. holding_elements p node.held;
   closed = λ task writer closed. holding_elements p closed.held;
 }
 
 -- 1 where the bio names the node at place k of writer w's book
 abbrev pub names_node : ℕ → ℕ → Item Pad → ℕ
-names_node w k bio = one bio.bio.writer w * one bio.bio.node k
+names_node w k bio = one_if_same bio.bio.writer w * one_if_same bio.bio.node k
 
 -- 1 where the node is the parent of one of this writer
 abbrev pub under : ℕ → ℕ → ℕ → Option ℕ → ℕ
 under w k writer None = 0
-under w k writer (Some parent) = one writer w * one parent k
+under w k writer (Some parent) = one_if_same writer w * one_if_same parent k
 
 -- the legs of a bio's device that are still to be made, from this one on
 abbrev pub legs_left : Setup → Bio → ℕ → ℕ

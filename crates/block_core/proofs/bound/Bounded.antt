@@ -25,7 +25,7 @@ use Rattle.block_core.proofs.bound.EventCharges.{lowers}
 use Rattle.block_core.proofs.bound.SpentCharges.{covers}
 use Rattle.block_core.proofs.bound.ChargesAtStart.{start_charge, start_spent}
 use Rattle.block_core.proofs.bound.PayerCounts.{few_costs}
-use Rattle.block_core.proofs.sound.EveryRun.{Whole, runs_whole, start_whole}
+use Rattle.block_core.proofs.sound.EveryRun.{IsReachedWhole, runs_whole, start_whole}
 
 -- where each event costs one, they cost as much as there are
 costs_length : (scene : Scene) (was_master : ℕ → Bool) (s : State) (events : List Event) (new : State) (run : IsRun scene s events new)
@@ -52,7 +52,7 @@ one_price was_master scene s =
 
 module _ (scene : Scene) (f : LedgersAreNumbered scene) (g : DeviceGeometry scene.setup) (p : (price : Paid → ℕ) → Priced price scene.setup) where
   -- one event
-  step_costs : (price : Paid → ℕ) (was_master : ℕ → Bool) (s : State) (place : ℕ) (event : Event) (new : State) → Whole scene s → Steps scene s place event new
+  step_costs : (price : Paid → ℕ) (was_master : ℕ → Bool) (s : State) (place : ℕ) (event : Event) (new : State) → IsReachedWhole scene s → Steps scene s place event new
       → price (paid_as (end_told (was_master place) (s.task place)) event.what) + charged price (masters_after s place (touch_of event.what) was_master) scene new + spent_charges price scene s
       ≤ charged price was_master scene s + spent_charges price scene new
   step_costs price was_master s place event new i steps =
@@ -67,7 +67,7 @@ module _ (scene : Scene) (f : LedgersAreNumbered scene) (g : DeviceGeometry scen
       omega (arith, low, charges, spends, pays)
 
   -- and all of them
-  pub runs_cost : (price : Paid → ℕ) (was_master : ℕ → Bool) (s : State) (events : List Event) (new : State) → Whole scene s → (run : IsRun scene s events new)
+  pub runs_cost : (price : Paid → ℕ) (was_master : ℕ → Bool) (s : State) (events : List Event) (new : State) → IsReachedWhole scene s → (run : IsRun scene s events new)
       → costs price scene was_master s events new run + charged price (were_masters scene s events new run was_master) scene new + spent_charges price scene s
       ≤ charged price was_master scene s + spent_charges price scene new
   runs_cost price was_master s [] new i run =
@@ -83,7 +83,7 @@ module _ (scene : Scene) (f : LedgersAreNumbered scene) (g : DeviceGeometry scen
       )
 
   -- they use up as much of what is open as they cost
-  pub runs_use_up : (price : Paid → ℕ) (was_master : ℕ → Bool) (s : State) (events : List Event) (new : State) → Whole scene s → Whole scene new → (run : IsRun scene s events new)
+  pub runs_use_up : (price : Paid → ℕ) (was_master : ℕ → Bool) (s : State) (events : List Event) (new : State) → IsReachedWhole scene s → IsReachedWhole scene new → (run : IsRun scene s events new)
       → costs price scene was_master s events new run + open_charges price (were_masters scene s events new run was_master) scene new ≤ open_charges price was_master scene s
   runs_use_up price was_master s events new i j run =
       omega (

@@ -16,7 +16,7 @@ use Rattle.run_machine.specs.Scene.{Setup, tree_at}
 use Rattle.run_machine.specs.Submissions.{copies, legs_of}
 use Rattle.run_machine.specs.Tasks.{Todo, Gathered, NoBio, HasBio, HasBoth, Carried, Empty, Brings, Carries, Fails}
 use Rattle.block_core.specs.Weights.{Weight, Spot, Lined, Rescued, Pending, Brought, submission_weight, carried_weight, no_weight}
-use Rattle.block_core.specs.Charges.{there}
+use Rattle.block_core.specs.Charges.{one_if_some}
 use Rattle.block_core.specs.Fragments.{todo_fragments, legs_come, leg_fragments}
 use Rattle.block_core.specs.Rooms.{need_at, leg_need, legs_need}
 use Rattle.block_core.proofs.moves.Moves.{Move, IsBare, TellsNode}
@@ -67,8 +67,8 @@ due setup = record no_weight {
   todo = λ writer todos taken. todos_due setup todos taken;
   bio = bio_due setup;
   copy = λ bio master leg. copy_due setup bio leg;
-  node = λ writer place node. 2 + there node.held.vector;
-  closed = λ task writer closed. 1 + there closed.held.bio + there closed.held.vector + there closed.held.slip;
+  node = λ writer place node. 2 + one_if_some node.held.vector;
+  closed = λ task writer closed. 1 + one_if_some closed.held.bio + one_if_some closed.held.vector + one_if_some closed.held.slip;
 }
 
 abbrev pub in_hand : Weight
@@ -112,15 +112,15 @@ carried_hand place (Carries writer closed) = refl
 carried_hand place (Fails breach kept) = refl
 
 -- a node that closes holds its bio, or its record
-there_away : (bio : Option (Item Pad)) → away bio ≡ 0 → there bio ≡ 1
+there_away : (bio : Option (Item Pad)) → away bio ≡ 0 → one_if_some bio ≡ 1
 there_away None h = absurd (omega (arith, h))
 there_away (Some bio) h = refl
 
-there_bare : (slip : Option SlipItem) → bare_slip slip ≡ 0 → there slip ≡ 1
+there_bare : (slip : Option SlipItem) → bare_slip slip ≡ 0 → one_if_some slip ≡ 1
 there_bare None h = absurd (omega (arith, h))
 there_bare (Some slip) h = refl
 
-holds_one : (r : Role) (bio : Option (Item Pad)) (slip : Option SlipItem) → own_part r bio ≡ 0 → odd_holding r bio slip ≡ 0 → there bio + there slip ≡ 1
+holds_one : (r : Role) (bio : Option (Item Pad)) (slip : Option SlipItem) → own_part r bio ≡ 0 → odd_holding r bio slip ≡ 0 → one_if_some bio + one_if_some slip ≡ 1
 holds_one role.Top bio slip own none = omega (arith, there_away bio own, none)
 holds_one (role.Chain parent) bio slip own none = omega (arith, there_away bio own, none)
 holds_one (role.Master parent) bio slip own none = omega (arith, there_bare slip (omega (arith, none)), none)
@@ -130,19 +130,19 @@ holds_one (role.Leg parent) bio slip own none = omega (arith, there_away bio own
 pub closes_one : (carried : Carried) (writer key : ℕ) (status : Status) (part : Option (Item Pad)) (node : Node) → TellsNode carried writer key status part
     → ((bio : Item Pad) (ending : Status) → carried ≡ Brings bio ending → (node.held.bio ≡ None) × (own_part node.role None ≡ 1))
     → 0 + brought carried ≡ own_of (Some node) → odd_holding node.role node.held.bio node.held.slip ≡ 0
-    → there (later_part node.held.bio part) + there node.held.slip ≡ 1
+    → one_if_some (later_part node.held.bio part) + one_if_some node.held.slip ≡ 1
 closes_one (Brings bio ending) writer key status part node t none own odd_none =
     let slip = by_role node.role node.held.bio node.held.slip (none bio ending refl).1 odd_none in
-    let is : there (later_part node.held.bio part) ≡ 1 = ap (λ p. there (later_part node.held.bio p)) t.3 in
+    let is : one_if_some (later_part node.held.bio part) ≡ 1 = ap (λ p. one_if_some (later_part node.held.bio p)) t.3 in
     omega (arith, is, slip)
   where
-    by_role : (r : Role) (held : Option (Item Pad)) (slip : Option SlipItem) → own_part r None ≡ 1 → odd_holding r held slip ≡ 0 → there slip ≡ 0
+    by_role : (r : Role) (held : Option (Item Pad)) (slip : Option SlipItem) → own_part r None ≡ 1 → odd_holding r held slip ≡ 0 → one_if_some slip ≡ 0
     by_role role.Top held slip own none = none
     by_role (role.Chain parent) held slip own none = none
     by_role (role.Master parent) held slip own none = absurd (omega (arith, own))
     by_role (role.Leg parent) held slip own none = none
 closes_one (Carries of closed) writer key status part node t none own odd_none =
-    let is : there (later_part node.held.bio part) ≡ there node.held.bio = ap (λ p. there (later_part node.held.bio p)) t.3 in
+    let is : one_if_some (later_part node.held.bio part) ≡ one_if_some node.held.bio = ap (λ p. one_if_some (later_part node.held.bio p)) t.3 in
     omega (arith, is, holds_one node.role node.held.bio node.held.slip (omega (arith, own)) odd_none)
 closes_one Empty writer key status part node t none own odd_none = absurd t
 closes_one (Fails breach kept) writer key status part node t none own odd_none = absurd t

@@ -30,7 +30,7 @@ use Rattle.block_core.proofs.moves.Moves as moves
 use Rattle.block_core.proofs.moves.Sums.{upd-same, upd-other}
 use Rattle.block_core.proofs.sound.Misplaced.{was_after}
 use Rattle.block_core.proofs.sound.Splitting.{IsSameButClosed, total_but}
-use Rattle.block_core.proofs.sound.Invariant.{TaskFits, Invariant}
+use Rattle.block_core.proofs.sound.Invariant.{TaskIsSound, Invariant}
 use Rattle.block_core.proofs.sound.Orders.{IsOwn, AskFits, TodoThere, TaskPlaced, Placed, DeviceGeometry}
 use Rattle.block_core.proofs.bound.TaskCharges.{charge_lands, copies_charge, pops_once, pops_not, punts_charge, later_charge, takes_spent, want_spends, new_spends, wants_below, on_tasks, on_submission, tells_charge, later_give, released_price}
 use Rattle.block_core.proofs.bound.PoolPayers.{is_write_bio, is_write_vector, is_piece_bio, is_record, leg_bio}
@@ -277,7 +277,7 @@ module _ (price : Paid → ℕ) (was_master : ℕ → Bool) (scene : Scene) (s :
       let d = placed_at scene.setup s a place x (Copies bio master leg (Links hand)) lists c.1 c.2 in
       let known = d.0.device in
       let few = g.few in
-      let lt = submission_fits scene x (Copies bio master leg (Links hand)) lists (subst (TaskFits scene) c.1 (i.tasks place)) c.2 in
+      let lt = submission_fits scene x (Copies bio master leg (Links hand)) lists (subst (TaskIsSound scene) c.1 (i.tasks place)) c.2 in
       let item = leg_at bio hand leg key (tree_at scene.setup bio.dev) in
       let more = submitted item lists in
       let first = leg_there scene.setup (limit_of x) g bio hand lists master leg key d lt in

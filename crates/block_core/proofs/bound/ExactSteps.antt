@@ -30,7 +30,7 @@ use Rattle.run_machine.specs.Submissions.{Submission}
 use Rattle.run_machine.specs.Tasks.{TaskState, Writer, Rescuer, Completer, Keeper, Todo, Gathered, NoBio, HasBio, HasBoth, Duty, Resizes, Starts, Empty, Brings, Carries, Fails}
 use Rattle.run_machine.specs.Opened.{Scenario, scene, start, todos, duties, keepers, setup as setup_in, writers}
 use Rattle.run_machine.specs.Runs.{State, IsRun}
-use Rattle.block_core.specs.Weights.{Weight, Rescued, Pending, total_weight, one, weigh_option, task_weight, book_weight, gathered_weight, elements_of_pool, under}
+use Rattle.block_core.specs.Weights.{Weight, Rescued, Pending, total_weight, one_if_same, weigh_option, task_weight, book_weight, gathered_weight, elements_of_pool, under}
 use Rattle.block_core.proofs.moves.References.{references}
 use Rattle.block_core.specs.Charges.{task_duties, duties_left}
 use Rattle.block_core.specs.Exact.{is_miss, NoneMissed, all_nodes, all_below, starts_round, StepsWithoutMisses}
@@ -42,7 +42,7 @@ use Rattle.block_core.proofs.sound.Invariant.{LedgersAreNumbered, Invariant}
 use Rattle.block_core.proofs.sound.Orders.{DeviceGeometry}
 use Rattle.block_core.proofs.start.InvariantAtStart.{Begins, total_zero, start_opened, todos_all}
 use Rattle.block_core.proofs.moves.Devices.{ground}
-use Rattle.block_core.proofs.sound.EveryRun.{Whole, step_whole, runs_whole, start_whole, run_tallied}
+use Rattle.block_core.proofs.sound.EveryRun.{IsReachedWhole, step_whole, runs_whole, start_whole, run_tallied}
 use Rattle.block_core.proofs.sound.RunInduction.{runs_keep}
 use Rattle.block_core.proofs.moves.StepMoves.{step_is_move}
 use Rattle.block_core.proofs.unrefused.NodeNeeds.{Needs, needs_known}
@@ -67,7 +67,7 @@ use Rattle.layout_model.proofs.RangeSums.{sum_of_zero, sum_of_one}
 
 -- all that a state is known to have
 pub record ExactInvariant (scene : Scene) (s : State) : Type 0 where
-  pub whole : Whole scene s
+  pub whole : IsReachedWhole scene s
   pub counted : total_weight scene (misfits over) s ≡ 0
   pub held : total_weight scene odd s ≡ 0
   pub none : NonePunts s
@@ -221,12 +221,12 @@ module _ (scene : Scene) (s : State) (i : Invariant scene s) (held : total_weigh
   no_closed : (place : ℕ) (disk : DevId) (writer : ℕ) (closed : Closed) → place < scene.tasks → s.task place ≡ Completer disk (Carries writer closed) → (parent : Option ℕ) → closed.parent ≡ parent → ⊥
   no_closed place disk writer closed lt is (Some parent) found =
       let refers : under writer parent writer closed.parent ≡ 1 =
-      ap (under writer parent writer) found ∙ (ap (λ n. n * one parent parent) (one-same writer) ∙ ap (λ n. 1 * n) (one-same parent)) in
+      ap (under writer parent writer) found ∙ (ap (λ n. n * one_if_same parent parent) (one-same writer) ∙ ap (λ n. 1 * n) (one-same parent)) in
       let up = open_at scene s i writer parent (omega (arith, refers, task_part scene (references scene.setup writer parent) s place (Completer disk (Carries writer closed)) lt is)) in
       no_node writer parent up.0 up.1
   no_closed place disk writer closed lt is None found =
       let r : ℕ = round_of rounds closed.write in
-      let worth_one : tops_left closed.parent * one r r ≡ 1 = ap (λ parent. tops_left parent * one r r) found ∙ omega (arith, one-same r) in
+      let worth_one : tops_left closed.parent * one_if_same r r ≡ 1 = ap (λ parent. tops_left parent * one_if_same r r) found ∙ omega (arith, one-same r) in
       omega (arith, worth_one, left r, task_part scene (unfinished_of (is_of_round rounds r)) s place (Completer disk (Carries writer closed)) lt is)
 
   no_taken : (taken : Gathered) → ((p : ℕ) → gathered_weight (elements_of_pool p) taken ≡ 0) → gathered_weight in_hand taken ≡ 0
@@ -296,5 +296,5 @@ steps_without_misses s ledger events state good naming run ended all =
       no_duties_left s good ledger naming events state run ended.writes,
     )
   where
-    runs_odd : (sc : Scene) → LedgersAreNumbered sc → DeviceGeometry sc.setup → (st : State) (events : List Event) (new : State) → Whole sc st → total_weight sc odd st ≡ 0 → IsRun sc st events new → total_weight sc odd new ≡ 0
+    runs_odd : (sc : Scene) → LedgersAreNumbered sc → DeviceGeometry sc.setup → (st : State) (events : List Event) (new : State) → IsReachedWhole sc st → total_weight sc odd st ≡ 0 → IsRun sc st events new → total_weight sc odd new ≡ 0
     runs_odd sc f g st events new i none run = runs_keep sc f g (λ x. total_weight sc odd x ≡ 0) (λ old m before after can none. none_odd sc old before.kept none m can) st events new i none run

@@ -13,7 +13,7 @@ use Rattle.run_machine.specs.Scene.{Scene, tree_at}
 use Rattle.run_machine.specs.Submissions.{ToMaster, Drives, first_length, legs_of, leg_at}
 use Rattle.run_machine.specs.Tasks.{Carried, Empty, Brings, Carries, Fails}
 use Rattle.run_machine.specs.Runs.{State}
-use Rattle.block_core.specs.Charges.{there}
+use Rattle.block_core.specs.Charges.{one_if_some}
 use Rattle.block_core.specs.Roles.{named}
 use Rattle.block_core.specs.Weights.{Weight, total_weight, no_weight}
 use Rattle.block_core.proofs.moves.Moves.{Move, Can, after, limit_of, filled_of, cut_lists, TellsNode}
@@ -27,10 +27,10 @@ use Rattle.block_core.proofs.images.MasterRecords.{bare_slip, zeros}
 
 -- how much of what a node of a role holds is not as its role has it
 abbrev pub odd_holding : Role → Option (Item Pad) → Option SlipItem → ℕ
-odd_holding role.Top bio slip = there slip
-odd_holding (role.Chain parent) bio slip = there slip
-odd_holding (role.Master parent) bio slip = there bio + bare_slip slip
-odd_holding (role.Leg parent) bio slip = there slip
+odd_holding role.Top bio slip = one_if_some slip
+odd_holding (role.Chain parent) bio slip = one_if_some slip
+odd_holding (role.Master parent) bio slip = one_if_some bio + bare_slip slip
+odd_holding (role.Leg parent) bio slip = one_if_some slip
 
 abbrev pub odd : Weight
 odd = record no_weight { node = λ writer place node. odd_holding node.role node.held.bio node.held.slip }

@@ -8,7 +8,7 @@ use Rattle.run_machine.specs.Runs.{State}
 use Rattle.block_core.specs.Weights.{Weight, sum_at, doing_weight, task_weight}
 use Rattle.block_core.specs.Charges.{charge, want_spent, doing_spent, task_spent, charged, spent_charges}
 use Rattle.block_core.specs.Payers.{Paid, PieceBio, cost}
-use Rattle.block_core.proofs.sound.Invariant.{TaskFits, DoingFits, Invariant}
+use Rattle.block_core.proofs.sound.Invariant.{TaskIsSound, DoingFits, Invariant}
 use Rattle.block_core.proofs.sound.Orders.{DoingPlaced, TaskPlaced, Placed}
 use Rattle.block_core.proofs.bound.DeviceCharges.{Priced, mirror_charge, cut_needs, legs_next, leg_some}
 
@@ -33,7 +33,7 @@ module _ (price : Paid → ℕ) (was_master : ℕ → Bool) (scene : Scene) (s :
   doing_covers limit (Copies bio master leg want) lists d f =
       omega (arith, want_covers want, legs_next price (tree_at scene.setup bio.dev) bio.range leg f, leg_some price (tree_at scene.setup bio.dev) bio.range leg f)
 
-  task_covers : (place : ℕ) (x : TaskState) → TaskPlaced scene.setup x → TaskFits scene x → task_spent price x ≤ task_weight w place x
+  task_covers : (place : ℕ) (x : TaskState) → TaskPlaced scene.setup x → TaskIsSound scene x → task_spent price x ≤ task_weight w place x
   task_covers place (Writer number todo taken submission) t f = let b = doing_covers 32 submission.doing submission.lists t.1 f.1 in omega arith
   task_covers place (Rescuer dev submission) t f = let b = doing_covers dev.0 submission.doing submission.lists t f.1 in omega arith
   task_covers place (Completer disk carried) t f = omega arith

@@ -16,12 +16,12 @@ use Rattle.run_machine.specs.Tasks.{Writer, Completer, Keeper, Keeps, Resizes, S
 use Rattle.run_machine.specs.Objects.{clear_bio, clear_vector, clear_slip}
 use Rattle.run_machine.specs.Runs.{State}
 use Rattle.block_core.specs.Weights.{Weight, Lined, total_weight}
-use Rattle.block_core.specs.Charges.{there, task_duties}
+use Rattle.block_core.specs.Charges.{one_if_some, task_duties}
 use Rattle.block_core.specs.Fragments.{leg_fragments}
 use Rattle.block_core.proofs.moves.Moves.{Move, Can, after, limit_of, with_want, filled_of, cut_lists}
 use Rattle.block_core.proofs.moves.Moves as moves
 use Rattle.block_core.proofs.moves.Deltas.{delta}
-use Rattle.block_core.proofs.sound.Invariant.{TaskFits, LedgersAreNumbered, Invariant}
+use Rattle.block_core.proofs.sound.Invariant.{TaskIsSound, LedgersAreNumbered, Invariant}
 use Rattle.block_core.proofs.sound.Orders.{AskFits, TaskPlaced, Placed, DeviceGeometry}
 use Rattle.block_core.proofs.sound.OrdersKept.{placed_at}
 use Rattle.block_core.proofs.sound.TaskSubmissions.{submission_fits}
@@ -182,7 +182,7 @@ module _ (scene : Scene) (s : State) (f : LedgersAreNumbered scene) (g : DeviceG
   takes_one (moves.Legged place x bio lists master leg hand key node) c h =
       let m : Move = moves.Legged place x bio lists master leg hand key node in
       let d = placed_at scene.setup s a place x (Copies bio master leg (Links hand)) lists c.1 c.2 in
-      let lt = submission_fits scene x (Copies bio master leg (Links hand)) lists (subst (TaskFits scene) c.1 (i.tasks place)) c.2 in
+      let lt = submission_fits scene x (Copies bio master leg (Links hand)) lists (subst (TaskIsSound scene) c.1 (i.tasks place)) c.2 in
       let item = leg_at bio hand leg key (tree_at scene.setup bio.dev) in
       let more = submitted item lists in
       let legs = legs_of (tree_at scene.setup bio.dev) in
@@ -241,7 +241,7 @@ module _ (scene : Scene) (s : State) (f : LedgersAreNumbered scene) (g : DeviceG
   -- ends of writes
   takes_one (moves.Ends place disk writer closed) c h =
       let m : Move = moves.Ends place disk writer closed in
-      let none : there closed.held.bio + there closed.held.vector + there closed.held.slip ≡ 0 = rw (c.2) refl in
+      let none : one_if_some closed.held.bio + one_if_some closed.held.vector + one_if_some closed.held.slip ≡ 0 = rw (c.2) refl in
       omega (arith, delta scene w s m c, delta scene in_hand s m c, none, on_tasks task_duties scene s place (Completer disk (Carries writer closed)) (Completer disk Empty) c.0 c.1)
   -- resizes and rounds
   takes_one (moves.Resized place pool min later duties) c h =

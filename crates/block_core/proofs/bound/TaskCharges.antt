@@ -19,7 +19,7 @@ use Rattle.run_machine.specs.Submissions.{Want, Takes, ToPush, ToCut, ToRecord, 
 use Rattle.run_machine.specs.Tasks.{TaskState, Writer, Rescuer, Completer, Keeper, Todo, NoBio, Carried, Empty, Brings, Carries, Fails}
 use Rattle.run_machine.specs.Runs.{State}
 use Rattle.block_core.specs.Weights.{Rescued, Lined, sum_at, submission_weight, carried_weight}
-use Rattle.block_core.specs.Charges.{may_pop, bio_charge, legs_charge, there, write_charge, todo_charge, end_charge, give_charge, held_charge, close_charge, charge, want_spent, doing_spent, task_spent, task_duties, task_charge}
+use Rattle.block_core.specs.Charges.{may_pop, bio_charge, legs_charge, one_if_some, write_charge, todo_charge, end_charge, give_charge, held_charge, close_charge, charge, want_spent, doing_spent, task_spent, task_duties, task_charge}
 use Rattle.block_core.specs.Paying.{end_carried}
 use Rattle.block_core.specs.Payers.{payer_at, Paid, MissesAtOnce, IsPunted, IsPopped}
 use Rattle.block_core.specs.Payers as paid
@@ -189,7 +189,7 @@ later_give price held None = omega arith
 later_give price held (Some part) = omega arith
 
 pub released_charge : (number : ℕ) (old new : Holding) → Releases old number new
-    → there new.bio + there new.vector + there new.slip + 1 ≡ there old.bio + there old.vector + there old.slip
+    → one_if_some new.bio + one_if_some new.vector + one_if_some new.slip + 1 ≡ one_if_some old.bio + one_if_some old.vector + one_if_some old.slip
 released_charge number old new (inl h) = rw (h.3, h.1) (omega arith)
 released_charge number old new (inr (inl h)) = rw (h.3, h.1) (omega arith)
 released_charge number old new (inr (inr h)) = rw (h.3, h.1) (omega arith)

@@ -6,7 +6,7 @@ use Rattle.run_machine.specs.Scene.{Scene}
 use Rattle.run_machine.specs.Runs.{State}
 use Rattle.run_machine.proofs.Turns.{Turn, behind}
 use Rattle.run_machine.proofs.cases.MirrorRun.{setup, mirror, start, ledger, begun}
-use Rattle.block_core.specs.Weights.{sum_at, one}
+use Rattle.block_core.specs.Weights.{sum_at, one_if_same}
 use Rattle.layout_model.specs.Need.{begun as begun_below, needed, ended, fragments_of, vectors}
 use Rattle.run_machine.specs.Tasks.{Resizes, Starts}
 use Rattle.stack_base.specs.declared.ids.PoolId.TheVariants.{FsBios}
@@ -36,7 +36,7 @@ module _ (some : LedgerId) where
   -- Five of the write's bio and 24 of its run: a take, a link, a take of the record, and with the link of the master the end of the bio falls away,
   -- which a mirror copies, with the attempt and the punt that the first leg does not need, since its first attempt waits; then the leg's take and link.
   of_the_mirror : ranks start (begun some) ≡ 29 ∷ 28 ∷ 27 ∷ 26 ∷ 22 ∷ 21 ∷ 20 ∷ []
-  unfolding sum_at one upd begun_charge run_charge
+  unfolding sum_at one_if_same upd begun_charge run_charge
   of_the_mirror = refl
 
 -- a write's own events, as the table has them

@@ -16,7 +16,7 @@ use Rattle.run_machine.specs.Maps.{upd}
 use Rattle.run_machine.specs.Scene.{Scene}
 use Rattle.run_machine.specs.Opened.{no_task}
 use Rattle.run_machine.specs.Runs.{State}
-use Rattle.block_core.specs.Weights.{sum_at, one, total_weight}
+use Rattle.block_core.specs.Weights.{sum_at, one_if_same, total_weight}
 use Rattle.block_core.proofs.moves.References.{references, awaited_ends}
 use Rattle.block_core.specs.Roles.{named, HasRoles}
 use Rattle.block_core.specs.Touches.{touch_of, masters_after, none_was}
@@ -65,11 +65,11 @@ module _ (ledger : ℕ → LedgerId) (share : LedgerId) where
 
   -- the node waits for as many ends as refer to it
   counts : awaited_ends (node_at (state.objects.book 0) 0) ≡ total_weight scene (references scene.setup 0 0) state
-  unfolding sum_at one
+  unfolding sum_at one_if_same
   counts = refl
 
   twice : total_weight scene (named 0 0) state ≡ 2
-  unfolding sum_at one
+  unfolding sum_at one_if_same
   twice = refl
 
   -- but its own part is in two places

@@ -19,7 +19,7 @@ use Rattle.block_core.specs.EachBio.{DoingHas, SubmissionHas, CarriedHas, TaskHa
 use Rattle.block_core.specs.OfOneWrite.{AreOfOneWrite}
 use Rattle.block_core.specs.Roles.{named, masters, children, legs_to_make, WaitsForParts, IsUnderOpen, HasRoles}
 use Rattle.block_core.specs.Touches.{is_master}
-use Rattle.block_core.specs.Weights.{Weight, Spot, Lined, Rescued, Pending, Brought, total_weight, one, weigh_option, want_weight, ask_weight, doing_weight, submission_weight, gathered_weight, carried_weight, task_weight, book_weight, under, legs_left}
+use Rattle.block_core.specs.Weights.{Weight, Spot, Lined, Rescued, Pending, Brought, total_weight, one_if_same, weigh_option, want_weight, ask_weight, doing_weight, submission_weight, gathered_weight, carried_weight, task_weight, book_weight, under, legs_left}
 use Rattle.block_core.proofs.moves.References.{references, awaited_ends}
 use Rattle.block_core.proofs.moves.Sums.{same_or_not, one-other}
 use Rattle.block_core.proofs.sound.Splitting.{total_sum}
@@ -133,11 +133,11 @@ all_parts false (Some item) count bios standing below legs (own, none, is) = ome
 
 module _ (scene : Scene) (s : State) (was_master : ℕ → Bool) (roles : HasRoles scene was_master s) (w k : ℕ) where
   -- what refers to an open node refers to another place than a vacant one
-  elsewhere : node_at (s.objects.book w) k ≡ None → (writer place : ℕ) (is : Bool) → IsUnderOpen s writer place is → one writer w * one place k ≡ 0
+  elsewhere : node_at (s.objects.book w) k ≡ None → (writer place : ℕ) (is : Bool) → IsUnderOpen s writer place is → one_if_same writer w * one_if_same place k ≡ 0
   elsewhere none writer place is (above, at, kind) = elim (same_or_not writer w) [
-    | inr ne ↦ let z = one-other writer w ne in omega (arith, ap (λ n. n * one place k) z)
+    | inr ne ↦ let z = one-other writer w ne in omega (arith, ap (λ n. n * one_if_same place k) z)
     | inl e ↦ elim (same_or_not place k) [
-      | inr ne ↦ let z = one-other place k ne in omega (arith, ap (λ n. one writer w * n) z)
+      | inr ne ↦ let z = one-other place k ne in omega (arith, ap (λ n. one_if_same writer w * n) z)
       | inl also ↦
           let here : node_at (s.objects.book w) k ≡ Some above = subst (λ b. node_at (s.objects.book b) k ≡ Some above) e (subst (λ b. node_at (s.objects.book writer) b ≡ Some above) also at) in
           let clash : None ≡ Some above = sym none ∙ here in absurd cc

@@ -17,7 +17,7 @@ use Rattle.run_machine.proofs.cases.MirrorRun.{setup, mirror, todo, start, ledge
 use Rattle.block_core.specs.Touches.{touch_of}
 use Rattle.block_core.specs.NodeBios.{bios_after, no_bios}
 use Rattle.block_core.specs.Values.{BioMayEnd, IsAllowed, Decides}
-use Rattle.block_core.specs.Weights.{Weight, sum_at, one, total_weight}
+use Rattle.block_core.specs.Weights.{Weight, sum_at, one_if_same, total_weight}
 use Rattle.block_core.proofs.status.Marks.{leg_may, todo_may, Mark, unallowed, deciding}
 
 -- the first disk is bad, and the second ends so
@@ -81,29 +81,29 @@ module _ (some : LedgerId) where
 
   -- no end comes where it must not, behind each event
   well_fits : fits Ok Ok ≡ 0 ∷ 0 ∷ 0 ∷ 0 ∷ 0 ∷ 0 ∷ 0 ∷ []
-  unfolding sum_at one upd each plan may_end some_may_end
+  unfolding sum_at one_if_same upd each plan may_end some_may_end
   well_fits = refl
 
   medium_fits : fits Ok Medium ≡ 0 ∷ 0 ∷ 0 ∷ 0 ∷ 0 ∷ 0 ∷ 0 ∷ []
-  unfolding sum_at one upd each plan may_end some_may_end
+  unfolding sum_at one_if_same upd each plan may_end some_may_end
   medium_fits = refl
 
   -- the second leg will mark the master, once this is there, and nothing makes the top node fail
   master_is_marked : decide Ok true 1 ≡ 0 ∷ 0 ∷ 0 ∷ 0 ∷ 1 ∷ 1 ∷ 1 ∷ []
-  unfolding sum_at one upd each plan may_end some_may_end
+  unfolding sum_at one_if_same upd each plan may_end some_may_end
   master_is_marked = refl
 
   top_is_well : decide Ok false 0 ≡ 0 ∷ 0 ∷ 0 ∷ 0 ∷ 0 ∷ 0 ∷ 0 ∷ []
-  unfolding sum_at one upd each plan may_end some_may_end
+  unfolding sum_at one_if_same upd each plan may_end some_may_end
   top_is_well = refl
 
   -- with both disks bad no leg will, and the top node is told of a failure, by its bio and then by the master
   master_is_not : decide NoSpace true 1 ≡ 0 ∷ 0 ∷ 0 ∷ 0 ∷ 0 ∷ 0 ∷ 0 ∷ []
-  unfolding sum_at one upd each plan may_end some_may_end
+  unfolding sum_at one_if_same upd each plan may_end some_may_end
   master_is_not = refl
 
   top_fails : decide NoSpace false 0 ≡ 0 ∷ 0 ∷ 1 ∷ 1 ∷ 1 ∷ 1 ∷ 1 ∷ []
-  unfolding sum_at one upd each plan may_end some_may_end
+  unfolding sum_at one_if_same upd each plan may_end some_may_end
   top_fails = refl
 
 -- the writer opens the top node for the bio of the whole write

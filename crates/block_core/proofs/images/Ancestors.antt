@@ -10,7 +10,7 @@ use Rattle.run_machine.specs.Scene.{Setup, Scene, tree_at}
 use Rattle.run_machine.specs.Submissions.{legs_of}
 use Rattle.run_machine.specs.Tasks.{Completer, Carries}
 use Rattle.run_machine.specs.Runs.{State}
-use Rattle.block_core.specs.Weights.{total_weight, sum_at, one, names_node, under, legs_left}
+use Rattle.block_core.specs.Weights.{total_weight, sum_at, one_if_same, names_node, under, legs_left}
 use Rattle.block_core.proofs.moves.References.{references}
 use Rattle.block_core.proofs.sound.EachBio.{each_part, each_copied_part}
 use Rattle.block_core.proofs.moves.SumsCompared.{IsPart}
@@ -23,9 +23,9 @@ use Rattle.block_core.proofs.stuck.Idle.{GoesDown, open_in_books, open_at, node_
 use Rattle.block_core.proofs.sound.OfOneWrite.{node_write, child_of_write}
 
 -- a bio that a mirror copies refers, once for each leg that is left, to its master
-pub copied_times : (setup : Setup) (bio : Bio) (master leg : ℕ) → one bio.writer bio.writer * one master master * legs_left setup bio leg ≡ legs_left setup bio leg
+pub copied_times : (setup : Setup) (bio : Bio) (master leg : ℕ) → one_if_same bio.writer bio.writer * one_if_same master master * legs_left setup bio leg ≡ legs_left setup bio leg
 copied_times setup bio master leg =
-    ap (λ k. k * one master master * legs_left setup bio leg) (one-same bio.writer) ∙ (ap (λ k. 1 * k * legs_left setup bio leg) (one-same master) ∙ omega arith)
+    ap (λ k. k * one_if_same master master * legs_left setup bio leg) (one-same bio.writer) ∙ (ap (λ k. 1 * k * legs_left setup bio leg) (one-same master) ∙ omega arith)
 
 module _ (scene : Scene) (s : State) (i : Invariant scene s) (level : ℕ → ℕ → ℕ) (down : GoesDown s level) (write_of : ℕ → ℕ → ℕ) (none : total_weight scene (strays write_of) s ≡ 0)
     (P : ℕ → Type 0) (tops : (writer key : ℕ) (node : Node) → writer < scene.books → node_at (s.objects.book writer) key ≡ Some node → parent_of node.role ≡ None → P node.write) where
@@ -49,7 +49,7 @@ module _ (scene : Scene) (s : State) (i : Invariant scene s) (level : ℕ → �
       by_parent on None is = tops writer key node (open_in_books scene s i writer key node at) at is
       by_parent on (Some parent) is =
           let refers : under writer parent writer (parent_of node.role) ≡ 1 =
-          ap (under writer parent writer) is ∙ (ap (λ n. n * one parent parent) (one-same writer) ∙ ap (λ n. 1 * n) (one-same parent)) in
+          ap (under writer parent writer) is ∙ (ap (λ n. n * one_if_same parent parent) (one-same writer) ∙ ap (λ n. 1 * n) (one-same parent)) in
           let up = open_at scene s i writer parent (omega (arith, refers, node_part scene s i (references scene.setup writer parent) writer key node at)) in
           let above = down writer key node parent at is in
           let same : node.write ≡ up.0.write = child_of_write scene s i write_of none writer key parent node up.0 at is up.1 in
@@ -84,7 +84,7 @@ module _ (scene : Scene) (s : State) (i : Invariant scene s) (level : ℕ → �
         by_parent None same = tops_carried place disk writer closed here is same
         by_parent (Some parent) same =
             let refers : under writer parent writer closed.parent ≡ 1 =
-            ap (under writer parent writer) same ∙ (ap (λ n. n * one parent parent) (one-same writer) ∙ ap (λ n. 1 * n) (one-same parent)) in
+            ap (under writer parent writer) same ∙ (ap (λ n. n * one_if_same parent parent) (one-same writer) ∙ ap (λ n. 1 * n) (one-same parent)) in
             let up = open_at scene s i writer parent
             (omega (arith, refers, task_part scene (references scene.setup writer parent) s place (Completer disk (Carries writer closed)) here is)) in
             let own : parent_strays write_of writer closed.parent closed.write ≡ apart (write_of writer parent) closed.write = ap (λ p. parent_strays write_of writer p closed.write) same in

@@ -23,7 +23,7 @@ use Rattle.block_core.proofs.moves.Devices.{ground}
 use Rattle.block_core.proofs.start.InvariantAtStart.{todos_all}
 use Rattle.block_core.proofs.start.StartTotals.{flat_sum, all_sum, opened_total}
 use Rattle.block_core.proofs.moves.StepMoves.{step_is_move}
-use Rattle.block_core.proofs.sound.EveryRun.{Whole, runs_whole, start_whole}
+use Rattle.block_core.proofs.sound.EveryRun.{IsReachedWhole, runs_whole, start_whole}
 use Rattle.block_core.proofs.images.FragmentCounts.{Divided, divided}
 use Rattle.block_core.proofs.moves.Misfits.{Follows, misfits, no_misfits}
 use Rattle.block_core.proofs.images.StillToCome.{over, comes}
@@ -61,7 +61,7 @@ module _ (s : Scenario) (good : IsScenario s) (ledger : ℕ → LedgerId) where
       ∙ sym (flat_sum value (todo_fragments (setup_in s)) (todos s))
 
 module _ (scene : Scene) (f : LedgersAreNumbered scene) (g : DeviceGeometry scene.setup) (value : Fragment → ℕ) (v : Divided scene.setup value) where
-  pub runs_come : (s : State) (events : List Event) (new : State) → Whole scene s → total_weight scene (misfits over) s ≡ 0 → (run : IsRun scene s events new)
+  pub runs_come : (s : State) (events : List Event) (new : State) → IsReachedWhole scene s → total_weight scene (misfits over) s ≡ 0 → (run : IsRun scene s events new)
       → sum_by value (completed scene s events new run) + total_weight scene (to_come scene.setup value) new ≡ total_weight scene (to_come scene.setup value) s
   runs_come s [] new i counted run = let same = ap (total_weight scene (to_come scene.setup value)) run in omega (arith, same)
   runs_come s (event ∷ events) new i counted (next, (place, steps), run) =

@@ -24,7 +24,7 @@ use Rattle.run_machine.specs.Requests as requests
 use Rattle.run_machine.specs.Requests.{Request, Reply}
 use Rattle.run_machine.specs.Runs.{State, IsRun, Happens}
 use Rattle.stack_base.specs.declared.ids.Status.{Status}
-use Rattle.block_core.specs.Weights.{Spot, Lined, Rescued, Pending, Brought, total_weight, one, legs_left}
+use Rattle.block_core.specs.Weights.{Spot, Lined, Rescued, Pending, Brought, total_weight, one_if_same, legs_left}
 use Rattle.block_core.proofs.moves.References.{references}
 use Rattle.block_core.specs.Scenarios.{IsScenario, IsNaming}
 use Rattle.block_core.specs.Dones.{done_in}
@@ -40,7 +40,7 @@ use Rattle.block_core.proofs.moves.Devices.{ground}
 use Rattle.block_core.proofs.sound.DoneOnce.{to_begin, stage}
 use Rattle.block_core.proofs.sound.EventStages.{top_is}
 use Rattle.block_core.specs.Rounds.{tops}
-use Rattle.block_core.proofs.sound.EveryRun.{Whole, runs_whole, start_whole, runs_leveled, start_leveled, runs_done, stage_once}
+use Rattle.block_core.proofs.sound.EveryRun.{IsReachedWhole, runs_whole, start_whole, runs_leveled, start_leveled, runs_done, stage_once}
 use Rattle.block_core.proofs.sound.OfOneWrite.{runs_of_one_write, start_of_one_write, node_write}
 use Rattle.block_core.proofs.images.Ancestors.{of_node, of_named}
 use Rattle.block_core.proofs.images.FragmentCounts.{divided}
@@ -55,8 +55,8 @@ flat_none : {X Y : Type 0} (value : Y → ℕ) (f : X → List Y) (xs : List X) 
 flat_none value f [] none = refl
 flat_none value f (x ∷ xs) none = omega (arith, sum_by-append value (f x) (flat_map f xs), none x, flat_none value f xs none)
 
-one_of : (i j : ℕ) → i ≡ j → one i j ≡ 1
-one_of i j e = ap (λ k. one i k) (sym e) ∙ one-same i
+one_of : (i j : ℕ) → i ≡ j → one_if_same i j ≡ 1
+one_of i j e = ap (λ k. one_if_same i k) (sym e) ∙ one-same i
 
 -- fragments of one write alone count
 module _ (w : ℕ) (value : Fragment → ℕ) (other : (f : Fragment) → f.write ≢ w → value f ≡ 0) where
@@ -112,7 +112,7 @@ module _ (w : ℕ) (value : Fragment → ℕ) (other : (f : Fragment) → f.writ
       (done : total_weight scene (stage w) s ≡ 0) where
     no_top : (writer key : ℕ) (node : Node) → writer < scene.books → node_at (s.objects.book writer) key ≡ Some node → parent_of node.role ≡ None → node.write ≢ w
     no_top writer key node lt at is e =
-        let worth : tops node.role * one node.write w ≡ 1 = ap (λ n. n * one node.write w) (top_is node.role is) ∙ ap (λ n. 1 * n) (one_of node.write w e) in
+        let worth : tops node.role * one_if_same node.write w ≡ 1 = ap (λ n. n * one_if_same node.write w) (top_is node.role is) ∙ ap (λ n. 1 * n) (one_of node.write w e) in
         omega (arith, done, worth, node_part scene s i (stage w) writer key node at)
 
     pub nothing_comes_of : total_weight scene (to_come scene.setup value) s ≡ 0
@@ -135,10 +135,10 @@ module _ (w : ℕ) (value : Fragment → ℕ) (other : (f : Fragment) → f.writ
         omega (arith, done, nothing)
       where
         copied : (bio : Bio) (master leg : ℕ) → 1 ≤ legs_left scene.setup bio leg
-            → one bio.writer bio.writer * one master master * legs_left scene.setup bio leg ≤ total_weight scene (references scene.setup bio.writer master) s
+            → one_if_same bio.writer bio.writer * one_if_same master master * legs_left scene.setup bio leg ≤ total_weight scene (references scene.setup bio.writer master) s
             → (strays write_of).copy bio master leg ≤ total_weight scene (strays write_of) s → legs_come scene.setup value bio leg ≡ 0
         copied bio master leg left refers own =
-            let all : one bio.writer bio.writer * one master master * legs_left scene.setup bio leg ≡ legs_left scene.setup bio leg = rw (one-same bio.writer, one-same master) (omega arith) in
+            let all : one_if_same bio.writer bio.writer * one_if_same master master * legs_left scene.setup bio leg ≡ legs_left scene.setup bio leg = rw (one-same bio.writer, one-same master) (omega arith) in
             let up = open_at scene s i bio.writer master (omega (arith, left, refers, all)) in
             let same : up.0.write ≡ bio.write = omega (arith, own, one_write, node_write scene s i write_of one_write bio.writer master up.0 up.1) in
             let ne : bio.write ≢ w = subst (λ n. n ≢ w) same (of_node scene s i level down write_of one_write (λ n. n ≢ w) no_top bio.writer master up.0 up.1) in
@@ -146,7 +146,7 @@ module _ (w : ℕ) (value : Fragment → ℕ) (other : (f : Fragment) → f.writ
 
 -- no bio of a run becomes a misfit
 module _ (scene : Scene) (f : LedgersAreNumbered scene) (g : DeviceGeometry scene.setup) (bad : Bio → ℕ) (follows : Follows bad) where
-  pub runs_fit : (s : State) (events : List Event) (new : State) → Whole scene s → total_weight scene (misfits bad) s ≡ 0 → IsRun scene s events new → total_weight scene (misfits bad) new ≡ 0
+  pub runs_fit : (s : State) (events : List Event) (new : State) → IsReachedWhole scene s → total_weight scene (misfits bad) s ≡ 0 → IsRun scene s events new → total_weight scene (misfits bad) new ≡ 0
   runs_fit s [] new i none run = ap (total_weight scene (misfits bad)) run ∙ none
   runs_fit s (event ∷ events) new i none (next, (place, steps), run) =
       let moved = step_is_move scene s f i.kept place event next steps in

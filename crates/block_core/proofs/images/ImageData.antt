@@ -35,7 +35,7 @@ use Rattle.run_machine.proofs.Frames.{upd_keeps}
 use Rattle.block_core.specs.Weights.{total_weight}
 use Rattle.block_core.specs.Scenarios.{IsScenario}
 use Rattle.block_core.specs.Fragments.{offset_of, fragment_of, completed_by, completed}
-use Rattle.block_core.specs.Images.{tag_of, lies_at, put, held_after, ImagesAreOfCompleted}
+use Rattle.block_core.specs.Images.{tag_of, lies_at, sector_after, held_after, ImagesAreOfCompleted}
 use Rattle.block_core.proofs.moves.Sums.{upd-same, upd-other, same_or_not, below_or}
 use Rattle.block_core.proofs.moves.Totals.{part_of}
 use Rattle.block_core.proofs.moves.Moves.{Move, Can, after, limit_of}
@@ -45,7 +45,7 @@ use Rattle.block_core.proofs.sound.Orders.{DoingPlaced, Placed, DeviceGeometry}
 use Rattle.block_core.proofs.sound.OrdersKept.{placed_at}
 use Rattle.block_core.proofs.sound.Invariant.{LedgersAreNumbered}
 use Rattle.block_core.proofs.moves.StepMoves.{step_is_move}
-use Rattle.block_core.proofs.sound.EveryRun.{Whole, runs_whole, start_whole}
+use Rattle.block_core.proofs.sound.EveryRun.{IsReachedWhole, runs_whole, start_whole}
 use Rattle.block_core.proofs.moves.Devices.{ground}
 use Rattle.block_core.proofs.start.InvariantAtStart.{todos_all}
 use Rattle.block_core.proofs.images.Completed.{small}
@@ -110,7 +110,7 @@ module _ (s : Scenario) where
 
   -- what a completion makes of a sector of its disk
   completed_sector : (number x : ℕ) (old : DiskState) (index : ℕ) (bio : Item Pad) (ending : Status) (new : DiskState) → IsOwn number old → Completes old index bio ending new
-      → HasItsWord s bio.bio → slice_index_or new.image x [] ≡ put s number x (fragment_of bio.bio) (slice_index_or old.image x [])
+      → HasItsWord s bio.bio → slice_index_or new.image x [] ≡ sector_after s number x (fragment_of bio.bio) (slice_index_or old.image x [])
   completed_sector number x old index bio ending new own c fits_data =
       let fits = completed_waits number old index bio ending new own c in
       let within = fits.0.within in
@@ -147,7 +147,7 @@ module _ (s : Scenario) where
           ∙ same_sector bio.bio.word (tag_of s bio.bio.write) (offset_of bio.bio) (x - start) fits_data
 
   -- a fragment of another disk
-  elsewhere : (number x : ℕ) (f : Fragment) (held : List ℕ) → f.disk.0 ≢ number → put s number x f held ≡ held
+  elsewhere : (number x : ℕ) (f : Fragment) (held : List ℕ) → f.disk.0 ≢ number → sector_after s number x f held ≡ held
   elsewhere number x f held ne = ap (λ b. if (b && (nat_le f.at x && nat_lt x (f.at + f.len))) && status_eq (fault_of s.stack f) status.Ok then sector_data (tag_of s f.write) (f.offset + (x - f.at)) else held) (ne_eqb f.disk.0 number ne)
 
 module _ (s : Scenario) (ledger : ℕ → LedgerId) (st : State) (a : Placed (setup_in s) st) (own : (number : ℕ) → IsOwn s number (st.objects.disk number)) where
@@ -200,7 +200,7 @@ module _ (s : Scenario) (ledger : ℕ → LedgerId) (st : State) (a : Placed (se
   event_holds (moves.Completed place disk index bio ending new) c none number at =
       let old = own disk.0 in
       let sector : ℕ → List ℕ = λ k. slice_index_or (st.objects.disk k).image at [] in
-      let P : ℕ → Type 0 = λ k. slice_index_or (upd st.objects.disk disk.0 new k).image at [] ≡ put s k at (fragment_of bio.bio) (sector k) in
+      let P : ℕ → Type 0 = λ k. slice_index_or (upd st.objects.disk disk.0 new k).image at [] ≡ sector_after s k at (fragment_of bio.bio) (sector k) in
       let fits = All-get_or (IsWaiting s disk.0) (st.objects.disk disk.0).pending index bio (slice_get_within (st.objects.disk disk.0).pending index bio c.3.taken) old.waiting in
       let mine : IsWaiting s disk.0 bio = subst (IsWaiting s disk.0) (get_or_from_slice_get (st.objects.disk disk.0).pending index bio bio c.3.taken) fits in
       elim (same_or_not number disk.0) [
@@ -216,10 +216,10 @@ module _ (s : Scenario) (ledger : ℕ → LedgerId) (st : State) (a : Placed (se
 -- one after the other
 held_joined : (s : Scenario) (number x : ℕ) (first second : List Fragment) (held : List ℕ) → held_after s number x (first ++ second) held ≡ held_after s number x second (held_after s number x first held)
 held_joined s number x [] second held = refl
-held_joined s number x (f ∷ first) second held = held_joined s number x first second (put s number x f held)
+held_joined s number x (f ∷ first) second held = held_joined s number x first second (sector_after s number x f held)
 
 module _ (s : Scenario) (ledger : ℕ → LedgerId) (f : LedgersAreNumbered (scene s ledger)) (g : DeviceGeometry (setup_in s)) where
-  pub runs_own : (st : State) (events : List Event) (new : State) → Whole (scene s ledger) st → ((number : ℕ) → IsOwn s number (st.objects.disk number))
+  pub runs_own : (st : State) (events : List Event) (new : State) → IsReachedWhole (scene s ledger) st → ((number : ℕ) → IsOwn s number (st.objects.disk number))
       → IsRun (scene s ledger) st events new → (number : ℕ) → IsOwn s number (new.objects.disk number)
   runs_own st [] new i own run number = subst (λ (t : State). IsOwn s number (t.objects.disk number)) (sym run) (own number)
   runs_own st (event ∷ events) new i own (next, (place, steps), run) number =
@@ -230,7 +230,7 @@ module _ (s : Scenario) (ledger : ℕ → LedgerId) (f : LedgersAreNumbered (sce
       λ k. subst (λ (t : State). IsOwn s k (t.objects.disk k)) (sym moved.is) (own_stays s ledger st i.placed own moved.move moved.can k) in
       runs_own next events new j owned run number
 
-  pub runs_hold : (st : State) (events : List Event) (new : State) → Whole (scene s ledger) st → total_weight (scene s ledger) (misfits (unfit s)) st ≡ 0
+  pub runs_hold : (st : State) (events : List Event) (new : State) → IsReachedWhole (scene s ledger) st → total_weight (scene s ledger) (misfits (unfit s)) st ≡ 0
       → ((number : ℕ) → IsOwn s number (st.objects.disk number)) → (run : IsRun (scene s ledger) st events new) (number x : ℕ)
       → slice_index_or (new.objects.disk number).image x [] ≡ held_after s number x (completed (scene s ledger) st events new run) (slice_index_or (st.objects.disk number).image x [])
   runs_hold st [] new i none own run number x = ap (λ (t : State). slice_index_or (t.objects.disk number).image x []) run

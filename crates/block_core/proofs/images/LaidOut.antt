@@ -28,7 +28,7 @@ use Rattle.run_machine.specs.Opened.{Scenario, scene, start, todos}
 use Rattle.run_machine.specs.Runs.{State, IsRun}
 use Rattle.block_core.specs.Scenarios.{IsScenario, IsNaming}
 use Rattle.block_core.specs.Fragments.{completed, fragment_count, IsOfScenario, NothingComes}
-use Rattle.block_core.specs.Images.{tag_of, writes_at, put, held_after, round_at, OneARound, ComeInRounds}
+use Rattle.block_core.specs.Images.{tag_of, writes_at, sector_after, held_after, round_at, OneARound, ComeInRounds}
 use Rattle.block_core.proofs.moves.Sums.{same_or_not}
 use Rattle.block_core.proofs.start.InvariantAtStart.{todos_all, all_map}
 use Rattle.block_core.proofs.images.PlannedOnce.{some_times, times_some, no_other_is_completed, each_is_completed_once}
@@ -48,10 +48,10 @@ module _ (s : Scenario) (disk at : ℕ) where
   abbrev data_of : Fragment → List ℕ
   data_of f = sector_data (tag_of s f.write) (f.offset + (at - f.at))
 
-  put_one : (f : Fragment) (held : List ℕ) → writes f ≡ true → put s disk at f held ≡ data_of f
+  put_one : (f : Fragment) (held : List ℕ) → writes f ≡ true → sector_after s disk at f held ≡ data_of f
   put_one f held is = ap (λ b. if b then data_of f else held) is
 
-  put_none : (f : Fragment) (held : List ℕ) → writes f ≡ false → put s disk at f held ≡ held
+  put_none : (f : Fragment) (held : List ℕ) → writes f ≡ false → sector_after s disk at f held ≡ held
   put_none f held is = ap (λ b. if b then data_of f else held) is
 
   -- none of these writes the sector
@@ -77,12 +77,12 @@ module _ (s : Scenario) (disk at : ℕ) where
   pub last_held : (f : Fragment) (fs : List Fragment) (held : List ℕ) → Contains fs f → writes f ≡ true → IsLast f fs → ComeInRounds s fs → held_after s disk at fs held ≡ data_of f
   last_held f [] held (k, within, is) here last rise = absurd (omega (arith, within))
   last_held f (g ∷ gs) held c here last rise = elim (same_or_not (fragment_count f gs) 0) [
-    | inr some ↦ last_held f gs (put s disk at g held) (some_times f gs (omega (arith, some))) here (λ h in_rest w. last h (Contains-append_right (g ∷ []) gs h in_rest) w) (rest_rise g gs rise)
+    | inr some ↦ last_held f gs (sector_after s disk at g held) (some_times f gs (omega (arith, some))) here (λ h in_rest w. last h (Contains-append_right (g ∷ []) gs h in_rest) w) (rest_rise g gs rise)
     | inl none ↦
         let same : g ≡ f = last_in f g gs c none in
         let mine : writes g ≡ true = ap writes same ∙ here in
         let above = first_rise g gs rise in
-        none_held gs (put s disk at g held)
+        none_held gs (sector_after s disk at g held)
         (all_map (Contains gs) (λ h. writes h ≡ false) (λ h in_rest. false_from_ne_true (writes h) (λ w. elim (last h (Contains-append_right (g ∷ []) gs h in_rest) w) [
           | inl e ↦ let some = times_some f gs (subst (Contains gs) e in_rest) in omega (arith, none, some)
           | inr lower ↦

@@ -12,14 +12,14 @@ use Rattle.run_machine.specs.Scene.{Scene, tree_at}
 use Rattle.run_machine.specs.Submissions.{Takes, Punts as WantsPunt, Links, Doing, Rests, Drives, Copies, Breaks, Submission, rests, legs_of}
 use Rattle.run_machine.specs.Tasks.{TaskState, Writer, Rescuer, Completer, Keeper, Gathered, NoBio, HasBio, HasBoth, Empty, Brings, Carries, Fails}
 use Rattle.run_machine.specs.Runs.{State}
-use Rattle.block_core.specs.Weights.{Weight, Pending, Rescued, Lined, total_weight, one, weigh_option, doing_weight, task_weight, submission_weight, gathered_weight, book_weight, elements_of_pool, holding_elements, legs_left}
+use Rattle.block_core.specs.Weights.{Weight, Pending, Rescued, Lined, total_weight, one_if_same, weigh_option, doing_weight, task_weight, submission_weight, gathered_weight, book_weight, elements_of_pool, holding_elements, legs_left}
 use Rattle.block_core.proofs.moves.References.{references, awaited_ends}
 use Rattle.block_core.specs.Fragments.{SubmitsNothing, NothingComes, HasBegunAll, AllIsHomeAndBegun, NothingComesWhereAllIsHome}
 use Rattle.block_core.proofs.stuck.Idle.{sum_none}
 use Rattle.block_core.proofs.moves.Sums.{one-same, within_book, below_or}
 use Rattle.block_core.proofs.moves.Totals.{part_of}
 use Rattle.block_core.specs.Roles.{named}
-use Rattle.block_core.proofs.sound.Invariant.{away, own_part, own_of, TaskFits, SubmissionFits, DoingFits, Invariant}
+use Rattle.block_core.proofs.sound.Invariant.{away, own_part, own_of, TaskIsSound, SubmissionFits, DoingFits, Invariant}
 use Rattle.block_core.proofs.images.PlannedOnce.{node_none}
 use Rattle.block_core.proofs.images.MasterRecords.{bare_slip, bare_node, bare, no_bare}
 use Rattle.layout_model.proofs.RangeSums.{sum_of_zero}
@@ -30,13 +30,13 @@ use Rattle.block_core.proofs.sound.Invariant.{LedgersAreNumbered}
 use Rattle.block_core.proofs.sound.Orders.{DeviceGeometry}
 use Rattle.block_core.proofs.moves.Devices.{ground}
 use Rattle.block_core.proofs.moves.StepMoves.{step_is_move}
-use Rattle.block_core.proofs.sound.EveryRun.{Whole, runs_whole, start_whole}
+use Rattle.block_core.proofs.sound.EveryRun.{IsReachedWhole, runs_whole, start_whole}
 use Rattle.block_core.proofs.start.StartTotals.{opened_total}
 
 -- no bio is in a list that has an element of no pool
-no_items : (xs : List (Item Pad)) → ((p : ℕ) → sum_by (λ (bio : Item Pad). one bio.share.no p) xs ≡ 0) → xs ≡ []
+no_items : (xs : List (Item Pad)) → ((p : ℕ) → sum_by (λ (bio : Item Pad). one_if_same bio.share.no p) xs ≡ 0) → xs ≡ []
 no_items [] none = refl
-no_items (x ∷ xs) none = absurd (omega (arith, none x.share.no, sum_by-cons (λ (bio : Item Pad). one bio.share.no x.share.no) x xs, one-same x.share.no))
+no_items (x ∷ xs) none = absurd (omega (arith, none x.share.no, sum_by-cons (λ (bio : Item Pad). one_if_same bio.share.no x.share.no) x xs, one-same x.share.no))
 
 want_named : (w k : ℕ) (limit : ℕ) (doing : Doing) → ((p : ℕ) → doing_weight (elements_of_pool p) limit doing ≡ 0) → doing_weight (named w k) limit doing ≡ 0
 want_named w k limit Rests none = refl
@@ -73,13 +73,13 @@ held_some node slipped owned none = by_role node.role node.held.bio node.held.sl
     by_bio : (bio : Option (Item Pad)) → node.held.bio ≡ bio → away bio ≡ 0 → ⊥
     by_bio None is h = omega (arith, h)
     by_bio (Some bio) is h =
-        let e : weigh_option (λ (b : Item Pad). one b.share.no bio.share.no) node.held.bio ≡ one bio.share.no bio.share.no = ap (weigh_option (λ (b : Item Pad). one b.share.no bio.share.no)) is in
+        let e : weigh_option (λ (b : Item Pad). one_if_same b.share.no bio.share.no) node.held.bio ≡ one_if_same bio.share.no bio.share.no = ap (weigh_option (λ (b : Item Pad). one_if_same b.share.no bio.share.no)) is in
         omega (arith, e, one-same bio.share.no, none bio.share.no)
 
     by_slip : (slip : Option SlipItem) → node.held.slip ≡ slip → bare_slip slip ≡ 0 → ⊥
     by_slip None is h = omega (arith, h)
     by_slip (Some slip) is h =
-        let e : weigh_option (λ (x : SlipItem). one x.share.no slip.share.no) node.held.slip ≡ one slip.share.no slip.share.no = ap (weigh_option (λ (x : SlipItem). one x.share.no slip.share.no)) is in
+        let e : weigh_option (λ (x : SlipItem). one_if_same x.share.no slip.share.no) node.held.slip ≡ one_if_same slip.share.no slip.share.no = ap (weigh_option (λ (x : SlipItem). one_if_same x.share.no slip.share.no)) is in
         omega (arith, e, one-same slip.share.no, none slip.share.no)
 
     by_role : (r : Role) (bio : Option (Item Pad)) (slip : Option SlipItem) → node.held.bio ≡ bio → node.held.slip ≡ slip → bare_node r slip ≡ 0 → own_part r bio ≡ 0 → ⊥
@@ -163,10 +163,10 @@ module _ (scene : Scene) (s : State) (i : Invariant scene s) (slips : total_weig
           let w = references scene.setup bio.writer master in
           let a = weighs w in
           let b : doing_weight w limit submission.doing ≡ doing_weight w limit (Copies bio master leg want) = ap (doing_weight w limit) q in
-          let c : one bio.writer bio.writer * one master master * legs_left scene.setup bio leg ≡ legs_left scene.setup bio leg = rw (one-same bio.writer, one-same master) (omega arith) in
+          let c : one_if_same bio.writer bio.writer * one_if_same master master * legs_left scene.setup bio leg ≡ legs_left scene.setup bio leg = rw (one-same bio.writer, one-same master) (omega arith) in
           absurd (omega (arith, a, b, c, lt, no_refs bio.writer master))
 
-  has_none : (place : ℕ) (x : TaskState) → place < scene.tasks → s.task place ≡ x → TaskFits scene x → HasBegunAll x → SubmitsNothing x
+  has_none : (place : ℕ) (x : TaskState) → place < scene.tasks → s.task place ≡ x → TaskIsSound scene x → HasBegunAll x → SubmitsNothing x
   has_none place (Writer number todos taken submission) lt is fits begun = (begun, submission_rests place 32 (Writer number todos taken submission) submission lt is fits.1 (λ w. omega arith))
   has_none place (Rescuer dev submission) lt is fits begun = submission_rests place dev.0 (Rescuer dev submission) submission lt is fits.1 (λ w. omega arith)
   has_none place (Completer disk carried) lt is fits begun = tt
@@ -180,7 +180,7 @@ module _ (scene : Scene) (s : State) (i : Invariant scene s) (slips : total_weig
   }
 
 module _ (scene : Scene) (f : LedgersAreNumbered scene) (g : DeviceGeometry scene.setup) where
-  runs_hold_slips : (s : State) (events : List Event) (new : State) → Whole scene s → total_weight scene bare s ≡ 0 → IsRun scene s events new → total_weight scene bare new ≡ 0
+  runs_hold_slips : (s : State) (events : List Event) (new : State) → IsReachedWhole scene s → total_weight scene bare s ≡ 0 → IsRun scene s events new → total_weight scene bare new ≡ 0
   runs_hold_slips s [] new i none run = ap (total_weight scene bare) run ∙ none
   runs_hold_slips s (event ∷ events) new i none (next, (place, steps), run) =
       let moved = step_is_move scene s f i.kept place event next steps in

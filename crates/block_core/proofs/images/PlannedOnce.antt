@@ -16,7 +16,7 @@ use Rattle.run_machine.specs.Scene.{Scene}
 use Rattle.run_machine.specs.Tasks.{TaskState, Writer, Rescuer, Completer, Keeper, Gathered, NoBio, HasBio, HasBoth, Todo}
 use Rattle.run_machine.specs.Opened.{Scenario, scene, todos, setup as setup_in}
 use Rattle.run_machine.specs.Runs.{State}
-use Rattle.block_core.specs.Weights.{Weight, Pending, Rescued, one, total_weight, weigh_option, task_weight, gathered_weight, book_weight}
+use Rattle.block_core.specs.Weights.{Weight, Pending, Rescued, one_if_same, total_weight, weigh_option, task_weight, gathered_weight, book_weight}
 use Rattle.block_core.specs.Scenarios.{IsScenario}
 use Rattle.block_core.specs.Fragments.{todo_fragments, to_come, planned, equal_fragments, is_it, fragment_count, IsOfScenario, SubmitsNothing, NothingComes, NoneIsCompletedTwice, NoOtherIsCompleted, EachIsCompletedOnce}
 use Rattle.block_core.proofs.stuck.Idle.{sum_none}
@@ -79,9 +79,9 @@ at_most_once f (g ∷ gs) pairs = by_test (equal_fragments f g) refl (at_most_on
         omega (arith, sum_by-cons (is_it f) g gs, here, rest)
 
 -- and only among those of its own write
-within_write : (f : Fragment) (number : ℕ) (gs : List Fragment) → All (λ (g : Fragment). g.write ≡ number) gs → AllPairs AreOther gs → fragment_count f gs ≤ one number f.write
+within_write : (f : Fragment) (number : ℕ) (gs : List Fragment) → All (λ (g : Fragment). g.write ≡ number) gs → AllPairs AreOther gs → fragment_count f gs ≤ one_if_same number f.write
 within_write f number gs all pairs = elim (same_or_not number f.write) [
-  | inl e ↦ let here : one number f.write ≡ 1 = subst (λ k. one number k ≡ 1) e (one-same number) in omega (arith, here, at_most_once f gs pairs)
+  | inl e ↦ let here : one_if_same number f.write ≡ 1 = subst (λ k. one_if_same number k ≡ 1) e (one-same number) in omega (arith, here, at_most_once f gs pairs)
   | inr ne ↦ omega (
     arith,
     none_times f gs (all_map (λ (g : Fragment). g.write ≡ number) (λ g. equal_fragments f g ≡ false) (λ g of. not_same f g (λ e. ne (sym of ∙ ap (λ (x : Fragment). x.write) (sym e)))) gs all),
@@ -126,7 +126,7 @@ module _ (s : Scenario) (good : IsScenario s) (ledger : ℕ → LedgerId) where
       let law = plan_gives_fragments (tree s.stack todo.write.dev.0) todo.number 0 todo.write.start todo.write.count sound (omega arith) f in
       law
 
-  todo_once : (f : Fragment) (todo : Todo) → IsWrite s.stack todo.write → fragment_count f (todo_fragments (setup_in s) todo) ≤ one todo.number f.write
+  todo_once : (f : Fragment) (todo : Todo) → IsWrite s.stack todo.write → fragment_count f (todo_fragments (setup_in s) todo) ≤ one_if_same todo.number f.write
   todo_once f todo is =
       let gs = todo_fragments (setup_in s) todo in
       let some = is.some in
@@ -138,7 +138,7 @@ module _ (s : Scenario) (good : IsScenario s) (ledger : ℕ → LedgerId) where
       omega (
         arith,
         flat_sum (is_it f) (todo_fragments (setup_in s)) (todos s),
-        all_le (λ (todo : Todo). IsWrite s.stack todo.write) (λ todo. fragment_count f (todo_fragments (setup_in s) todo)) (λ todo. one todo.number f.write) (todos s) (todo_once f)
+        all_le (λ (todo : Todo). IsWrite s.stack todo.write) (λ todo. fragment_count f (todo_fragments (setup_in s) todo)) (λ todo. one_if_same todo.number f.write) (todos s) (todo_once f)
             (todos_all s (IsWrite s.stack) good.writes),
         begins_sum f.write (todos s),
         once f.write 0 (length s.writes) (zip s.rounds s.writes),

@@ -8,7 +8,7 @@ use Rattle.run_machine.specs.Scene.{Scene}
 use Rattle.run_machine.specs.Tasks.{Completer, Carries}
 use Rattle.run_machine.specs.Opened.{scene, start, setup as setup_in}
 use Rattle.run_machine.specs.Runs.{State}
-use Rattle.block_core.specs.Weights.{one}
+use Rattle.block_core.specs.Weights.{one_if_same}
 use Rattle.block_core.specs.Rounds.{round_of, is_of_round, tops, tops_left, unfinished_of, begun_of}
 use Rattle.block_core.specs.Present.{IsOfPresent, WorkIsPresent}
 use Rattle.block_core.proofs.moves.Sums.{one-same}
@@ -32,8 +32,8 @@ top_present rounds keeper scene s i t writer key node at is = by_order (in_order
     r : ℕ
     r = round_of rounds node.write
 
-    worth : tops node.role * one r r ≡ 1
-    worth = ap (λ n. n * one r r) (top_is node.role is) ∙ ap (λ n. 1 * n) (one-same r)
+    worth : tops node.role * one_if_same r r ≡ 1
+    worth = ap (λ n. n * one_if_same r r) (top_is node.role is) ∙ ap (λ n. 1 * n) (one-same r)
 
     by_order : (r < s.objects.tally.round) ⊎ (r ≡ s.objects.tally.round) ⊎ (s.objects.tally.round < r) → r ≡ s.objects.tally.round
     by_order (inl lt) = absurd (omega (arith, worth, t.left r, t.tally.past r lt, node_part scene s i (unfinished_of (is_of_round rounds r)) writer key node at))
@@ -48,8 +48,8 @@ carried_present rounds keeper scene s t place disk writer closed here is top = b
     r : ℕ
     r = round_of rounds closed.write
 
-    worth : tops_left closed.parent * one r r ≡ 1
-    worth = ap (λ parent. tops_left parent * one r r) top ∙ ap (λ n. 1 * n) (one-same r)
+    worth : tops_left closed.parent * one_if_same r r ≡ 1
+    worth = ap (λ parent. tops_left parent * one_if_same r r) top ∙ ap (λ n. 1 * n) (one-same r)
 
     by_order : (r < s.objects.tally.round) ⊎ (r ≡ s.objects.tally.round) ⊎ (s.objects.tally.round < r) → r ≡ s.objects.tally.round
     by_order (inl lt) =

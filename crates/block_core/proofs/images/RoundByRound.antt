@@ -24,7 +24,7 @@ use Rattle.block_core.proofs.sound.Orders.{DeviceGeometry}
 use Rattle.block_core.proofs.moves.Devices.{ground}
 use Rattle.block_core.proofs.start.InvariantAtStart.{all_map}
 use Rattle.block_core.proofs.moves.StepMoves.{step_is_move}
-use Rattle.block_core.proofs.sound.EveryRun.{Whole, runs_whole, start_whole}
+use Rattle.block_core.proofs.sound.EveryRun.{IsReachedWhole, runs_whole, start_whole}
 use Rattle.block_core.proofs.images.StillToCome.{ended}
 use Rattle.block_core.proofs.images.Completions.{step_completes}
 use Rattle.block_core.proofs.images.Present.{work_is_present}
@@ -63,7 +63,7 @@ module _ (s : Scenario) (ledger : ℕ → LedgerId) (f : LedgersAreNumbered (sce
       (All-cons (λ a. round_at s a ≡ st.objects.tally.round) (fragment_of bio.bio) [] mine (All-nil (λ a. round_at s a ≡ st.objects.tally.round)), one_pairs Below (fragment_of bio.bio))
   ended_present st _ c present = (All-nil (λ a. round_at s a ≡ st.objects.tally.round), no_pairs Below)
 
-  runs_rise : (st : State) (events : List Event) (new : State) → Whole here st → (run : IsRun here st events new)
+  runs_rise : (st : State) (events : List Event) (new : State) → IsReachedWhole here st → (run : IsRun here st events new)
       → ((before : List Event) (between : State) → IsRun here st before between → IsPresent between)
       → All (λ a. st.objects.tally.round ≤ round_at s a) (completed here st events new run) × AllPairs Below (completed here st events new run)
   runs_rise st [] new i run present = (All-nil (λ a. st.objects.tally.round ≤ round_at s a), no_pairs Below)

@@ -13,7 +13,7 @@ use Rattle.run_machine.specs.Runs.{State}
 use Rattle.block_core.specs.Paying.{end_told}
 use Rattle.block_core.proofs.moves.Moves.{TellsNode}
 use Rattle.block_core.proofs.moves.Moves as moves
-use Rattle.block_core.proofs.sound.Invariant.{TaskFits, LedgersAreNumbered, Invariant}
+use Rattle.block_core.proofs.sound.Invariant.{TaskIsSound, LedgersAreNumbered, Invariant}
 use Rattle.bio_books.specs.Drops.{DropOutcome, DropsAt}
 use Rattle.bio_books.specs.Drops as end
 use Rattle.run_machine.specs.declared.event.What.{What}
@@ -72,7 +72,7 @@ module _ (scene : Scene) (s : State) (f : LedgersAreNumbered scene) (i : Invaria
       at_node None at (end.Up closed) told_it drops objects goes = absurd drops
       at_node None at (end.Top closed) told_it drops objects goes = absurd drops
 
-  pub completes : (disk : DevId) → s.task place ≡ Completer disk Empty → TaskFits scene (Completer disk Empty) → (reply : Reply) → Moved scene s place what new (Completer disk Empty) reply
+  pub completes : (disk : DevId) → s.task place ≡ Completer disk Empty → TaskIsSound scene (Completer disk Empty) → (reply : Reply) → Moved scene s place what new (Completer disk Empty) reply
   completes disk is fits (requests.Completed index bio status) told serves goes =
       record { move = moves.Completed place disk index bio status (new.objects.disk disk.0); can = (here, is, fits, serves.0); is = state_is new _ _ serves.1 goes; at = refl; touches = sym (ap touch_in told); pays = λ was_master. sym (ap (paid_in (its_end s place was_master)) told) }
   completes disk is fits requests.Nothing told serves goes = absurd (none-some what told)

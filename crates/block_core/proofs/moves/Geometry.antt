@@ -13,7 +13,7 @@ use Rattle.bio_records.specs.Items.{Item}
 use Rattle.bio_split.specs.Split.{split_rest}
 use Rattle.run_machine.specs.Scene.{Setup, tree_at, tree_number}
 use Rattle.run_machine.specs.Submissions.{first_length, mapped, landed, legs_of, leg_at, is_cut}
-use Rattle.block_core.specs.Weights.{one}
+use Rattle.block_core.specs.Weights.{one_if_same}
 use Rattle.std.proofs.lemmas.Option.{slice_get-get_or, slice_get_cases}
 use Rattle.std.proofs.lemmas.List.{length-map}
 use Rattle.stack_base.specs.declared.mapping.Piece.{Piece}
@@ -123,11 +123,11 @@ module _ (stack : Stack) (good : IsStack stack) (places : ℕ → ℕ) where
   landed_whole : (bio : Bio) (device : Device) → slice_get stack.devices.items bio.dev.0 ≡ Some device → shape_of device.kind ≡ Cuts → (to : Goes stack bio.dev.0 device bio.range)
       → (first_length device.kind (sizes_at stack device) bio.range == bio.range.len) ≡ true
       → landed (tree stack bio.dev.0) bio ≡ landed (tree stack to.dev.0) (next_bio bio to.dev (first_piece stack device bio.range).at)
-  landed_whole bio device found cuts to one =
+  landed_whole bio device found cuts to one_if_same =
       let sizes = sizes_at stack device in
       let members = members_at stack bio.dev.0 device in
       ap (λ t. landed t bio) (cuts_is stack good bio.dev.0 device found cuts)
-      ∙ ap (λ b. cond b (landed (members (slot device.kind sizes bio.range.start).member) (mapped (slot device.kind sizes bio.range.start) members bio)) bio) one
+      ∙ ap (λ b. cond b (landed (members (slot device.kind sizes bio.range.start).member) (mapped (slot device.kind sizes bio.range.start) members bio)) bio) one_if_same
       ∙ ap (λ t. landed t (record bio { dev = record { 0 = tree_number t }; range = record { start = (first_piece stack device bio.range).at; len = bio.range.len } })) to.is
       ∙ ap (λ n. landed (tree stack to.dev.0) (record bio { dev = record { 0 = n }; range = record { start = (first_piece stack device bio.range).at; len = bio.range.len } })) (number_of_tree stack to.dev.0)
 
@@ -158,10 +158,10 @@ module _ (stack : Stack) (good : IsStack stack) (places : ℕ → ℕ) where
       cut : (device : Device) → slice_get stack.devices.items bio.dev.0 ≡ Some device → shape_of device.kind ≡ Cuts → (more : Bool)
           → (first_length device.kind (sizes_at stack device) bio.range == bio.range.len) ≡ more
           → ((next : Bio) → next.dev.0 < bound → IsThere setup next → Falls value next (landed (tree stack next.dev.0) next)) → Falls value bio (landed (tree stack bio.dev.0) bio)
-      cut device found cuts true one again =
+      cut device found cuts true one_if_same again =
           let to = goes stack good bio.dev.0 device found cuts bio.range there.some there.within in
           let first = first_piece stack device bio.range in
-          let len : first.len ≡ bio.range.len = search (one, arith) in
+          let len : first.len ≡ bio.range.len = search (one_if_same, arith) in
           let next = next_bio bio to.dev first.at in
           let run = to.run in
           let below = run.below in
@@ -172,7 +172,7 @@ module _ (stack : Stack) (good : IsStack stack) (places : ℕ → ℕ) where
           let low = fall.lands.low in
           let falls_next : Falls value bio (landed (tree stack to.dev.0) next) =
           record { lands = record { there = fall.lands.there; low = omega arith; settles = fall.lands.settles }; same = fall.same ∙ whole bio device found cuts to len } in
-          subst (Falls value bio) (sym (landed_whole bio device found cuts to one)) falls_next
+          subst (Falls value bio) (sym (landed_whole bio device found cuts to one_if_same)) falls_next
       cut device found cuts false many again =
           let settles : Settles (tree stack bio.dev.0) bio.range =
           subst (λ t. Settles t bio.range) (sym (cuts_is stack good bio.dev.0 device found cuts)) (ap (λ b. not b) many) in

@@ -21,7 +21,7 @@ use Rattle.block_core.proofs.moves.Moves as moves
 use Rattle.block_core.proofs.moves.SubmissionWeights.{landed_same, IsBlind, first_weight, goes_weight}
 use Rattle.block_core.proofs.sound.SumParts.{cut_weight, copies_weight, submission_part, unless_less}
 use Rattle.block_core.proofs.moves.Deltas.{delta}
-use Rattle.block_core.proofs.sound.Invariant.{TaskFits, Invariant}
+use Rattle.block_core.proofs.sound.Invariant.{TaskIsSound, Invariant}
 use Rattle.block_core.proofs.sound.TaskSubmissions.{submission_fits}
 
 -- a number of each bio that is 0 for the parts of a bio for which it is 0, wherever they are
@@ -128,7 +128,7 @@ module _ (bad : Bio → ℕ) (f : Follows bad) where
         )
     -- links of legs
     stays (moves.Legged place x bio lists master leg hand key node) c =
-        let lt = submission_fits scene x (Copies bio master leg (Links hand)) lists (subst (TaskFits scene) c.1 (i.tasks place)) c.2 in
+        let lt = submission_fits scene x (Copies bio master leg (Links hand)) lists (subst (TaskIsSound scene) c.1 (i.tasks place)) c.2 in
         let item = leg_at bio hand leg key (tree_at scene.setup bio.dev) in
         let part = submission_part scene w s place x (Copies bio master leg (Links hand)) lists c.0 c.1 c.2 in
         let fits : bad bio ≡ 0 = omega (arith, none, part) in

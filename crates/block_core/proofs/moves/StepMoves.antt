@@ -15,7 +15,7 @@ use Rattle.run_machine.specs.Submissions.{Doing, Rests, Drives, Copies, Breaks, 
 use Rattle.run_machine.specs.Tasks.{TaskState, Writer, Rescuer, Completer, Keeper, Keeping, Keeps, Stops, Duty, Resizes, Starts, Empty, Brings, Carries, Fails}
 use Rattle.run_machine.specs.Runs.{State}
 use Rattle.block_core.proofs.moves.Moves as moves
-use Rattle.block_core.proofs.sound.Invariant.{TaskFits, LedgersAreNumbered, Invariant}
+use Rattle.block_core.proofs.sound.Invariant.{TaskIsSound, LedgersAreNumbered, Invariant}
 use Rattle.run_machine.specs.declared.event.Event.{Event}
 use Rattle.run_machine.specs.declared.event.What.{What}
 use Rattle.run_machine.specs.Events.{resize_of}
@@ -36,7 +36,7 @@ module _ (scene : Scene) (s : State) (f : LedgersAreNumbered scene) (i : Invaria
   pops dev is lt _ told serves goes = absurd serves
 
   rescues : (dev : DevId) (doing : Doing) (lists : TaskLists) → s.task place ≡ Rescuer dev (record { doing = doing; lists = lists })
-      → TaskFits scene (Rescuer dev (record { doing = doing; lists = lists })) → (reply : Reply) → Moved scene s place what new (Rescuer dev (record { doing = doing; lists = lists })) reply
+      → TaskIsSound scene (Rescuer dev (record { doing = doing; lists = lists })) → (reply : Reply) → Moved scene s place what new (Rescuer dev (record { doing = doing; lists = lists })) reply
   rescues dev Rests lists is fits reply told serves goes =
       let same : lists ≡ no_lists = fits.1 in
       let Q : TaskLists → Type 0 = λ l. Goes s place new (answered scene.setup (Rescuer dev (record { doing = Rests; lists = l })) reply) in
@@ -60,7 +60,7 @@ module _ (scene : Scene) (s : State) (f : LedgersAreNumbered scene) (i : Invaria
       record { move = moves.Resized place pool min later duties; can = (here, is, sym out_is ∙ z, done); is = state_is new _ _ objects goes; at = refl; touches = sym (ap touch_in told); pays = λ was_master. sym (ap (paid_in (its_end s place was_master)) told) }
   keeps_pool pool min later duties is done out false some told out_is objects goes = absurd (none-some what told)
 
-  keeps_on : (keeping : Keeping) → s.task place ≡ Keeper keeping → TaskFits scene (Keeper keeping) → IsLet scene.ledger s.objects (Keeper keeping) (look_of (Keeper keeping)) → (reply : Reply) → Moved scene s place what new (Keeper keeping) reply
+  keeps_on : (keeping : Keeping) → s.task place ≡ Keeper keeping → TaskIsSound scene (Keeper keeping) → IsLet scene.ledger s.objects (Keeper keeping) (look_of (Keeper keeping)) → (reply : Reply) → Moved scene s place what new (Keeper keeping) reply
   keeps_on (Keeps []) is fits see reply told serves goes = absurd serves
   keeps_on (Keeps (Resizes pool min later ∷ duties)) is fits see (requests.OutIs out) told serves goes =
       keeps_pool pool min later duties is (seen_left (Resizes pool min later) duties see) out (out == 0) refl told serves.0 serves.1 goes
@@ -70,7 +70,7 @@ module _ (scene : Scene) (s : State) (f : LedgersAreNumbered scene) (i : Invaria
   keeps_on (Keeps (Starts round later ∷ duties)) is fits see _ told serves goes = absurd serves
   keeps_on (Stops breach) is fits see reply told serves goes = absurd fits
 
-  moved : (x : TaskState) → s.task place ≡ x → TaskFits scene x → IsLet scene.ledger s.objects x (look_of x) → (reply : Reply) → Moved scene s place what new x reply
+  moved : (x : TaskState) → s.task place ≡ x → TaskIsSound scene x → IsLet scene.ledger s.objects x (look_of x) → (reply : Reply) → Moved scene s place what new x reply
   moved (Writer number todo taken submission) is fits see reply told serves goes = writes scene s f i place here what new number todo taken submission.doing submission.lists is fits see reply told serves goes
   moved (Rescuer dev submission) is fits see reply told serves goes = rescues dev submission.doing submission.lists is fits reply told serves goes
   moved (Completer disk Empty) is fits see reply told serves goes = completes scene s f i place here what new disk is fits reply told serves goes

@@ -20,7 +20,7 @@ use Rattle.run_machine.specs.Tasks.{TaskState, Writer, Rescuer, Completer, Keepe
 use Rattle.run_machine.specs.Runs.{State}
 use Rattle.block_core.proofs.moves.Moves.{IsTaking, with_submission, HasSubmission, Wants, with_want}
 use Rattle.block_core.proofs.moves.Moves as moves
-use Rattle.block_core.proofs.sound.Invariant.{Suits, TaskFits, DoingIsIn, IsIn, LedgersAreNumbered, Invariant}
+use Rattle.block_core.proofs.sound.Invariant.{Suits, TaskIsSound, DoingIsIn, IsIn, LedgersAreNumbered, Invariant}
 use Rattle.bio_books.specs.Links.{Made, NoRoom, Stray, ChainsAt, MastersAt, LegsAt}
 use Rattle.run_machine.specs.declared.event.Got.{Got}
 use Rattle.run_machine.specs.declared.event.Got.TheVariants as got
@@ -196,7 +196,7 @@ module _ (scene : Scene) (s : State) (f : LedgersAreNumbered scene) (i : Invaria
   takes_slip x bio lists is h _ serves goes told = absurd serves
 
   -- the front of a bio that is cut gets a node
-  chains : (x : TaskState) (bio : Item Pad) (lists : TaskLists) (hand : Item Pad) → s.task place ≡ x → HasSubmission x (Drives bio (ToCut (Links hand))) lists → TaskFits scene x → (reply : Reply)
+  chains : (x : TaskState) (bio : Item Pad) (lists : TaskLists) (hand : Item Pad) → s.task place ≡ x → HasSubmission x (Drives bio (ToCut (Links hand))) lists → TaskIsSound scene x → (reply : Reply)
       → what_of (requests.Link bio.bio.writer (requests.Chain bio.bio.node)) reply ≡ Some what
       → Serves scene.ledger s.objects (requests.Link bio.bio.writer (requests.Chain bio.bio.node)) reply new.objects
       → Goes s place new (with_submission x (submission_answered scene.setup (Drives bio (ToCut (Links hand))) lists reply)) → IsMove scene s place what new
@@ -281,7 +281,7 @@ module _ (scene : Scene) (s : State) (f : LedgersAreNumbered scene) (i : Invaria
       what_of (submission_request scene.setup doing lists) reply ≡ Some what → Serves scene.ledger s.objects (submission_request scene.setup doing lists) reply new.objects
       → Goes s place new (with_submission x (submission_answered scene.setup doing lists reply)) → IsMove scene s place what new
 
-  pub submits : (x : TaskState) (doing : Doing) (lists : TaskLists) → s.task place ≡ x → HasSubmission x doing lists → TaskFits scene x → (reply : Reply) → Submits x doing lists reply
+  pub submits : (x : TaskState) (doing : Doing) (lists : TaskLists) → s.task place ≡ x → HasSubmission x doing lists → TaskIsSound scene x → (reply : Reply) → Submits x doing lists reply
   -- it is over, or broke off: nothing is asked
   submits x Rests lists is h fits reply told serves goes = absurd serves
   submits x (Breaks breach kept) lists is h fits reply told serves goes = absurd serves

@@ -6,32 +6,32 @@ use Rattle.std.proofs.lemmas.List.{length-set, get_or-set_same, get_or-set_other
 use Rattle.bio_books.specs.Books.{Node, BookState, node_at, with_node}
 use Rattle.run_machine.specs.Maps.{upd}
 pub use Rattle.run_machine.proofs.Frames.{upd_same as upd-same, upd_other as upd-other}
-use Rattle.block_core.specs.Weights.{Weight, sum_at, one, weigh_option, book_weight}
+use Rattle.block_core.specs.Weights.{Weight, sum_at, one_if_same, weigh_option, book_weight}
 
 -- how far two numbers are apart
 abbrev pub apart : ℕ → ℕ → ℕ
 apart i j = (i - j) + (j - i)
 
-pub one-same : (i : ℕ) → one i i ≡ 1
-unfolding one
+pub one-same : (i : ℕ) → one_if_same i i ≡ 1
+unfolding one_if_same
 one-same i = rw (eq-eqb i i refl)
 
-pub one-other : (i j : ℕ) → i ≢ j → one i j ≡ 0
-unfolding one
+pub one-other : (i j : ℕ) → i ≢ j → one_if_same i j ≡ 0
+unfolding one_if_same
 one-other i j ne = rw (ne_eqb i j ne)
 
-pub weight-upd : {X : Type 0} (w : X → ℕ) (f : ℕ → X) (i : ℕ) (v : X) (k : ℕ) → w (upd f i v k) + one i k * w (f i) ≡ w (f k) + one i k * w v
+pub weight-upd : {X : Type 0} (w : X → ℕ) (f : ℕ → X) (i : ℕ) (v : X) (k : ℕ) → w (upd f i v k) + one_if_same i k * w (f i) ≡ w (f k) + one_if_same i k * w v
 weight-upd {X} w f i v k =
     elim (same_or_not i k) [
       | inl e ↦
-          let P : ℕ → Type 0 = λ j. w (upd f i v j) + one i j * w (f i) ≡ w (f j) + one i j * w v in
+          let P : ℕ → Type 0 = λ j. w (upd f i v j) + one_if_same i j * w (f i) ≡ w (f j) + one_if_same i j * w v in
           let a : w (upd f i v i) ≡ w v = ap w (upd-same f i v) in
-          let b : one i i ≡ 1 = one-same i in
+          let b : one_if_same i i ≡ 1 = one-same i in
           let here : P i = rw (a, b) (omega arith) in
           subst P e here
       | inr ne ↦
           let a : w (upd f i v k) ≡ w (f k) = ap w (upd-other f i v k (λ e. ne (sym e))) in
-          let b : one i k ≡ 0 = one-other i k ne in
+          let b : one_if_same i k ≡ 0 = one-other i k ne in
           rw (a, b) (omega arith)
     ]
 

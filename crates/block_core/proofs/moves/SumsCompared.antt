@@ -13,7 +13,7 @@ use Rattle.run_machine.specs.Submissions.{Want, Takes, Punts, Links, Driving, To
 use Rattle.run_machine.specs.Tasks.{Todo, Gathered, NoBio, HasBio, HasBoth, Carried, Empty, Brings, Carries, Fails, TaskState, Writer, Rescuer, Completer, Keeper}
 use Rattle.run_machine.specs.Runs.{State}
 use Rattle.block_core.specs.Weights.{Weight, Spot, Lined, Rescued, Pending, Brought, total_weight, sum_at, weigh_option, want_weight, ask_weight, doing_weight, submission_weight, gathered_weight, carried_weight, task_weight, book_weight}
-use Rattle.block_core.proofs.sound.Invariant.{DoingFits, TaskFits, Invariant}
+use Rattle.block_core.proofs.sound.Invariant.{DoingFits, TaskIsSound, Invariant}
 use Rattle.block_core.proofs.moves.Totals.{part_of}
 
 -- whatever the weight, this is a part of the sum
@@ -95,7 +95,7 @@ module _ (scene : Scene) (s : State) (i : Invariant scene s) (u v : Weight) (le 
   carried_under place (Carries writer closed) part = le.closed place writer closed part
   carried_under place (Fails breach kept) part = omega arith
 
-  task_under : (place : ℕ) (x : TaskState) → TaskFits scene x → IsPart scene s (λ w. task_weight w place x) → task_weight u place x ≤ task_weight v place x
+  task_under : (place : ℕ) (x : TaskState) → TaskIsSound scene x → IsPart scene s (λ w. task_weight w place x) → task_weight u place x ≤ task_weight v place x
   task_under place (Writer number todos taken submission) fits part =
       omega (
         arith,

@@ -14,7 +14,7 @@ use Rattle.run_machine.specs.Scene.{Setup, Scene, tree_at}
 use Rattle.run_machine.specs.Submissions.{Want, Takes, Punts, Links, Driving, ToPush, ToCut, ToRecord, ToMaster, Doing, Rests, Drives, Copies, Breaks, Submission}
 use Rattle.run_machine.specs.Tasks.{TaskState, Writer, Rescuer, Completer, Keeper, Todo, Gathered, NoBio, HasBio, HasBoth, Carried, Empty, Brings, Carries, Fails}
 use Rattle.run_machine.specs.Runs.{State}
-use Rattle.block_core.specs.Weights.{Weight, Spot, Lined, Rescued, Pending, Brought, total_weight, sum_at, one, weigh_option, want_weight, ask_weight, doing_weight, submission_weight, gathered_weight, carried_weight, task_weight, book_weight, under, legs_left, no_weight}
+use Rattle.block_core.specs.Weights.{Weight, Spot, Lined, Rescued, Pending, Brought, total_weight, sum_at, one_if_same, weigh_option, want_weight, ask_weight, doing_weight, submission_weight, gathered_weight, carried_weight, task_weight, book_weight, under, legs_left, no_weight}
 use Rattle.block_core.proofs.moves.References.{references}
 use Rattle.block_core.specs.Rooms.{legs_need, room}
 use Rattle.block_core.proofs.moves.Moves.{HasSubmission, limit_of}
@@ -201,15 +201,15 @@ carried_few scene s =
     by_node writer place (Some node) = refl
 
 -- a part of it is no more
-pub some_of : (i j n : ℕ) → one i j * n ≤ n
+pub some_of : (i j n : ℕ) → one_if_same i j * n ≤ n
 some_of i j n = elim (same_or_not i j) [
-  | inl e ↦ omega (arith, ap (λ k. k * n) (ap (λ k. one i k) (sym e) ∙ one-same i))
+  | inl e ↦ omega (arith, ap (λ k. k * n) (ap (λ k. one_if_same i k) (sym e) ∙ one-same i))
   | inr ne ↦ omega (arith, ap (λ k. k * n) (one-other i j ne))
 ]
 
-pub more_of : (i j m n : ℕ) → m ≤ n → one i j * m ≤ one i j * n
+pub more_of : (i j m n : ℕ) → m ≤ n → one_if_same i j * m ≤ one_if_same i j * n
 more_of i j m n le = elim (same_or_not i j) [
-  | inl e ↦ let is = ap (λ k. one i k) (sym e) ∙ one-same i in omega (arith, le, ap (λ k. k * m) is, ap (λ k. k * n) is)
+  | inl e ↦ let is = ap (λ k. one_if_same i k) (sym e) ∙ one-same i in omega (arith, le, ap (λ k. k * m) is, ap (λ k. k * n) is)
   | inr ne ↦ let is = one-other i j ne in omega (arith, ap (λ k. k * m) is, ap (λ k. k * n) is)
 ]
 
@@ -221,7 +221,7 @@ refs_within setup w k = record {
   copy = λ bio master leg.
       let few = legs_few (tree_at setup bio.dev) bio.range leg in
       let part = some_of master k (legs_left setup bio leg) in
-      let all = more_of bio.writer w (one master k * legs_left setup bio leg) (legs_need setup bio leg) (omega (arith, few, part)) in
+      let all = more_of bio.writer w (one_if_same master k * legs_left setup bio leg) (legs_need setup bio leg) (omega (arith, few, part)) in
       omega (arith, all);
   hand = λ item. omega arith;
   vector = λ vector. omega arith;
@@ -230,11 +230,11 @@ refs_within setup w k = record {
   closed = λ task writer closed. by_closed writer closed.parent;
 }
   where
-    by_some : (writer : ℕ) (parent : Option ℕ) → under w k writer parent ≤ one writer w
+    by_some : (writer : ℕ) (parent : Option ℕ) → under w k writer parent ≤ one_if_same writer w
     by_some writer None = omega arith
-    by_some writer (Some parent) = let all = more_of writer w (one parent k) 1 (let few = some_of parent k 1 in omega (arith, few)) in omega (arith, all)
+    by_some writer (Some parent) = let all = more_of writer w (one_if_same parent k) 1 (let few = some_of parent k 1 in omega (arith, few)) in omega (arith, all)
 
-    by_parent : (writer : ℕ) (role : Role) → under w k writer (parent_of role) ≤ 0 + one writer w + 0
+    by_parent : (writer : ℕ) (role : Role) → under w k writer (parent_of role) ≤ 0 + one_if_same writer w + 0
     by_parent writer role = omega (arith, by_some writer (parent_of role))
 
     by_closed : (writer : ℕ) (parent : Option ℕ) → under w k writer parent ≤ 0 + 0 + 1

@@ -10,7 +10,7 @@ use Rattle.run_machine.specs.Maps.{upd}
 use Rattle.run_machine.specs.Scene.{Scene}
 use Rattle.run_machine.specs.Tasks.{Todo, Gathered}
 use Rattle.run_machine.specs.Runs.{State}
-use Rattle.block_core.specs.Weights.{Weight, Spot, total_weight, one, names_node, under, legs_left}
+use Rattle.block_core.specs.Weights.{Weight, Spot, total_weight, one_if_same, names_node, under, legs_left}
 use Rattle.block_core.proofs.moves.References.{references, awaited_ends}
 use Rattle.block_core.proofs.moves.Sums.{upd-same, upd-other, one-same, same_or_not}
 use Rattle.block_core.proofs.sound.Invariant.{Invariant}
@@ -35,19 +35,19 @@ mark_other {X = X} mark writer key n v k (inr ne) = by_writer (same_or_not v wri
     by_writer (inr other) = ap (λ f. f k) (upd-other mark writer (upd (mark writer) key n) v other)
 
 -- what refers to another place than this
-pub not_both : (v writer k key : ℕ) → one v writer * one k key ≡ 0 → (v ≢ writer) ⊎ (k ≢ key)
+pub not_both : (v writer k key : ℕ) → one_if_same v writer * one_if_same k key ≡ 0 → (v ≢ writer) ⊎ (k ≢ key)
 not_both v writer k key none = by_two (same_or_not v writer) (same_or_not k key)
   where
     by_two : (v ≡ writer) ⊎ (v ≢ writer) → (k ≡ key) ⊎ (k ≢ key) → (v ≢ writer) ⊎ (k ≢ key)
     by_two (inr ne) other = inl ne
     by_two (inl same) (inr ne) = inr ne
     by_two (inl same) (inl also) =
-        let a : one v writer ≡ 1 = ap (one v) (sym same) ∙ one-same v in
-        let b : one k key ≡ 1 = ap (one k) (sym also) ∙ one-same k in
+        let a : one_if_same v writer ≡ 1 = ap (one_if_same v) (sym same) ∙ one-same v in
+        let b : one_if_same k key ≡ 1 = ap (one_if_same k) (sym also) ∙ one-same k in
         let c : 1 * 1 ≡ 0 = sym (rw (a, b) refl) ∙ none in
         absurd (omega (arith, c))
 
-pub mark_still : {X : Type 0} (mark : ℕ → ℕ → X) (writer key : ℕ) (n : X) (v k : ℕ) → one v writer * one k key ≡ 0 → with_mark mark writer key n v k ≡ mark v k
+pub mark_still : {X : Type 0} (mark : ℕ → ℕ → X) (writer key : ℕ) (n : X) (v k : ℕ) → one_if_same v writer * one_if_same k key ≡ 0 → with_mark mark writer key n v k ≡ mark v k
 mark_still mark writer key n v k none = mark_other mark writer key n v k (not_both v writer k key none)
 
 pub no_factor : (x m : ℕ) → 1 ≤ m → x * m ≡ 0 → x ≡ 0
@@ -59,7 +59,7 @@ no_factor (suc x) (suc m) le h = absurd (grind (arith, h))
 pub record IsUnmoved (u v : Weight) (writer key : ℕ) : Type 0 where
   pub todo : (n : ℕ) (todos : List Todo) (taken : Gathered) → u.todo n todos taken ≤ v.todo n todos taken
   pub bio : (spot : Spot) (item : Item Pad) → names_node writer key item ≡ 0 → u.bio spot item ≤ v.bio spot item
-  pub copy : (bio : Bio) (master leg : ℕ) → one bio.writer writer * one master key ≡ 0 → u.copy bio master leg ≤ v.copy bio master leg
+  pub copy : (bio : Bio) (master leg : ℕ) → one_if_same bio.writer writer * one_if_same master key ≡ 0 → u.copy bio master leg ≤ v.copy bio master leg
   pub hand : (item : Item Pad) → u.hand item ≤ v.hand item
   pub vector : (vector : VectorItem) → u.vector vector ≤ v.vector vector
   pub slip : (slip : SlipItem) → u.slip slip ≤ v.slip slip
@@ -89,7 +89,7 @@ module _ (scene : Scene) (s : State) (i : Invariant scene s) (writer key : ℕ) 
         todo = λ n todos taken part. same.todo n todos taken;
         bio = λ spot item part. same.bio spot item (omega (arith, no_ref, part r));
         copy = λ bio master leg left part.
-            same.copy bio master leg (no_factor (one bio.writer writer * one master key) (legs_left scene.setup bio leg) (omega (arith, left)) (omega (arith, no_ref, part r)));
+            same.copy bio master leg (no_factor (one_if_same bio.writer writer * one_if_same master key) (legs_left scene.setup bio leg) (omega (arith, left)) (omega (arith, no_ref, part r)));
         hand = same.hand;
         vector = same.vector;
         slip = same.slip;

@@ -16,7 +16,7 @@ use Rattle.run_machine.specs.Tasks.{Writer, Todo, Gathered, NoBio, HasBio, HasBo
 use Rattle.run_machine.specs.Runs.{State}
 use Rattle.block_core.proofs.moves.Moves.{IsTaking}
 use Rattle.block_core.proofs.moves.Moves as moves
-use Rattle.block_core.proofs.sound.Invariant.{TaskFits, LedgersAreNumbered, Invariant}
+use Rattle.block_core.proofs.sound.Invariant.{TaskIsSound, LedgersAreNumbered, Invariant}
 use Rattle.bio_books.specs.Links.{Made, NoRoom, Stray}
 use Rattle.run_machine.specs.declared.event.Got.TheVariants as got
 use Rattle.run_machine.specs.declared.event.What.{What}
@@ -118,7 +118,7 @@ module _ (scene : Scene) (s : State) (f : LedgersAreNumbered scene) (i : Invaria
   writer_rests number (todo ∷ later) (HasBoth item vector) is lt see reply told serves goes = begins_both number todo later item vector is lt reply told serves goes
 
   pub writes : (number : ℕ) (todo : List Todo) (taken : Gathered) (doing : Doing) (lists : TaskLists) → s.task place ≡ Writer number todo taken (record { doing = doing; lists = lists })
-      → TaskFits scene (Writer number todo taken (record { doing = doing; lists = lists }))
+      → TaskIsSound scene (Writer number todo taken (record { doing = doing; lists = lists }))
       → IsLet scene.ledger s.objects (Writer number todo taken (record { doing = doing; lists = lists })) (look_of (Writer number todo taken (record { doing = doing; lists = lists })))
       → (reply : Reply) → Moved scene s place what new (Writer number todo taken (record { doing = doing; lists = lists })) reply
   writes number todo taken Rests lists is fits see reply told serves goes =

@@ -15,28 +15,28 @@ use Rattle.run_machine.specs.Scene.{Setup, Scene, tree_at}
 use Rattle.run_machine.specs.Submissions.{Want, Links, Copies, rests, settled, first_length, legs_of, leg_at}
 use Rattle.run_machine.specs.Tasks.{TaskState, Writer, Rescuer, Completer, Keeper, Todo, Carried, Empty, Brings, Carries, Fails}
 use Rattle.run_machine.specs.Runs.{State}
-use Rattle.block_core.specs.Weights.{total_weight, one, task_weight, submission_weight, carried_weight, names_node, under}
+use Rattle.block_core.specs.Weights.{total_weight, one_if_same, task_weight, submission_weight, carried_weight, names_node, under}
 use Rattle.block_core.proofs.moves.References.{references, awaited_ends}
 use Rattle.block_core.proofs.moves.Moves.{Move, Can, after, lost, gained, limit_of, HasSubmission, gathered_of, filled_of, vector_of, cut_lists, TellsNode}
 use Rattle.block_core.proofs.moves.Moves as moves
 use Rattle.block_core.proofs.moves.SubmissionWeights.{IsBlind, goes_weight, first_weight, landed_same}
 use Rattle.block_core.proofs.moves.Deltas.{delta}
-use Rattle.block_core.proofs.sound.Invariant.{SubmissionFits, TaskFits, LedgersAreNumbered, Invariant}
+use Rattle.block_core.proofs.sound.Invariant.{SubmissionFits, TaskIsSound, LedgersAreNumbered, Invariant}
 use Rattle.block_core.proofs.sound.SumParts.{cut_weight, copies_weight, unless}
 use Rattle.block_core.proofs.moves.BookMaps.{made, became, chained}
 
 -- where a bio comes to does not matter to the node that it names
 pub blind_refs : (setup : Setup) (w k : ℕ) → IsBlind (references setup w k)
-blind_refs setup w k limit item t = landed_same (λ (bio : Bio). one bio.writer w * one bio.node k) (λ to members bio. refl) t item.bio
+blind_refs setup w k limit item t = landed_same (λ (bio : Bio). one_if_same bio.writer w * one_if_same bio.node k) (λ to members bio. refl) t item.bio
 
 pub begun_names : (g : Item Pad → ℕ) → (w k : ℕ) → g ≡ names_node w k → (writer : ℕ) (todo : Todo) (item : Item Pad) (vector : Option VectorItem) (key : ℕ)
-    → sum_by g (filled_of writer todo item vector key ∷ []) ≡ one writer w * one key k
+    → sum_by g (filled_of writer todo item vector key ∷ []) ≡ one_if_same writer w * one_if_same key k
 begun_names g w k is writer todo item None key = let q = ap (λ h. sum_by h (filled_of writer todo item None key ∷ [])) is in omega (arith, q, sum_by-cons (names_node w k) (filled_of writer todo item None key) [])
 begun_names g w k is writer todo item (Some vector) key = let q = ap (λ h. sum_by h (filled_of writer todo item (Some vector) key ∷ [])) is in omega (arith, q, sum_by-cons (names_node w k) (filled_of writer todo item (Some vector) key) [])
 
 begun_refs : (setup : Setup) (w k writer : ℕ) (todo : Todo) (later : List Todo) (item : Item Pad) (vector : Option VectorItem) (key : ℕ)
     → submission_weight (references setup w k) 32 (settled setup (filled_of writer todo item vector key ∷ []))
-    ≡ task_weight (references setup w k) 0 (Writer writer (todo ∷ later) (gathered_of item vector) rests) + one writer w * one key k
+    ≡ task_weight (references setup w k) 0 (Writer writer (todo ∷ later) (gathered_of item vector) rests) + one_if_same writer w * one_if_same key k
 begun_refs setup w k writer todo later item None key =
     omega (arith, first_weight (references setup w k) (blind_refs setup w k) 32 setup (filled_of writer todo item None key ∷ []), begun_names (names_node w k) w k refl writer todo item None key)
 begun_refs setup w k writer todo later item (Some vector) key =
@@ -44,7 +44,7 @@ begun_refs setup w k writer todo later item (Some vector) key =
 
 -- what tells a node of an end is a reference to it
 pub tells_refs : (setup : Setup) (w k writer key : ℕ) (status : Status) (part : Option (Item Pad)) (carried : Carried) → TellsNode carried writer key status part
-    → carried_weight (references setup w k) 0 carried ≡ one writer w * one key k
+    → carried_weight (references setup w k) 0 carried ≡ one_if_same writer w * one_if_same key k
 tells_refs setup w k writer key status part (Brings bio ending) t = rw (t.0, t.1) refl
 tells_refs setup w k writer key status part (Carries of closed) t = rw (t.1, t.0) refl
 tells_refs setup w k writer key status part Empty t = absurd t
@@ -62,7 +62,7 @@ spread : (x y z n : ℕ) → x * (y * n + z * 0) ≡ x * y * (n - 0)
 spread x y z n = grind arith
 
 -- a leg's bio has the node that was made for it
-pub leg_named : (w k : ℕ) (bio : Bio) (hand : Item Pad) (leg key : ℕ) (t : Tree) → leg < legs_of t → names_node w k (leg_at bio hand leg key t) ≡ one bio.writer w * one key k
+pub leg_named : (w k : ℕ) (bio : Bio) (hand : Item Pad) (leg key : ℕ) (t : Tree) → leg < legs_of t → names_node w k (leg_at bio hand leg key t) ≡ one_if_same bio.writer w * one_if_same key k
 leg_named w k bio hand leg key (Leaf number sectors) lt = absurd (omega (arith, lt))
 leg_named w k bio hand leg key (Split number kind sizes members) lt = absurd (omega (arith, lt))
 leg_named w k bio hand leg key (Mirrored number sizes members) lt = refl
@@ -70,9 +70,9 @@ leg_named w k bio hand leg key (Mirrored number sizes members) lt = refl
 -- a task that makes a leg has one to make
 pub makes_leg : (scene : Scene) (s : State) (place : ℕ) (x : TaskState) (bio : Bio) (master leg : ℕ) (want : Want) (lists : TaskLists) → Invariant scene s → s.task place ≡ x
     → HasSubmission x (Copies bio master leg want) lists → leg < legs_of (tree_at scene.setup bio.dev)
-makes_leg scene s place x bio master leg want lists i is h = by_task x h (subst (TaskFits scene) is (i.tasks place))
+makes_leg scene s place x bio master leg want lists i is h = by_task x h (subst (TaskIsSound scene) is (i.tasks place))
   where
-    by_task : (x : TaskState) → HasSubmission x (Copies bio master leg want) lists → TaskFits scene x → leg < legs_of (tree_at scene.setup bio.dev)
+    by_task : (x : TaskState) → HasSubmission x (Copies bio master leg want) lists → TaskIsSound scene x → leg < legs_of (tree_at scene.setup bio.dev)
     by_task (Writer number todo taken submission) h fits = subst (SubmissionFits scene.setup) h fits.1
     by_task (Rescuer dev submission) h fits = subst (SubmissionFits scene.setup) h fits.1
     by_task (Completer disk carried) h fits = absurd h
@@ -130,8 +130,8 @@ module _ (scene : Scene) (s : State) (f : LedgersAreNumbered scene) (i : Invaria
         i.counts w k,
         delta scene (references scene.setup w k) s (moves.Mastered place x bio lists slip key node) c,
         copies_weight (references scene.setup w k) (blind_refs scene.setup w k) (limit_of x) scene.setup lists bio.bio key 0,
-        left_behind (one bio.bio.writer w * one key k) 0 legs,
-        spread (one bio.bio.writer w) (one key k) (one bio.bio.node k) legs,
+        left_behind (one_if_same bio.bio.writer w * one_if_same key k) 0 legs,
+        spread (one_if_same bio.bio.writer w) (one_if_same key k) (one_if_same bio.bio.node k) legs,
         chained awaited_ends refl s.objects.book bio.bio.writer key bio.bio.node node (master_node node.write bio.bio.node slip legs) (keeping bio node) w k legs 0 0 c.5 c.4 refl refl,
       )
   -- links of legs
@@ -145,8 +145,8 @@ module _ (scene : Scene) (s : State) (f : LedgersAreNumbered scene) (i : Invaria
         i.counts w k,
         delta scene (references scene.setup w k) s (moves.Legged place x bio lists master leg hand key node) c,
         copies_weight (references scene.setup w k) (blind_refs scene.setup w k) (limit_of x) scene.setup (submitted item lists) bio master (leg + 1),
-        left_behind (one bio.writer w * one master k) (leg + 1) legs,
-        ap (λ n. one bio.writer w * one master k * n) one_less,
+        left_behind (one_if_same bio.writer w * one_if_same master k) (leg + 1) legs,
+        ap (λ n. one_if_same bio.writer w * one_if_same master k * n) one_less,
         sum_by_push (names_node w k) lists.list0 item,
         leg_named w k bio hand leg key (tree_at scene.setup bio.dev) lt,
         made awaited_ends refl s.objects.book bio.writer key (leg_node node.write master) w k 1 c.5 refl,

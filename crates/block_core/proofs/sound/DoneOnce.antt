@@ -11,7 +11,7 @@ use Rattle.run_machine.specs.Scene.{Setup, Scene}
 use Rattle.run_machine.specs.Submissions.{Takes, Punts as WantsPunt, Links, ToPush, ToCut, ToRecord, ToMaster, Doing, Rests, Drives, Copies, Breaks}
 use Rattle.run_machine.specs.Tasks.{Completer, Todo, Carried, Empty, Brings, Carries, Fails}
 use Rattle.run_machine.specs.Runs.{State}
-use Rattle.block_core.specs.Weights.{Weight, total_weight, one}
+use Rattle.block_core.specs.Weights.{Weight, total_weight, one_if_same}
 use Rattle.block_core.proofs.sound.Sayings.{none_told}
 use Rattle.block_core.proofs.moves.Moves.{Move, IsTaking, place_of, Can, after, TellsNode, Releases}
 use Rattle.block_core.proofs.moves.Moves as moves
@@ -31,11 +31,11 @@ use Rattle.block_core.proofs.moves.SubmissionSteps.{asks_submission}
 
 -- 1 where a request tells this write done
 abbrev pub asked : ℕ → Request → ℕ
-asked w (requests.Done write status) = one write w
+asked w (requests.Done write status) = one_if_same write w
 asked w request = 0
 
 abbrev pub done_by : ℕ → Move → ℕ
-done_by w = ended_worth (λ n. one n w)
+done_by w = ended_worth (λ n. one_if_same n w)
 
 abbrev pub done_of : ℕ → Option What → ℕ
 done_of w None = 0
@@ -185,17 +185,17 @@ asked_by scene s w (moves.Started place round later duties) c = ap (λ x. asked 
 -- how often a write is to be begun
 abbrev pub to_begin : ℕ → List Todo → ℕ
 to_begin w [] = 0
-to_begin w (todo ∷ todos) = one todo.number w + to_begin w todos
+to_begin w (todo ∷ todos) = one_if_same todo.number w + to_begin w todos
 
 -- a write is to be begun, or its top node is open, or what is left of it is carried
 abbrev pub stage : ℕ → Weight
-stage w = by_stage (λ todos taken. to_begin w todos) (λ n. one n w)
+stage w = by_stage (λ todos taken. to_begin w todos) (λ n. one_if_same n w)
 
 -- what is to come of it is as before, but where it begins
-to_come_kept : (scene : Scene) (w : ℕ) (m : Move) → to_come_before (λ todos taken. to_begin w todos) m ≡ to_come_after scene (λ todos taken. to_begin w todos) (λ n. one n w) m
+to_come_kept : (scene : Scene) (w : ℕ) (m : Move) → to_come_before (λ todos taken. to_begin w todos) m ≡ to_come_after scene (λ todos taken. to_begin w todos) (λ n. one_if_same n w) m
 to_come_kept scene w (moves.Begins place writer todo later item vector key) = omega arith
 to_come_kept scene w _ = refl
 
 -- an event takes a write's stage away exactly where it tells it done
 pub staged : (scene : Scene) (s : State) (w : ℕ) (m : Move) → Can scene s m → total_weight scene (stage w) (after scene s m) + done_by w m ≡ total_weight scene (stage w) s
-staged scene s w m c = omega (arith, worth_staged (λ todos taken. to_begin w todos) (λ n. one n w) scene s m c, to_come_kept scene w m)
+staged scene s w m c = omega (arith, worth_staged (λ todos taken. to_begin w todos) (λ n. one_if_same n w) scene s m c, to_come_kept scene w m)

@@ -20,7 +20,7 @@ use Rattle.run_machine.specs.Scene.{Scene}
 use Rattle.run_machine.specs.Tasks.{Todo, request, Keeps, Starts}
 use Rattle.run_machine.specs.Opened.{Scenario, scene, start, setup as setup_in, todos}
 use Rattle.run_machine.specs.Runs.{State, Steps, Happens, IsRun}
-use Rattle.block_core.specs.Weights.{total_weight, one, no_weight}
+use Rattle.block_core.specs.Weights.{total_weight, one_if_same, no_weight}
 use Rattle.block_core.specs.Scenarios.{IsScenario, IsNaming}
 use Rattle.block_core.specs.Dones.{done_in, times_done}
 use Rattle.block_core.specs.Rounds.{round_of, is_of_round, tops, tops_left, all_worth, unfinished_of}
@@ -32,7 +32,7 @@ use Rattle.block_core.proofs.sound.Invariant.{LedgersAreNumbered}
 use Rattle.block_core.proofs.moves.Devices.{ground}
 use Rattle.block_core.proofs.stuck.NothingWaits.{one-eq}
 use Rattle.block_core.proofs.sound.DoneOnce.{stage, to_begin, asked, asked_by, done_by}
-use Rattle.block_core.proofs.sound.EveryRun.{Whole, runs_whole, runs_done, runs_tallied, run_tallied, start_whole, stage_once}
+use Rattle.block_core.proofs.sound.EveryRun.{IsReachedWhole, runs_whole, runs_done, runs_tallied, run_tallied, start_whole, stage_once}
 use Rattle.block_core.proofs.moves.StepMoves.{step_is_move}
 use Rattle.block_core.proofs.sound.Rounds.{Tallied, TaskRounds, KeepingFits, of_present}
 use Rattle.block_core.proofs.start.TallyAtStart.{keeper_place, start_tallied, unfinished_at_start}
@@ -42,15 +42,15 @@ use Rattle.block_core.proofs.images.EndedRuns.{zero_at}
 use Rattle.block_core.proofs.sound.Sayings.{IsOther, EventSays, says, asks_done, asks_round, tally_stays, done_tally, round_tally}
 
 -- the weight of a write in stage
-begins_worth : (w : ℕ) (ts : List Todo) → to_begin w ts ≡ all_worth (λ n. one n w) ts
+begins_worth : (w : ℕ) (ts : List Todo) → to_begin w ts ≡ all_worth (λ n. one_if_same n w) ts
 begins_worth w [] = refl
-begins_worth w (todo ∷ ts) = ap (λ n. one todo.number w + n) (begins_worth w ts)
+begins_worth w (todo ∷ ts) = ap (λ n. one_if_same todo.number w + n) (begins_worth w ts)
 
 pub stage_is : (w : ℕ) → stage w ≡ unfinished_write w
 stage_is w = λ i. record no_weight {
   todo = λ writer todos taken. begins_worth w todos i;
-  node = λ writer place node. tops node.role * one node.write w;
-  closed = λ task writer closed. tops_left closed.parent * one closed.write w;
+  node = λ writer place node. tops node.role * one_if_same node.write w;
+  closed = λ task writer closed. tops_left closed.parent * one_if_same closed.write w;
 }
 
 module _ (s : Scenario) (ledger : ℕ → LedgerId) (good : IsScenario s) (naming : IsNaming ledger) where
@@ -128,8 +128,8 @@ module _ (scene : Scene) (old new : State) (place : ℕ) (event : Event) (steps 
       -- a write is done: its own status is set, and no other
       by_what (what.Done number status) is =
           let set = done_is number status is in
-          let apart : write ≢ number = λ e. let here : done_in write event.what ≡ one number write = ap (done_in write) is in
-          let one_here : one number write ≡ 1 = subst (λ k. one number k ≡ 1) (sym e) (one-same number) in absurd (omega (arith, here, one_here, none)) in
+          let apart : write ≢ number = λ e. let here : done_in write event.what ≡ one_if_same number write = ap (done_in write) is in
+          let one_here : one_if_same number write ≡ 1 = subst (λ k. one_if_same number k ≡ 1) (sym e) (one-same number) in absurd (omega (arith, here, one_here, none)) in
           (ap (λ (xs : List Status). length xs) set ∙ length-set old.objects.tally.statuses number status, ap (λ xs. get_or xs write d) set ∙ get_or-set_other old.objects.tally.statuses number write status d apart)
       -- a round starts: no status changes
       by_what (what.Round round) is = same (ap (λ (t : TallyState). t.statuses) (round_is round is))
@@ -194,7 +194,7 @@ times_at_least : (write : ℕ) (status : Status) (event : Event) (events : List 
 times_at_least write status event [] (k, lt, is) tells = absurd (omega (arith, lt))
 times_at_least write status event (first ∷ events) c tells = elim (contains_or event first events c) [
   | inl same ↦
-      let here : done_in write first.what ≡ one write write = ap (λ (e : Event). done_in write e.what) same ∙ ap (done_in write) tells in
+      let here : done_in write first.what ≡ one_if_same write write = ap (λ (e : Event). done_in write e.what) same ∙ ap (done_in write) tells in
       omega (arith, here, one-same write)
   | inr rest ↦ omega (arith, times_at_least write status event events rest tells)
 ]
@@ -232,7 +232,7 @@ tally_has_statuses s ledger events state good naming run event write status c te
     let some = times_at_least write status event events c tells in
     let total_is = runs_to_done s ledger good naming events state run write in
     let begins : total_weight (scene s ledger) (stage write) (start s) ≡ to_begin write (todos s) =
-    ap (λ u. total_weight (scene s ledger) u (start s)) (stage_is write) ∙ (unfinished_at_start s good ledger (λ n. one n write) ∙ sym (begins_worth write (todos s))) in
+    ap (λ u. total_weight (scene s ledger) u (start s)) (stage_is write) ∙ (unfinished_at_start s good ledger (λ n. one_if_same n write) ∙ sym (begins_worth write (todos s))) in
     let known : write < length s.writes = elim (below_or write (length s.writes)) [
       | inl lt ↦ lt
       | inr ge ↦ absurd (omega (arith, some, total_is, begins, beyond write 0 (length s.writes) (zip s.rounds s.writes) (omega (arith, ge))))
@@ -246,7 +246,7 @@ module _ (s : Scenario) (ledger : ℕ → LedgerId) (events : List Event) (state
   abbrev sc : Scene
   sc = scene s ledger
 
-  whole : Whole sc state
+  whole : IsReachedWhole sc state
   whole = runs_whole sc (record { named = naming }) (ground s.stack good.stack (setup_in s).places) (start s) events state (start_whole s ledger good naming) run
 
   tallied : Tallied s.rounds (keeper_place s good ledger) sc state

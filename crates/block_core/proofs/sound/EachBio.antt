@@ -15,7 +15,7 @@ use Rattle.run_machine.specs.Tasks.{Carried, Empty, Brings, Carries, Fails, Task
 use Rattle.run_machine.specs.Runs.{State}
 use Rattle.block_core.specs.Weights.{Weight, Spot, Lined, Rescued, Pending, Brought, total_weight, doing_weight, submission_weight, task_weight, carried_weight}
 use Rattle.block_core.specs.EachBio.{DoingHas, SubmissionHas, CarriedHas, TaskHas, EachBio, DoingCopies, TaskCopies, EachCopied}
-use Rattle.block_core.proofs.sound.Invariant.{DoingFits, TaskFits, Invariant}
+use Rattle.block_core.proofs.sound.Invariant.{DoingFits, TaskIsSound, Invariant}
 use Rattle.block_core.proofs.moves.SumsCompared.{IsPart}
 use Rattle.block_core.proofs.moves.Totals.{part_of}
 
@@ -73,7 +73,7 @@ module _ (scene : Scene) (s : State) (i : Invariant scene s) (P : Bio → ℕ �
   of_copying limit (Copies bio master leg want) lists fits part = is bio master leg fits (λ w. omega (arith, part w))
   of_copying limit (Breaks breach kept) lists fits part = tt
 
-  of_copier : (place : ℕ) (x : TaskState) → TaskFits scene x → IsPart scene s (λ w. task_weight w place x) → TaskCopies P x
+  of_copier : (place : ℕ) (x : TaskState) → TaskIsSound scene x → IsPart scene s (λ w. task_weight w place x) → TaskCopies P x
   of_copier place (Writer number todo taken submission) fits part = of_copying 32 submission.doing submission.lists fits.1 (λ w. omega (arith, part w))
   of_copier place (Rescuer dev submission) fits part = of_copying dev.0 submission.doing submission.lists fits.1 (λ w. omega (arith, part w))
   of_copier place (Completer disk carried) fits part = tt

@@ -17,12 +17,12 @@ use Rattle.run_machine.specs.Scene.{Setup, Scene, tree_at}
 use Rattle.run_machine.specs.Submissions.{Takes, Punts, Links, ToPush, ToCut, ToRecord, ToMaster, Doing, Rests, Drives, Copies, Breaks, Submission, rests, copies, first_length, landed, legs_of, leg_at}
 use Rattle.run_machine.specs.Tasks.{TaskState, Writer, Rescuer, Completer, Keeper, Todo, Gathered, NoBio, HasBio, HasBoth, Carried, Empty, Brings, Carries, Fails}
 use Rattle.run_machine.specs.Runs.{State}
-use Rattle.block_core.specs.Weights.{Weight, Spot, Lined, Rescued, Pending, total_weight, sum_at, weigh_option, doing_weight, submission_weight, gathered_weight, carried_weight, task_weight, book_weight, elements_of_pool, holding_elements, one, no_weight}
-use Rattle.block_core.specs.Charges.{there}
+use Rattle.block_core.specs.Weights.{Weight, Spot, Lined, Rescued, Pending, total_weight, sum_at, weigh_option, doing_weight, submission_weight, gathered_weight, carried_weight, task_weight, book_weight, elements_of_pool, holding_elements, one_if_same, no_weight}
+use Rattle.block_core.specs.Charges.{one_if_some}
 use Rattle.block_core.specs.Rooms.{to_open, todo_need, legs_need}
 use Rattle.block_core.proofs.moves.Moves.{Move, Can, after, lost, gained, limit_of, TellsNode, gathered_of, filled_of, cut_lists}
 use Rattle.block_core.proofs.moves.Moves as moves
-use Rattle.block_core.proofs.sound.Invariant.{DoingFits, SubmissionFits, TaskFits, Invariant}
+use Rattle.block_core.proofs.sound.Invariant.{DoingFits, SubmissionFits, TaskIsSound, Invariant}
 use Rattle.block_core.proofs.moves.Geometry.{IsThere}
 use Rattle.block_core.proofs.sound.Orders.{IsOwn, DoingPlaced, SubmissionPlaced, TodoThere, TaskPlaced, Placed, DeviceGeometry}
 use Rattle.block_core.proofs.moves.Deltas.{delta}
@@ -48,7 +48,7 @@ writes_need setup [] (HasBoth bio vector) = 2
 writes_need setup (todo ∷ later) (HasBoth bio vector) = 1 + todo_need setup todo + sum_by (write_need setup) later
 
 abbrev pub held_count : Holding → ℕ
-held_count held = there held.bio + there held.vector + there held.slip
+held_count held = one_if_some held.bio + one_if_some held.vector + one_if_some held.slip
 
 -- the elements that are out, and those that are still to be taken for what is begun or to begin; what a task has in hand is one of these
 abbrev pub worth : Setup → Weight
@@ -74,14 +74,14 @@ copies_worth setup n limit lists bio master leg first second = omega (
 )
 
 -- a part that comes with an end
-later_worth : (held part : Option (Item Pad)) → there (later_part held part) ≤ there held + there part
+later_worth : (held part : Option (Item Pad)) → one_if_some (later_part held part) ≤ one_if_some held + one_if_some part
 later_worth held None = omega arith
 later_worth held (Some bio) = omega arith
 
 tells_worth : (setup : Setup) (place : ℕ) (carried : Carried) (writer key : ℕ) (status : Status) (part : Option (Item Pad)) → TellsNode carried writer key status part
-    → there part ≤ carried_weight (worth setup) place carried
-tells_worth setup place (Brings bio ending) writer key status part t = let same : there part ≡ 1 = ap there t.3 in omega (arith, same)
-tells_worth setup place (Carries of closed) writer key status part t = let same : there part ≡ 0 = ap there t.3 in omega (arith, same)
+    → one_if_some part ≤ carried_weight (worth setup) place carried
+tells_worth setup place (Brings bio ending) writer key status part t = let same : one_if_some part ≡ 1 = ap one_if_some t.3 in omega (arith, same)
+tells_worth setup place (Carries of closed) writer key status part t = let same : one_if_some part ≡ 0 = ap one_if_some t.3 in omega (arith, same)
 tells_worth setup place Empty writer key status part t = absurd t
 tells_worth setup place (Fails breach kept) writer key status part t = absurd t
 
@@ -95,13 +95,13 @@ module _ (scene : Scene) (s : State) (g : DeviceGeometry scene.setup) (n : Needs
 
   begins : (place writer : ℕ) (todo : Todo) (later : List Todo) (item : Item Pad) (vector : Option VectorItem) (key : ℕ) → TodoThere scene.setup writer todo
       → Fits (moves.Begins place writer todo later item vector key)
-  begins place writer todo later item None key there =
+  begins place writer todo later item None key one_if_some =
       let filled_item : Item Pad = filled_of writer todo item None key in
-      let b = settled_there scene.setup (worth scene.setup) lands 32 (filled_item ∷ []) (there key, tt) in
+      let b = settled_there scene.setup (worth scene.setup) lands 32 (filled_item ∷ []) (one_if_some key, tt) in
       omega (arith, b, sum_by-cons ((worth scene.setup).bio (Lined 32)) filled_item [])
-  begins place writer todo later item (Some vector) key there =
+  begins place writer todo later item (Some vector) key one_if_some =
       let filled_item : Item Pad = filled_of writer todo item (Some vector) key in
-      let b = settled_there scene.setup (worth scene.setup) lands 32 (filled_item ∷ []) (there key, tt) in
+      let b = settled_there scene.setup (worth scene.setup) lands 32 (filled_item ∷ []) (one_if_some key, tt) in
       omega (arith, b, sum_by-cons ((worth scene.setup).bio (Lined 32)) filled_item [])
 
   pub fits : (m : Move) → Can scene s m → Fits m
@@ -148,7 +148,7 @@ module _ (scene : Scene) (s : State) (g : DeviceGeometry scene.setup) (n : Needs
   -- links of legs
   fits (moves.Legged place x bio lists master leg hand key node) c =
       let d = placed_at scene.setup s a place x (Copies bio master leg (Links hand)) lists c.1 c.2 in
-      let lt = submission_fits scene x (Copies bio master leg (Links hand)) lists (subst (TaskFits scene) c.1 (i.tasks place)) c.2 in
+      let lt = submission_fits scene x (Copies bio master leg (Links hand)) lists (subst (TaskIsSound scene) c.1 (i.tasks place)) c.2 in
       let item = leg_at bio hand leg key (tree_at scene.setup bio.dev) in
       let more = submitted item lists in
       let first = leg_there scene.setup (limit_of x) g bio hand lists master leg key d lt in
@@ -174,7 +174,7 @@ module _ (scene : Scene) (s : State) (g : DeviceGeometry scene.setup) (n : Needs
   fits (moves.Started place round later duties) c = omega arith
 
   -- each element that is out is one of these
-  few : (share : LedgerId) (q : ℕ) → one share.no q ≤ 1
+  few : (share : LedgerId) (q : ℕ) → one_if_same share.no q ≤ 1
   few share q = omega (arith, some_of share.no q 1)
 
   doing_out : (q limit : ℕ) (doing : Doing) (lists : TaskLists) → DoingFits scene.setup doing lists → DoingPlaced scene.setup limit doing lists
@@ -203,15 +203,15 @@ module _ (scene : Scene) (s : State) (g : DeviceGeometry scene.setup) (n : Needs
   held_out : (q : ℕ) (held : Holding) → holding_elements q held ≤ held_count held
   held_out q held = omega (arith, by_bio held.bio, by_vector held.vector, by_slip held.slip)
     where
-      by_bio : (bio : Option (Item Pad)) → weigh_option (λ (bio : Item Pad). one bio.share.no q) bio ≤ there bio
+      by_bio : (bio : Option (Item Pad)) → weigh_option (λ (bio : Item Pad). one_if_same bio.share.no q) bio ≤ one_if_some bio
       by_bio None = omega arith
       by_bio (Some bio) = few bio.share q
 
-      by_vector : (vector : Option VectorItem) → weigh_option (λ (vector : VectorItem). one vector.share.no q) vector ≤ there vector
+      by_vector : (vector : Option VectorItem) → weigh_option (λ (vector : VectorItem). one_if_same vector.share.no q) vector ≤ one_if_some vector
       by_vector None = omega arith
       by_vector (Some vector) = few vector.share q
 
-      by_slip : (slip : Option SlipItem) → weigh_option (λ (slip : SlipItem). one slip.share.no q) slip ≤ there slip
+      by_slip : (slip : Option SlipItem) → weigh_option (λ (slip : SlipItem). one_if_same slip.share.no q) slip ≤ one_if_some slip
       by_slip None = omega arith
       by_slip (Some slip) = few slip.share q
 
@@ -227,7 +227,7 @@ module _ (scene : Scene) (s : State) (g : DeviceGeometry scene.setup) (n : Needs
   hand_free (HasBio bio) = refl
   hand_free (HasBoth bio vector) = refl
 
-  task_out : (q place : ℕ) (x : TaskState) → TaskFits scene x → TaskPlaced scene.setup x → task_weight (elements_of_pool q) place x ≤ task_weight (worth scene.setup) place x
+  task_out : (q place : ℕ) (x : TaskState) → TaskIsSound scene x → TaskPlaced scene.setup x → task_weight (elements_of_pool q) place x ≤ task_weight (worth scene.setup) place x
   task_out q place (Writer number todo taken submission) fit t = omega (arith, taken_out q todo taken, hand_free taken, submission_out q 32 submission fit.1 t.1)
   task_out q place (Rescuer dev submission) fit t = submission_out q dev.0 submission fit.1 t
   task_out q place (Completer disk Empty) fit t = omega arith

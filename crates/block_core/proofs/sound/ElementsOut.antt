@@ -10,7 +10,7 @@ use Rattle.bio_lists.specs.Submission.{submitted}
 use Rattle.run_machine.specs.Scene.{Scene, tree_at}
 use Rattle.run_machine.specs.Submissions.{ToMaster, Drives, first_length, legs_of, leg_at}
 use Rattle.run_machine.specs.Runs.{State}
-use Rattle.block_core.specs.Weights.{total_weight, one, weigh_option, elements_of_pool, holding_elements}
+use Rattle.block_core.specs.Weights.{total_weight, one_if_same, weigh_option, elements_of_pool, holding_elements}
 use Rattle.block_core.proofs.moves.Moves.{Move, Can, after, limit_of, cut_lists}
 use Rattle.block_core.proofs.moves.Moves as moves
 use Rattle.block_core.proofs.moves.Sums.{weight-upd}
@@ -24,18 +24,18 @@ module _ (scene : Scene) (s : State) (f : LedgersAreNumbered scene) (i : Invaria
   pub outs : (m : Move) → Can scene s m → (q : ℕ) → ((after scene s m).objects.pool q).facts.out ≡ total_weight scene (elements_of_pool q) (after scene s m)
   -- takes
   outs (moves.TakesFirst place writer todo later move) c q =
-      omega (arith, i.outs q, delta scene (elements_of_pool q) s (moves.TakesFirst place writer todo later move) c, out_more s.objects.pool 65 move q c.2, ap (λ n. one n q) (f.named 65))
+      omega (arith, i.outs q, delta scene (elements_of_pool q) s (moves.TakesFirst place writer todo later move) c, out_more s.objects.pool 65 move q c.2, ap (λ n. one_if_same n q) (f.named 65))
   outs (moves.TakesVector place writer todo later item move) c q =
-      omega (arith, i.outs q, delta scene (elements_of_pool q) s (moves.TakesVector place writer todo later item move) c, out_more s.objects.pool 64 move q c.2, ap (λ n. one n q) (f.named 64))
+      omega (arith, i.outs q, delta scene (elements_of_pool q) s (moves.TakesVector place writer todo later item move) c, out_more s.objects.pool 64 move q c.2, ap (λ n. one_if_same n q) (f.named 64))
   outs (moves.TakesSub place x doing lists dev waits move) c q =
-      omega (arith, i.outs q, delta scene (elements_of_pool q) s (moves.TakesSub place x doing lists dev waits move) c, out_more s.objects.pool (2 * dev.0) move q c.4, ap (λ n. one n q) (f.named (2 * dev.0)))
+      omega (arith, i.outs q, delta scene (elements_of_pool q) s (moves.TakesSub place x doing lists dev waits move) c, out_more s.objects.pool (2 * dev.0) move q c.4, ap (λ n. one_if_same n q) (f.named (2 * dev.0)))
   outs (moves.TakesSlip place x bio lists move) c q =
       omega (
         arith,
         i.outs q,
         delta scene (elements_of_pool q) s (moves.TakesSlip place x bio lists move) c,
         out_more s.objects.pool (2 * bio.bio.dev.0 + 1) move q c.3,
-        ap (λ n. one n q) (f.named (2 * bio.bio.dev.0 + 1)),
+        ap (λ n. one_if_same n q) (f.named (2 * bio.bio.dev.0 + 1)),
       )
   -- misses and punts
   outs (moves.MissesOne place x number used) c q =
@@ -50,7 +50,7 @@ module _ (scene : Scene) (s : State) (f : LedgersAreNumbered scene) (i : Invaria
         i.outs q,
         delta scene (elements_of_pool q) s (moves.Pops place dev bio bios) c,
         first_weight (elements_of_pool q) (blind_elements q) dev.0 scene.setup (bio ∷ []),
-        sum_by-cons (λ (bio : Item Pad). one bio.share.no q) bio [],
+        sum_by-cons (λ (bio : Item Pad). one_if_same bio.share.no q) bio [],
       )
   -- pushes, completions and links of writes
   outs (moves.Pushes place x bio lists) c q =
@@ -61,7 +61,7 @@ module _ (scene : Scene) (s : State) (f : LedgersAreNumbered scene) (i : Invaria
       omega (arith, i.outs q, delta scene (elements_of_pool q) s (moves.Begins place writer todo later item vector key) c, begun_elements scene q writer todo later item vector key)
   -- links of pieces
   outs (moves.Chained place x bio lists hand number kind sizes members key node) c q =
-      let g : Item Pad → ℕ = λ bio. one bio.share.no q in
+      let g : Item Pad → ℕ = λ bio. one_if_same bio.share.no q in
       let n = first_length kind sizes bio.bio.range in
       omega (
         arith,
@@ -75,7 +75,7 @@ module _ (scene : Scene) (s : State) (f : LedgersAreNumbered scene) (i : Invaria
       let w = named bio.bio.writer bio.bio.node in
       let part = submission_part scene w s place x (Drives bio (ToMaster slip)) lists c.0 c.1 c.2 in
       let none : node.held.bio ≡ None = (named_away scene s bio node i c.4 (omega (arith, part))).0 in
-      let held : weigh_option (λ (other : Item Pad). one other.share.no q) node.held.bio ≡ 0 = ap (weigh_option (λ (other : Item Pad). one other.share.no q)) none in
+      let held : weigh_option (λ (other : Item Pad). one_if_same other.share.no q) node.held.bio ≡ 0 = ap (weigh_option (λ (other : Item Pad). one_if_same other.share.no q)) none in
       omega (
         arith,
         i.outs q,
@@ -86,7 +86,7 @@ module _ (scene : Scene) (s : State) (f : LedgersAreNumbered scene) (i : Invaria
       )
   -- links of legs
   outs (moves.Legged place x bio lists master leg hand key node) c q =
-      let g : Item Pad → ℕ = λ bio. one bio.share.no q in
+      let g : Item Pad → ℕ = λ bio. one_if_same bio.share.no q in
       let item = leg_at bio hand leg key (tree_at scene.setup bio.dev) in
       omega (
         arith,
@@ -98,7 +98,7 @@ module _ (scene : Scene) (s : State) (f : LedgersAreNumbered scene) (i : Invaria
         same_share (tree_at scene.setup bio.dev),
       )
     where
-      same_share : (t : Tree) → one (leg_at bio hand leg key t).share.no q ≡ one hand.share.no q
+      same_share : (t : Tree) → one_if_same (leg_at bio hand leg key t).share.no q ≡ one_if_same hand.share.no q
       same_share (Leaf number sectors) = refl
       same_share (Split number kind sizes members) = refl
       same_share (Mirrored number sizes members) = refl

@@ -36,32 +36,32 @@ use Rattle.block_core.proofs.moves.Devices.{ground}
 use Rattle.block_core.proofs.start.WritesAtStart.{start_placed}
 
 -- all that stays in a run
-pub record Whole (scene : Scene) (s : State) : Type 0 where
+pub record IsReachedWhole (scene : Scene) (s : State) : Type 0 where
   pub kept : Invariant scene s
   pub placed : Placed scene.setup s
   pub alive : (w k : ℕ) → IsAlive (node_at (s.objects.book w) k)
 
 module _ (scene : Scene) (f : LedgersAreNumbered scene) (g : DeviceGeometry scene.setup) where
-  step_placed : (s : State) (place : ℕ) (event : Event) (new : State) → Whole scene s → Steps scene s place event new → Placed scene.setup new
+  step_placed : (s : State) (place : ℕ) (event : Event) (new : State) → IsReachedWhole scene s → Steps scene s place event new → Placed scene.setup new
   step_placed s place event new i steps =
       let moved = step_is_move scene s f i.kept place event new steps in
       subst (Placed scene.setup) (sym moved.is) (stays_placed scene s f g i.kept i.placed moved.move moved.can)
 
-  step_alive : (s : State) (place : ℕ) (event : Event) (new : State) → Whole scene s → Steps scene s place event new → (w k : ℕ) → IsAlive (node_at (new.objects.book w) k)
+  step_alive : (s : State) (place : ℕ) (event : Event) (new : State) → IsReachedWhole scene s → Steps scene s place event new → (w k : ℕ) → IsAlive (node_at (new.objects.book w) k)
   step_alive s place event new i steps =
       let moved = step_is_move scene s f i.kept place event new steps in
       subst (λ (x : State). (w k : ℕ) → IsAlive (node_at (x.objects.book w) k)) (sym moved.is) (alive scene s g i.placed i.alive moved.move moved.can)
 
-  pub step_whole : (s : State) (place : ℕ) (event : Event) (new : State) → Whole scene s → Steps scene s place event new → Whole scene new
+  pub step_whole : (s : State) (place : ℕ) (event : Event) (new : State) → IsReachedWhole scene s → Steps scene s place event new → IsReachedWhole scene new
   step_whole s place event new i steps =
       let p = step_placed s place event new i steps in
       record { kept = step_keeps scene s f i.kept place event new steps (λ other. placed_in scene.setup (new.task other) (p.tasks other)); placed = p; alive = step_alive s place event new i steps }
 
-  pub runs_whole : (s : State) (events : List Event) (new : State) → Whole scene s → IsRun scene s events new → Whole scene new
-  runs_whole s [] new i run = subst (Whole scene) (sym run) i
+  pub runs_whole : (s : State) (events : List Event) (new : State) → IsReachedWhole scene s → IsRun scene s events new → IsReachedWhole scene new
+  runs_whole s [] new i run = subst (IsReachedWhole scene) (sym run) i
   runs_whole s (event ∷ events) new i (next, (place, steps), run) = runs_whole next events new (step_whole s place event next i steps) run
 
-  pub runs_done : (w : ℕ) (s : State) (events : List Event) (new : State) → Whole scene s → IsRun scene s events new
+  pub runs_done : (w : ℕ) (s : State) (events : List Event) (new : State) → IsReachedWhole scene s → IsRun scene s events new
       → times_done w events + total_weight scene (stage w) new ≡ total_weight scene (stage w) s
   runs_done w s [] new i run = omega (arith, ap (total_weight scene (stage w)) run)
   runs_done w s (event ∷ events) new i (next, (place, steps), run) =
@@ -69,7 +69,7 @@ module _ (scene : Scene) (f : LedgersAreNumbered scene) (g : DeviceGeometry scen
 
 -- the tally stays right
 module _ (scene : Scene) (f : LedgersAreNumbered scene) (g : DeviceGeometry scene.setup) (rounds : List ℕ) (keeper : ℕ) where
-  pub runs_tallied : (s : State) (events : List Event) (new : State) → Whole scene s → Tallied rounds keeper scene s → IsRun scene s events new → Tallied rounds keeper scene new
+  pub runs_tallied : (s : State) (events : List Event) (new : State) → IsReachedWhole scene s → Tallied rounds keeper scene s → IsRun scene s events new → Tallied rounds keeper scene new
   runs_tallied s [] new i t run = subst (Tallied rounds keeper scene) (sym run) t
   runs_tallied s (event ∷ events) new i t (next, (place, steps), run) =
       let moved = step_is_move scene s f i.kept place event next steps in
@@ -78,7 +78,7 @@ module _ (scene : Scene) (f : LedgersAreNumbered scene) (g : DeviceGeometry scen
 
 -- each task stays at its post, and no round is added
 module _ (scene : Scene) (f : LedgersAreNumbered scene) (g : DeviceGeometry scene.setup) (rounds : List ℕ) (ids : ℕ → TaskId) (keeper : ℕ) where
-  pub runs_posted : (s : State) (events : List Event) (new : State) → Whole scene s → Tallied rounds keeper scene s → Posted ids keeper scene s → IsRun scene s events new → Posted ids keeper scene new
+  pub runs_posted : (s : State) (events : List Event) (new : State) → IsReachedWhole scene s → Tallied rounds keeper scene s → Posted ids keeper scene s → IsRun scene s events new → Posted ids keeper scene new
   runs_posted s [] new i t p run = subst (Posted ids keeper scene) (sym run) p
   runs_posted s (event ∷ events) new i t p (next, (place, steps), run) =
       let moved = step_is_move scene s f i.kept place event next steps in
@@ -86,7 +86,7 @@ module _ (scene : Scene) (f : LedgersAreNumbered scene) (g : DeviceGeometry scen
       (subst (Tallied rounds keeper scene) (sym moved.is) (stays_tallied rounds keeper scene s t moved.move moved.can))
       (subst (Posted ids keeper scene) (sym moved.is) (stays_posted rounds ids keeper scene s i.kept t p moved.move moved.can)) run
 
-  pub runs_long : (s : State) (events : List Event) (new : State) → Whole scene s → IsRun scene s events new → length new.objects.tally.left ≡ length s.objects.tally.left
+  pub runs_long : (s : State) (events : List Event) (new : State) → IsReachedWhole scene s → IsRun scene s events new → length new.objects.tally.left ≡ length s.objects.tally.left
   runs_long s [] new i run = ap (λ (x : State). length x.objects.tally.left) run
   runs_long s (event ∷ events) new i (next, (place, steps), run) =
       let moved = step_is_move scene s f i.kept place event next steps in
@@ -95,7 +95,7 @@ module _ (scene : Scene) (f : LedgersAreNumbered scene) (g : DeviceGeometry scen
 
 -- nodes stay on levels
 module _ (scene : Scene) (f : LedgersAreNumbered scene) (g : DeviceGeometry scene.setup) where
-  pub runs_leveled : (s : State) (events : List Event) (new : State) → Whole scene s → AreLeveled scene s → IsRun scene s events new → AreLeveled scene new
+  pub runs_leveled : (s : State) (events : List Event) (new : State) → IsReachedWhole scene s → AreLeveled scene s → IsRun scene s events new → AreLeveled scene new
   runs_leveled s [] new i t run = subst (AreLeveled scene) (sym run) t
   runs_leveled s (event ∷ events) new i t (next, (place, steps), run) =
       let moved = step_is_move scene s f i.kept place event next steps in
@@ -104,7 +104,7 @@ module _ (scene : Scene) (f : LedgersAreNumbered scene) (g : DeviceGeometry scen
 
 -- and no task waits for itself
 module _ (scene : Scene) (f : LedgersAreNumbered scene) (g : DeviceGeometry scene.setup) (r : AreRescued scene.setup) where
-  pub runs_waiting : (s : State) (events : List Event) (new : State) → Whole scene s → Waits scene.setup s → IsRun scene s events new → Waits scene.setup new
+  pub runs_waiting : (s : State) (events : List Event) (new : State) → IsReachedWhole scene s → Waits scene.setup s → IsRun scene s events new → Waits scene.setup new
   runs_waiting s [] new i t run = subst (Waits scene.setup) (sym run) t
   runs_waiting s (event ∷ events) new i t (next, (place, steps), run) =
       let moved = step_is_move scene s f i.kept place event next steps in
@@ -115,7 +115,7 @@ module _ (s : Scenario) (ledger : ℕ → LedgerId) (good : IsScenario s) (namin
   numbered : LedgersAreNumbered (scene s ledger)
   numbered = record { named = naming }
 
-  pub start_whole : Whole (scene s ledger) (start s)
+  pub start_whole : IsReachedWhole (scene s ledger) (start s)
   start_whole =
       let o = start_opened s good ledger in
       record { kept = opened_kept (scene s ledger) (start s) o; placed = start_placed s good ledger; alive = λ w k. subst IsAlive (sym (o.books w k)) tt }

@@ -60,11 +60,11 @@ abbrev pub GoesOn : Keeping → Type 0
 GoesOn (Keeps duties) = Unit {0}
 GoesOn (Stops breach) = ⊥
 
-abbrev pub TaskFits : Scene → TaskState → Type 0
-TaskFits scene (Writer number todo taken submission) = (number < scene.books) × SubmissionFits scene.setup submission × HandFits taken submission
-TaskFits scene (Rescuer dev submission) = (dev.0 < scene.setup.count) × SubmissionFits scene.setup submission
-TaskFits scene (Completer disk carried) = disk.0 < scene.setup.count
-TaskFits scene (Keeper keeping) = GoesOn keeping
+abbrev pub TaskIsSound : Scene → TaskState → Type 0
+TaskIsSound scene (Writer number todo taken submission) = (number < scene.books) × SubmissionFits scene.setup submission × HandFits taken submission
+TaskIsSound scene (Rescuer dev submission) = (dev.0 < scene.setup.count) × SubmissionFits scene.setup submission
+TaskIsSound scene (Completer disk carried) = disk.0 < scene.setup.count
+TaskIsSound scene (Keeper keeping) = GoesOn keeping
 
 -- the bio that a task has at hand is at a device of the stack
 abbrev pub DoingIsIn : Setup → Doing → Type 0
@@ -93,5 +93,5 @@ pub record Invariant (scene : Scene) (s : State) : Type 0 where
   pub owns : (w k : ℕ) → own_of (node_at (s.objects.book w) k) ≡ total_weight scene (named w k) s
   pub inside : (w : ℕ) → scene.books ≤ w → (s.objects.book w).nodes ≡ []
   -- what each task has is in order, and at a device of the stack
-  pub tasks : (place : ℕ) → TaskFits scene (s.task place)
+  pub tasks : (place : ℕ) → TaskIsSound scene (s.task place)
   pub devices : (place : ℕ) → IsIn scene.setup (s.task place)

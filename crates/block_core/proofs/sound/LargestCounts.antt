@@ -23,14 +23,14 @@ use Rattle.block_core.proofs.unrefused.NodeNeeds.{Needs, needs_known}
 use Rattle.block_core.proofs.moves.StepMoves.{step_is_move}
 use Rattle.block_core.proofs.bound.ChargesAtStart.{zip_sum}
 use Rattle.block_core.proofs.start.StartTotals.{map_sum, opened_total}
-use Rattle.block_core.proofs.sound.EveryRun.{Whole, runs_whole, start_whole}
+use Rattle.block_core.proofs.sound.EveryRun.{IsReachedWhole, runs_whole, start_whole}
 use Rattle.block_core.proofs.unrefused.RoomKept.{run_roomy}
 use Rattle.block_core.proofs.unrefused.Ready.{ends_few}
 use Rattle.block_core.proofs.unrefused.Unbroken.{small}
 use Rattle.block_core.proofs.sound.Elements.{write_need, worth, outs_within, stays_within}
 
 module _ (scene : Scene) (f : LedgersAreNumbered scene) (g : DeviceGeometry scene.setup) (n : Needs scene.setup) where
-  pub runs_within : (s : State) (events : List Event) (new : State) → Whole scene s → IsRun scene s events new
+  pub runs_within : (s : State) (events : List Event) (new : State) → IsReachedWhole scene s → IsRun scene s events new
       → total_weight scene (worth scene.setup) new ≤ total_weight scene (worth scene.setup) s
   runs_within s [] new i run = let same = ap (total_weight scene (worth scene.setup)) run in omega (arith, same)
   runs_within s (event ∷ events) new i (next, (place, steps), run) =
@@ -54,7 +54,7 @@ module _ (s : Scenario) (good : IsScenario s) (ledger : ℕ → LedgerId) where
   start_within = omega (arith, opened_total s good ledger (worth (setup_in s)) (write_need (setup_in s)) (λ n ts. omega arith), todos_need)
 
 module _ (s : Scenario) (ledger : ℕ → LedgerId) (good : IsScenario s) (naming : IsNaming ledger) (events : List Event) (state : State) (run : IsRun (scene s ledger) (start s) events state) where
-  whole : Whole (scene s ledger) state
+  whole : IsReachedWhole (scene s ledger) state
   whole = runs_whole (scene s ledger) (record { named = naming }) (ground s.stack good.stack (setup_in s).places) (start s) events state (start_whole s ledger good naming) run
 
   outs : (number : ℕ) → (state.objects.pool number).facts.out ≤ all_elements s.stack s.writes

@@ -28,7 +28,7 @@ use Rattle.block_core.specs.Orders.{IsLegOf}
 use Rattle.block_core.proofs.moves.Moves.{Move, place_of, Can, after, limit_of, with_submission, HasSubmission, Wants, with_want, filled_of, vector_of, cut_lists}
 use Rattle.block_core.proofs.moves.Moves as moves
 use Rattle.block_core.proofs.moves.Sums.{upd-same, upd-other, same_or_not, within_book}
-use Rattle.block_core.proofs.sound.Invariant.{TaskFits, Invariant}
+use Rattle.block_core.proofs.sound.Invariant.{TaskIsSound, Invariant}
 use Rattle.block_core.proofs.moves.Deltas.{other_place, vacant_at}
 use Rattle.block_core.proofs.sound.TaskSubmissions.{submission_fits}
 use Rattle.block_core.proofs.sound.Orders.{Placed, each_map, each_less, each_append}
@@ -298,7 +298,7 @@ module _ (scene : Scene) (s : State) (i : Invariant scene s) (p : Placed scene.s
       let m : Move = moves.Legged place x bio lists master leg hand key node in
       let new = after scene s m in
       let d = has place x (Copies bio master leg (Links hand)) lists c.0 c.1 c.2 in
-      let lt = submission_fits scene x (Copies bio master leg (Links hand)) lists (subst (TaskFits scene) c.1 (i.tasks place)) c.2 in
+      let lt = submission_fits scene x (Copies bio master leg (Links hand)) lists (subst (TaskIsSound scene) c.1 (i.tasks place)) c.2 in
       let item = leg_at bio hand leg key (tree_at scene.setup bio.dev) in
       let book : new.objects.book bio.writer ≡ with_node (s.objects.book bio.writer) key (Some (leg_node node.write master)) =
       upd-same s.objects.book bio.writer (with_node (s.objects.book bio.writer) key (Some (leg_node node.write master))) in

@@ -19,7 +19,7 @@ use Rattle.block_core.specs.Weights.{total_weight, weigh_option, task_weight, ca
 use Rattle.block_core.proofs.moves.Sums.{apart}
 use Rattle.block_core.proofs.moves.Moves.{Move, Can, after, lost, gained, limit_of, gathered_of, filled_of, vector_of, cut_lists, TellsNode, Releases, piece}
 use Rattle.block_core.proofs.moves.Moves as moves
-use Rattle.block_core.proofs.sound.Invariant.{TaskFits, Invariant}
+use Rattle.block_core.proofs.sound.Invariant.{TaskIsSound, Invariant}
 use Rattle.block_core.proofs.sound.TaskSubmissions.{submission_fits}
 use Rattle.block_core.proofs.sound.Orders.{AskFits, HandHome, TaskPlaced, Placed, DeviceGeometry}
 use Rattle.std.specs.Prelude.{min}
@@ -237,7 +237,7 @@ module _ (scene : Scene) (s : State) (g : DeviceGeometry scene.setup) (i : Invar
       let d = placed_at scene.setup s p place x (Copies bio master leg (Links hand)) lists c.1 c.2 in
       let known = d.0.device in
       let few = g.few in
-      let lt = submission_fits scene x (Copies bio master leg (Links hand)) lists (subst (TaskFits scene) c.1 (i.tasks place)) c.2 in
+      let lt = submission_fits scene x (Copies bio master leg (Links hand)) lists (subst (TaskIsSound scene) c.1 (i.tasks place)) c.2 in
       let part = submission_part scene (off_levels level) s place x (Copies bio master leg (Links hand)) lists c.0 c.1 c.2 in
       let parent : new bio.writer master ≡ level bio.writer master =
       mark_other level bio.writer key (2 * dev) bio.writer master (inr (other_place (s.objects.book bio.writer) key master node c.5 c.4)) in

@@ -20,7 +20,7 @@ use Rattle.run_machine.specs.Tasks.{TaskState, Writer, Rescuer, Completer, Keepe
 use Rattle.run_machine.specs.Runs.{State}
 use Rattle.block_core.specs.Orders.{IsAbove, AreAbove, GoUp, IsSetOf, IsOwnBelow, IsLegOf, DoingInOrder, DoingBelow, AreBelow, TaskInOrder, AreInListOrder}
 use Rattle.block_core.specs.Hands.{GatheredIsRight, WantIsRight, AskIsRight, DoingIsRight, HandIsRight, HandsAreRight}
-use Rattle.block_core.proofs.sound.Invariant.{HandFits, DoingFits, TaskFits, Invariant}
+use Rattle.block_core.proofs.sound.Invariant.{HandFits, DoingFits, TaskIsSound, Invariant}
 use Rattle.block_core.proofs.sound.Orders.{Above, Ordered, IsPlaced, IsOwn, WantFits, AskFits, DoingPlaced, HandHome, TaskPlaced, Placed}
 use Rattle.block_core.proofs.sound.LegLists.{HasLegs, TaskHasLegs, Legged}
 use Rattle.block_core.proofs.sound.CarriedLevels.{TaskOne}
@@ -133,7 +133,7 @@ module _ (scene : Scene) (s : State) (i : Invariant scene s) (p : Placed scene.s
   pub hands_right : (ends : Fragment → Status) → ((place : ℕ) → HasEnding ends (s.task place)) → ((place : ℕ) → TaskOne (s.task place)) → HandsAreRight scene ends s
   hands_right ends endings ones place = by_task (s.task place) (i.tasks place) (p.tasks place) (endings place) (ones place)
     where
-      by_task : (x : TaskState) → TaskFits scene x → TaskPlaced scene.setup x → HasEnding ends x → TaskOne x → HandIsRight scene.setup ends x
+      by_task : (x : TaskState) → TaskIsSound scene x → TaskPlaced scene.setup x → HasEnding ends x → TaskOne x → HandIsRight scene.setup ends x
       by_task (Writer number todo taken submission) fits t e one = (taken_right scene.setup taken submission fits.2 t.2, doing_right scene.setup 32 submission.doing submission.lists fits.1 t.1)
       by_task (Rescuer dev submission) fits t e one = doing_right scene.setup dev.0 submission.doing submission.lists fits.1 t
       by_task (Completer disk Empty) fits t e one = tt
@@ -148,7 +148,7 @@ module _ (scene : Scene) (s : State) (i : Invariant scene s) (p : Placed scene.s
     rescued = λ dev. all_of (IsOwn scene.setup dev dev) (IsOwnBelow dev) (own_below scene.setup dev dev) (s.objects.rescue dev) (p.rescued dev);
   }
     where
-      by_task : (x : TaskState) → TaskFits scene x → TaskPlaced scene.setup x → TaskHasLegs s x → TaskInOrder s x
+      by_task : (x : TaskState) → TaskIsSound scene x → TaskPlaced scene.setup x → TaskHasLegs s x → TaskInOrder s x
       by_task (Writer number todo taken submission) fits t legs = doing_in_order scene.setup s 32 submission.doing submission.lists fits.1 t.1 legs
       by_task (Rescuer dev submission) fits t legs = let below = rescued_below scene.setup dev.0 submission fits.1 t in (
         doing_in_order scene.setup s dev.0 submission.doing submission.lists fits.1 t legs,

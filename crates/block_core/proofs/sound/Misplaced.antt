@@ -21,7 +21,7 @@ use Rattle.block_core.proofs.status.Marks.{yes, mismatch}
 use Rattle.block_core.proofs.moves.Moves.{Move, Can, after, lost, gained, limit_of, filled_of, cut_lists}
 use Rattle.block_core.proofs.moves.Moves as moves
 use Rattle.block_core.proofs.moves.Sums.{upd-same, upd-other}
-use Rattle.block_core.proofs.sound.Invariant.{TaskFits, Invariant}
+use Rattle.block_core.proofs.sound.Invariant.{TaskIsSound, Invariant}
 use Rattle.block_core.proofs.sound.TaskSubmissions.{submission_fits}
 use Rattle.block_core.proofs.moves.Deltas.{other_place, delta}
 use Rattle.block_core.proofs.sound.SumParts.{copies_weight, unless, unless_none, cut_weight, submission_part}
@@ -197,7 +197,7 @@ module _ (scene : Scene) (s : State) (i : Invariant scene s) (was_master : ℕ �
       let here = mark_here mark bio.writer key false in
       let legs = legs_of (tree_at scene.setup bio.dev) in
       let item = leg_at bio hand leg key (tree_at scene.setup bio.dev) in
-      let lt = submission_fits scene x (Copies bio master leg (Links hand)) lists (subst (TaskFits scene) c.1 (i.tasks place)) c.2 in
+      let lt = submission_fits scene x (Copies bio master leg (Links hand)) lists (subst (TaskIsSound scene) c.1 (i.tasks place)) c.2 in
       let part = submission_part scene (w mark) s place x (Copies bio master leg (Links hand)) lists c.0 c.1 c.2 in
       let parent : new bio.writer master ≡ mark bio.writer master =
       mark_other mark bio.writer key false bio.writer master (inr (other_place (s.objects.book bio.writer) key master node c.5 c.4)) in

@@ -21,7 +21,7 @@ use Rattle.block_core.specs.OfOneWrite.{AreOfOneWrite, AllAreOfOneWrite}
 use Rattle.block_core.proofs.moves.Sums.{apart}
 use Rattle.block_core.proofs.moves.Moves.{Move, Can, after, lost, gained, limit_of, HasSubmission, filled_of, cut_lists}
 use Rattle.block_core.proofs.moves.Moves as moves
-use Rattle.block_core.proofs.sound.Invariant.{TaskFits, LedgersAreNumbered, Invariant}
+use Rattle.block_core.proofs.sound.Invariant.{TaskIsSound, LedgersAreNumbered, Invariant}
 use Rattle.block_core.proofs.sound.TaskSubmissions.{submission_fits}
 use Rattle.block_core.proofs.sound.Orders.{DeviceGeometry}
 use Rattle.block_core.proofs.sound.EachBio.{each_bio, each_copied}
@@ -35,7 +35,7 @@ use Rattle.block_core.proofs.stuck.Idle.{node_part}
 use Rattle.block_core.proofs.moves.Totals.{task_part}
 use Rattle.block_core.proofs.moves.StepMoves.{step_is_move}
 use Rattle.block_core.proofs.start.InvariantAtStart.{total_zero, start_opened}
-use Rattle.block_core.proofs.sound.EveryRun.{Whole, runs_whole, start_whole}
+use Rattle.block_core.proofs.sound.EveryRun.{IsReachedWhole, runs_whole, start_whole}
 
 blind_strays : (write_of : ℕ → ℕ → ℕ) → IsBlind (strays write_of)
 blind_strays write_of limit item t = landed_same (λ (bio : Bio). apart (write_of bio.writer bio.node) bio.write) (λ to members bio. refl) t item.bio
@@ -163,7 +163,7 @@ module _ (scene : Scene) (s : State) (i : Invariant scene s) (write_of : ℕ →
       let here = mark_here write_of bio.writer key node.write in
       let legs = legs_of (tree_at scene.setup bio.dev) in
       let item = leg_at bio hand leg key (tree_at scene.setup bio.dev) in
-      let lt = submission_fits scene x (Copies bio master leg (Links hand)) lists (subst (TaskFits scene) c.1 (i.tasks place)) c.2 in
+      let lt = submission_fits scene x (Copies bio master leg (Links hand)) lists (subst (TaskIsSound scene) c.1 (i.tasks place)) c.2 in
       let part = submission_part scene (strays write_of) s place x (Copies bio master leg (Links hand)) lists c.0 c.1 c.2 in
       let parent : new bio.writer master ≡ write_of bio.writer master =
       mark_other write_of bio.writer key node.write bio.writer master (inr (other_place (s.objects.book bio.writer) key master node c.5 c.4)) in
@@ -218,7 +218,7 @@ module _ (scene : Scene) (s : State) (i : Invariant scene s) (write_of : ℕ →
 
 -- every run keeps it
 module _ (scene : Scene) (f : LedgersAreNumbered scene) (g : DeviceGeometry scene.setup) where
-  pub runs_of_one_write : (s : State) (events : List Event) (new : State) → Whole scene s → NoneStrays scene s → IsRun scene s events new → NoneStrays scene new
+  pub runs_of_one_write : (s : State) (events : List Event) (new : State) → IsReachedWhole scene s → NoneStrays scene s → IsRun scene s events new → NoneStrays scene new
   runs_of_one_write s [] new i t run = subst (NoneStrays scene) (sym run) t
   runs_of_one_write s (event ∷ events) new i t (next, (place, steps), run) =
       let moved = step_is_move scene s f i.kept place event next steps in

@@ -23,7 +23,7 @@ use Rattle.run_machine.specs.Runs.{State}
 use Rattle.run_machine.proofs.Frames.{upd_keeps}
 use Rattle.block_core.proofs.moves.Moves.{Move, Can, after, limit_of, with_submission, HasSubmission, gathered_of}
 use Rattle.block_core.proofs.moves.Moves as moves
-use Rattle.block_core.proofs.sound.Invariant.{TaskFits, DoingIsIn, IsIn, LedgersAreNumbered, Invariant}
+use Rattle.block_core.proofs.sound.Invariant.{TaskIsSound, DoingIsIn, IsIn, LedgersAreNumbered, Invariant}
 use Rattle.block_core.proofs.sound.TaskSubmissions.{all-upd, submission_fits}
 use Rattle.block_core.proofs.sound.Orders.{IsPlaced, IsOwn, AskFits, DoingPlaced, SubmissionPlaced, HandHome, TaskPlaced, Placed, DeviceGeometry, each_map, each_filter, each_append, of_set, first_placed, pushed_placed, cut_placed, copies_placed, begun_placed, wants_placed, punts_placed, waiting_placed}
 
@@ -103,7 +103,7 @@ module _ (scene : Scene) (s : State) (f : LedgersAreNumbered scene) (g : DeviceG
   -- links of legs
   tasks (moves.Legged place x bio lists master leg hand key node) c =
       let d = placed_at scene.setup s p place x (Copies bio master leg (Links hand)) lists c.1 c.2 in
-      let lt = submission_fits scene x (Copies bio master leg (Links hand)) lists (subst (TaskFits scene) c.1 (i.tasks place)) c.2 in
+      let lt = submission_fits scene x (Copies bio master leg (Links hand)) lists (subst (TaskIsSound scene) c.1 (i.tasks place)) c.2 in
       let item = leg_at bio hand leg key (tree_at scene.setup bio.dev) in
       let l = g.leg bio hand leg key d.0 lt in
       let low = l.1 in

@@ -14,7 +14,7 @@ use Rattle.run_machine.specs.Scene.{Setup, Scene, tree_at}
 use Rattle.run_machine.specs.Submissions.{Want, Takes, Punts as WantsPunt, Links, ToPush, ToCut, ToRecord, ToMaster, Doing, Rests, Drives, Copies, Breaks, rests, settled, first_length, legs_of, leg_at}
 use Rattle.run_machine.specs.Tasks.{TaskState, Writer, Rescuer, Completer, Keeper, Todo, Gathered, NoBio, HasBio, HasBoth, Carried, Empty, Brings, Carries, Fails}
 use Rattle.run_machine.specs.Runs.{State}
-use Rattle.block_core.specs.Weights.{total_weight, sum_at, one, weigh_option, want_weight, doing_weight, task_weight, submission_weight, gathered_weight, carried_weight, book_weight, names_node}
+use Rattle.block_core.specs.Weights.{total_weight, sum_at, one_if_same, weigh_option, want_weight, doing_weight, task_weight, submission_weight, gathered_weight, carried_weight, book_weight, names_node}
 use Rattle.block_core.proofs.moves.References.{references, awaited_ends}
 use Rattle.block_core.proofs.moves.Moves.{Move, Can, after, lost, gained, limit_of, gathered_of, filled_of, vector_of, cut_lists, TellsNode}
 use Rattle.block_core.proofs.moves.Moves as moves
@@ -77,11 +77,11 @@ named_le scene w k s =
     )
 
 blind_named : (w k : ℕ) → IsBlind (named w k)
-blind_named w k limit item t = landed_same (λ (bio : Bio). one bio.writer w * one bio.node k) (λ to members bio. refl) t item.bio
+blind_named w k limit item t = landed_same (λ (bio : Bio). one_if_same bio.writer w * one_if_same bio.node k) (λ to members bio. refl) t item.bio
 
 begun_named : (setup : Setup) (w k writer : ℕ) (todo : Todo) (later : List Todo) (item : Item Pad) (vector : Option VectorItem) (key : ℕ)
     → submission_weight (named w k) 32 (settled setup (filled_of writer todo item vector key ∷ []))
-    ≡ task_weight (named w k) 0 (Writer writer (todo ∷ later) (gathered_of item vector) rests) + one writer w * one key k
+    ≡ task_weight (named w k) 0 (Writer writer (todo ∷ later) (gathered_of item vector) rests) + one_if_same writer w * one_if_same key k
 begun_named setup w k writer todo later item None key =
     omega (arith, first_weight (named w k) (blind_named w k) 32 setup (filled_of writer todo item None key ∷ []), begun_names (names_node w k) w k refl writer todo item None key)
 begun_named setup w k writer todo later item (Some vector) key =
@@ -94,7 +94,7 @@ brought (Carries writer closed) = 0
 brought (Fails breach kept) = 0
 
 tells_named : (w k writer key : ℕ) (status : Status) (part : Option (Item Pad)) (carried : Carried) → TellsNode carried writer key status part
-    → carried_weight (named w k) 0 carried ≡ one writer w * (one key k * brought carried)
+    → carried_weight (named w k) 0 carried ≡ one_if_same writer w * (one_if_same key k * brought carried)
 tells_named w k writer key status part (Brings bio ending) t = rw (t.0, t.1) (omega arith)
 tells_named w k writer key status part (Carries of closed) t = omega arith
 tells_named w k writer key status part Empty t = absurd t
@@ -135,8 +135,8 @@ module _ (scene : Scene) (s : State) (f : LedgersAreNumbered scene) (i : Invaria
       let one_ref : awaited_ends (node_at (s.objects.book writer) key) ≡ node.count = ap awaited_ends c.4 in
       let last : node.count ≡ 1 = c.5 in
       let own : own_of (node_at (s.objects.book writer) key) ≡ own_part node.role node.held.bio = ap own_of c.4 in
-      let t : one writer writer * one key key ≡ 1 = rw (one-same writer, one-same key) refl in
-      let t2 : one writer writer * (one key key * brought carried) ≡ brought carried = rw (one-same writer, one-same key) (omega arith) in
+      let t : one_if_same writer writer * one_if_same key key ≡ 1 = rw (one-same writer, one-same key) refl in
+      let t2 : one_if_same writer writer * (one_if_same key key * brought carried) ≡ brought carried = rw (one-same writer, one-same key) (omega arith) in
       omega (
         arith,
         i.counts writer key,

@@ -24,7 +24,7 @@ use Rattle.run_machine.specs.Runs.{State}
 use Rattle.block_core.proofs.moves.Moves.{Move, Can, after, with_submission, HasSubmission, gathered_of, IsTake}
 use Rattle.block_core.proofs.moves.Moves as moves
 use Rattle.block_core.proofs.moves.Sums.{upd-same, upd-other, same_or_not}
-use Rattle.block_core.proofs.sound.Invariant.{Suits, TaskFits, Invariant}
+use Rattle.block_core.proofs.sound.Invariant.{Suits, TaskIsSound, Invariant}
 use Rattle.block_core.proofs.sound.TaskSubmissions.{submission_fits}
 use Rattle.block_core.proofs.sound.Rounds.{TaskRounds, Tallied}
 use Rattle.block_core.proofs.stuck.NothingWaits.{IsPool}
@@ -222,7 +222,7 @@ module _ (rounds : List ℕ) (ids : ℕ → TaskId) (keeper : ℕ) (scene : Scen
   disks : (m : Move) → Can scene s m → (dev : ℕ) → (((after scene s m).objects.disk dev).pending ≡ []) ⊎ (is_disk scene.setup dev ≡ true)
   -- pushes: a bio is pushed where its device is a disk
   disks (moves.Pushes place x bio lists) c =
-      let suits = submission_fits scene x (Drives bio ToPush) lists (subst (TaskFits scene) c.1 (k.tasks place)) c.2 in
+      let suits = submission_fits scene x (Drives bio ToPush) lists (subst (TaskIsSound scene) c.1 (k.tasks place)) c.2 in
       upd_keeps (λ d (disk : DiskState). (disk.pending ≡ []) ⊎ (is_disk scene.setup d ≡ true)) s.objects.disk bio.bio.dev.0 (pushed bio (s.objects.disk bio.bio.dev.0)) i.disks
       (inr (disk_there bio.bio c.3 suits))
   -- completions: a device that had a bio is a disk

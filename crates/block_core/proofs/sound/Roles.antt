@@ -10,7 +10,7 @@ use Rattle.bio_books.specs.Drops.{Closed}
 use Rattle.run_machine.specs.Scene.{Scene}
 use Rattle.run_machine.specs.Tasks.{Completer, Carries}
 use Rattle.run_machine.specs.Runs.{State}
-use Rattle.block_core.specs.Weights.{Weight, total_weight, one, under, legs_left}
+use Rattle.block_core.specs.Weights.{Weight, total_weight, one_if_same, under, legs_left}
 use Rattle.block_core.proofs.moves.References.{references, awaited_ends}
 use Rattle.block_core.specs.EachBio.{EachBio, EachCopied}
 use Rattle.block_core.specs.Touches.{is_master}
@@ -24,7 +24,7 @@ use Rattle.block_core.proofs.sound.Misplaced.{wrong_parent, wrong_above, misplac
 use Rattle.block_core.proofs.moves.Totals.{task_part}
 use Rattle.block_core.proofs.stuck.Idle.{open_at, node_part, names_one}
 use Rattle.block_core.proofs.moves.SumsCompared.{under_in_all}
-use Rattle.block_core.proofs.sound.StoodFor.{refs_are, Stands}
+use Rattle.block_core.proofs.sound.StoodFor.{refs_are, MastersStand}
 use Rattle.block_core.proofs.sound.EachBio.{each_part, each_copied_part}
 use Rattle.block_core.proofs.images.Ancestors.{copied_times}
 
@@ -49,23 +49,23 @@ above_kind mark true None parent none is same = absurd cc
 above_kind mark true (Some above) parent none is same = let e : above ≡ parent = cc in subst (λ k. mark k ≡ false) e (is_false (mark above) none)
 
 -- what refers to a place is right there by the place's mark
-marked : (mark : ℕ → ℕ → Bool) (writer w p k : ℕ) → mark w k ≡ true → one writer w * one p k ≤ yes (mark writer p)
+marked : (mark : ℕ → ℕ → Bool) (writer w p k : ℕ) → mark w k ≡ true → one_if_same writer w * one_if_same p k ≤ yes (mark writer p)
 marked mark writer w p k is = elim (same_or_not writer w) [
-  | inr ne ↦ let z = one-other writer w ne in omega (arith, ap (λ n. n * one p k) z)
+  | inr ne ↦ let z = one-other writer w ne in omega (arith, ap (λ n. n * one_if_same p k) z)
   | inl e ↦ elim (same_or_not p k) [
-    | inr ne ↦ let z = one-other p k ne in omega (arith, ap (λ n. one writer w * n) z)
+    | inr ne ↦ let z = one-other p k ne in omega (arith, ap (λ n. one_if_same writer w * n) z)
     | inl also ↦
-        let P : ℕ → ℕ → Type 0 = λ a b. one a w * one b k ≤ yes (mark a b) in
+        let P : ℕ → ℕ → Type 0 = λ a b. one_if_same a w * one_if_same b k ≤ yes (mark a b) in
         let here : P w k = rw (one-same w, one-same k, is) (omega arith) in
         subst (λ b. P writer b) (sym also) (subst (λ a. P a k) (sym e) here)
   ]
 ]
 
-not_marked : (mark : ℕ → ℕ → Bool) (writer w p k n : ℕ) → mark w k ≡ false → mark writer p ≡ true → one writer w * one p k * n ≡ 0
+not_marked : (mark : ℕ → ℕ → Bool) (writer w p k n : ℕ) → mark w k ≡ false → mark writer p ≡ true → one_if_same writer w * one_if_same p k * n ≡ 0
 not_marked mark writer w p k n other is = elim (same_or_not writer w) [
-  | inr ne ↦ let z = one-other writer w ne in omega (arith, ap (λ m. m * one p k * n) z)
+  | inr ne ↦ let z = one-other writer w ne in omega (arith, ap (λ m. m * one_if_same p k * n) z)
   | inl e ↦ elim (same_or_not p k) [
-    | inr ne ↦ let z = one-other p k ne in omega (arith, ap (λ m. one writer w * m * n) z)
+    | inr ne ↦ let z = one-other p k ne in omega (arith, ap (λ m. one_if_same writer w * m * n) z)
     | inl also ↦ let same : mark w k ≡ true = subst (λ b. mark w b ≡ true) also (subst (λ a. mark a p ≡ true) e is) in absurd cc
   ]
 ]
@@ -81,7 +81,7 @@ waits_by (role.Chain parent) (Some bio) count bios standing below legs all own o
 waits_by (role.Leg parent) None count bios standing below legs all own one_each alone made = let z = made refl in ((sym own, omega (arith, one_each)), z, omega (arith, all, z))
 waits_by (role.Leg parent) (Some bio) count bios standing below legs all own one_each alone made = let z = made refl in ((sym own, omega (arith, one_each)), z, omega (arith, all, z))
 
-module _ (scene : Scene) (s : State) (was_master : ℕ → Bool) (i : Invariant scene s) (t : Stands scene was_master s) where
+module _ (scene : Scene) (s : State) (was_master : ℕ → Bool) (i : Invariant scene s) (t : MastersStand scene was_master s) where
   abbrev mark : ℕ → ℕ → Bool
   mark = t.right.0
 
@@ -154,7 +154,7 @@ module _ (scene : Scene) (s : State) (was_master : ℕ → Bool) (i : Invariant 
       (λ same. no_legs writer place (sym is ∙ same))
 
   refers : (writer parent : ℕ) (found : Option ℕ) → found ≡ Some parent → under writer parent writer found ≡ 1
-  refers writer parent found is = ap (under writer parent writer) is ∙ (ap (λ n. n * one parent parent) (one-same writer) ∙ ap (λ n. 1 * n) (one-same parent))
+  refers writer parent found is = ap (under writer parent writer) is ∙ (ap (λ n. n * one_if_same parent parent) (one-same writer) ∙ ap (λ n. 1 * n) (one-same parent))
 
   parents : (writer place : ℕ) (node : Node) (parent : ℕ) → node_at (s.objects.book writer) place ≡ Some node → parent_of node.role ≡ Some parent
       → (above : Node) × (node_at (s.objects.book writer) parent ≡ Some above) × (is_master above.role ≡ is_leg node.role)

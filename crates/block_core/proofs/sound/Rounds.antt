@@ -12,7 +12,7 @@ use Rattle.run_machine.specs.Scene.{Scene}
 use Rattle.run_machine.specs.Submissions.{Submission, rests}
 use Rattle.run_machine.specs.Tasks.{TaskState, Writer, Rescuer, Completer, Keeper, Keeping, Keeps, Stops, Duty, Resizes, Starts, Todo, Gathered, NoBio, Carries}
 use Rattle.run_machine.specs.Runs.{State}
-use Rattle.block_core.specs.Weights.{Weight, total_weight, one, task_weight}
+use Rattle.block_core.specs.Weights.{Weight, total_weight, one_if_same, task_weight}
 use Rattle.block_core.proofs.moves.Moves.{Move, Can, after, with_submission, gathered_of}
 use Rattle.block_core.proofs.moves.Moves as moves
 use Rattle.block_core.proofs.moves.Sums.{upd-same, upd-other, one-same, one-other, same_or_not, below_or}
@@ -79,8 +79,8 @@ module _ (rounds : List ℕ) (keeper : ℕ) (scene : Scene) (s : State) (i : Tal
       r : ℕ
       r = round_of rounds closed.write
 
-      worth_one : tops_left closed.parent * one r r ≡ 1
-      worth_one = ap (λ parent. tops_left parent * one r r) c.3 ∙ omega (arith, one-same r)
+      worth_one : tops_left closed.parent * one_if_same r r ≡ 1
+      worth_one = ap (λ parent. tops_left parent * one_if_same r r) c.3 ∙ omega (arith, one-same r)
 
       some : 1 ≤ slice_index_or s.objects.tally.left r 0
       some = omega (arith, i.left r, worth_one, carried_part (unfinished_of (is_of_round rounds r)) place disk writer closed c.0 c.1)
@@ -231,7 +231,7 @@ module _ (rounds : List ℕ) (keeper : ℕ) (scene : Scene) (s : State) (i : Tal
           let own = of_present place disk writer closed c in
           let now = s.objects.tally.round in
           let left = s.objects.tally.left in
-          let mine : one (round_of rounds closed.write) r ≡ 1 = ap (λ n. one n r) (own.0 ∙ sym e) ∙ one-same r in
+          let mine : one_if_same (round_of rounds closed.write) r ≡ 1 = ap (λ n. one_if_same n r) (own.0 ∙ sym e) ∙ one-same r in
           let set_here : get_or (set left now (get_or left now 0 - 1)) now 0 ≡ get_or left now 0 - 1 = get_or-set_same left now (get_or left now 0 - 1) 0 i.tally.present in
           let at : get_or (set left now (get_or left now 0 - 1)) r 0 ≡ get_or (set left now (get_or left now 0 - 1)) now 0 = ap (λ n. get_or (set left now (get_or left now 0 - 1)) n 0) e in
           let old : get_or left r 0 ≡ get_or left now 0 = ap (λ n. get_or left n 0) e in
@@ -240,7 +240,7 @@ module _ (rounds : List ℕ) (keeper : ℕ) (scene : Scene) (s : State) (i : Tal
           let own = of_present place disk writer closed c in
           let now = s.objects.tally.round in
           let left = s.objects.tally.left in
-          let none : one (round_of rounds closed.write) r ≡ 0 = one-other (round_of rounds closed.write) r (λ e. ne (sym e ∙ own.0)) in
+          let none : one_if_same (round_of rounds closed.write) r ≡ 0 = one-other (round_of rounds closed.write) r (λ e. ne (sym e ∙ own.0)) in
           let stays : get_or (set left now (get_or left now 0 - 1)) r 0 ≡ get_or left r 0 = get_or-set_other left now r (get_or left now 0 - 1) 0 ne in
           omega (arith, none, stays, i.left r, staged (λ todos taken. all_worth (is_of_round rounds r) todos) (is_of_round rounds r) scene s (moves.Ends place disk writer closed) c)
 

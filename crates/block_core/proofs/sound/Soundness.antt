@@ -25,7 +25,7 @@ use Rattle.block_core.proofs.sound.EachBio.{each_bio, each_copied}
 use Rattle.block_core.proofs.stuck.Idle.{node_part}
 use Rattle.block_core.proofs.sound.Misplaced.{misplaced}
 use Rattle.block_core.proofs.sound.Roles.{has_roles}
-use Rattle.block_core.proofs.sound.StoodFor.{Stands, runs_stand}
+use Rattle.block_core.proofs.sound.StoodFor.{MastersStand, runs_stand}
 use Rattle.block_core.proofs.sound.LegLists.{TaskHasLegs, HasLegs, Legged, stays_legged}
 use Rattle.block_core.proofs.sound.ListOrder.{hands_right, in_list_order}
 use Rattle.block_core.proofs.status.KeptEnds.{ends_are_kept}
@@ -72,7 +72,7 @@ begins_legless scene s (Rescuer dev submission) h = subst (λ (l : Submission). 
 begins_legless scene s (Completer disk carried) h = tt
 begins_legless scene s (Keeper keeping) h = tt
 
-opened_stands : (scene : Scene) (s : State) → IsStartState scene s → Stands scene none_was s
+opened_stands : (scene : Scene) (s : State) → IsStartState scene s → MastersStand scene none_was s
 opened_stands scene s o = record {
   right = (λ w k. false, total_zero scene s (misplaced (λ w k. false) none_was) (λ n todos. refl) o);
   all = λ w k.

@@ -14,7 +14,7 @@ use Rattle.run_machine.specs.Scene.{Setup, Scene, tree_at}
 use Rattle.run_machine.specs.Submissions.{ToMaster, Drives, first_length, legs_of, leg_at}
 use Rattle.run_machine.specs.Tasks.{Carried, Brings}
 use Rattle.run_machine.specs.Runs.{State, IsRun}
-use Rattle.block_core.specs.Weights.{Weight, total_weight, one, task_weight, carried_weight, under}
+use Rattle.block_core.specs.Weights.{Weight, total_weight, one_if_same, task_weight, carried_weight, under}
 use Rattle.block_core.proofs.moves.References.{references}
 use Rattle.block_core.specs.Touches.{touch_of, is_master, is_master_at, masters_after, were_masters}
 use Rattle.block_core.specs.Roles.{named, masters, children, legs_to_make}
@@ -23,7 +23,7 @@ use Rattle.block_core.proofs.moves.Moves as moves
 use Rattle.block_core.proofs.moves.Sums.{upd-same, upd-other, same_or_not, one-same, one-other}
 use Rattle.block_core.proofs.sound.Invariant.{own_part, own_of, LedgersAreNumbered, Invariant}
 use Rattle.block_core.proofs.sound.Orders.{DeviceGeometry}
-use Rattle.block_core.proofs.sound.EveryRun.{Whole, step_whole}
+use Rattle.block_core.proofs.sound.EveryRun.{IsReachedWhole, step_whole}
 use Rattle.block_core.proofs.moves.StepMoves.{step_is_move}
 use Rattle.block_core.proofs.moves.Deltas.{vacant_at, delta}
 use Rattle.block_core.proofs.sound.SumParts.{copies_weight, unless_none, is_away}
@@ -80,11 +80,11 @@ module _ (scene : Scene) (s : State) (i : Invariant scene s) (was_master : ℕ �
 
   -- no master is under a vacant place
   at_vacant : (writer key : ℕ) → IsVacant (s.objects.book writer) key → (w k : ℕ)
-      → total_weight scene (w_of w k) s + own_of (node_at (s.objects.book w) k) + one writer w * (one key k * 1) ≤ 1
+      → total_weight scene (w_of w k) s + own_of (node_at (s.objects.book w) k) + one_if_same writer w * (one_if_same key k * 1) ≤ 1
   at_vacant writer key v w k = elim (same_or_not writer w) [
     | inl e ↦ elim (same_or_not key k) [
       | inl also ↦
-          let P : ℕ → ℕ → Type 0 = λ a b. total_weight scene (w_of a b) s + own_of (node_at (s.objects.book a) b) + one writer a * (one key b * 1) ≤ 1 in
+          let P : ℕ → ℕ → Type 0 = λ a b. total_weight scene (w_of a b) s + own_of (node_at (s.objects.book a) b) + one_if_same writer a * (one_if_same key b * 1) ≤ 1 in
           let none : own_of (node_at (s.objects.book writer) key) ≡ 0 = ap own_of (vacant_at (s.objects.book writer) key v).0 in
           let here : P writer key =
           rw (one-same writer, one-same key)
@@ -95,9 +95,9 @@ module _ (scene : Scene) (s : State) (i : Invariant scene s) (was_master : ℕ �
             total_sum (references scene.setup writer key) _ _ _ _ (refs_are scene.setup was_master writer key) scene s,
           )) in
           subst (P w) also (subst (λ a. P a key) e here)
-      | inr ne ↦ let z = one-other key k ne in omega (arith, all w k, ap (λ n. one writer w * (n * 1)) z)
+      | inr ne ↦ let z = one-other key k ne in omega (arith, all w k, ap (λ n. one_if_same writer w * (n * 1)) z)
     ]
-    | inr ne ↦ let z = one-other writer w ne in omega (arith, all w k, ap (λ n. n * (one key k * 1)) z)
+    | inr ne ↦ let z = one-other writer w ne in omega (arith, all w k, ap (λ n. n * (one_if_same key k * 1)) z)
   ]
 
   pub stays_stood_for : (m : Move) → Can scene s m → AreStoodFor scene (after scene s m) (was_after was_master m)
@@ -206,12 +206,12 @@ module _ (scene : Scene) (s : State) (i : Invariant scene s) (was_master : ℕ �
   stays_stood_for (moves.Resized place pool min later duties) c w k = same (moves.Resized place pool min later duties) c w k refl (omega arith)
   stays_stood_for (moves.Started place round later duties) c w k = same (moves.Started place round later duties) c w k refl (omega arith)
 
-pub record Stands (scene : Scene) (was_master : ℕ → Bool) (s : State) : Type 0 where
+pub record MastersStand (scene : Scene) (was_master : ℕ → Bool) (s : State) : Type 0 where
   pub right : ArePlaced scene s was_master
   pub all : AreStoodFor scene s was_master
 
-pub stays_standing : (scene : Scene) (s : State) (was_master : ℕ → Bool) → Invariant scene s → Stands scene was_master s → (m : Move) → Can scene s m
-    → Stands scene (was_after was_master m) (after scene s m)
+pub stays_standing : (scene : Scene) (s : State) (was_master : ℕ → Bool) → Invariant scene s → MastersStand scene was_master s → (m : Move) → Can scene s m
+    → MastersStand scene (was_after was_master m) (after scene s m)
 stays_standing scene s was_master i t m c = record {
   right = stays_right scene s i was_master t.right.0 t.right.1 m c;
   all = stays_stood_for scene s i was_master t.all m c;
@@ -224,13 +224,13 @@ closed_so scene s was_master (moves.Closes place disk carried writer key status 
 -- all others: no node closes
 closed_so scene s was_master _ c = refl
 
-pub runs_stand : (scene : Scene) → LedgersAreNumbered scene → DeviceGeometry scene.setup → (s : State) (events : List Event) (new : State) (was_master : ℕ → Bool) → Whole scene s → Stands scene was_master s
-    → (run : IsRun scene s events new) → Stands scene (were_masters scene s events new run was_master) new
-runs_stand scene f g s [] new was_master i t run = subst (Stands scene was_master) (sym run) t
+pub runs_stand : (scene : Scene) → LedgersAreNumbered scene → DeviceGeometry scene.setup → (s : State) (events : List Event) (new : State) (was_master : ℕ → Bool) → IsReachedWhole scene s → MastersStand scene was_master s
+    → (run : IsRun scene s events new) → MastersStand scene (were_masters scene s events new run was_master) new
+runs_stand scene f g s [] new was_master i t run = subst (MastersStand scene was_master) (sym run) t
 runs_stand scene f g s (event ∷ events) new was_master i t (next, (place, steps), run) =
     let moved = step_is_move scene s f i.kept place event next steps in
     let now : masters_after s place (touch_of event.what) was_master ≡ was_after was_master moved.move =
     ap (λ touch. masters_after s place touch was_master) moved.touches ∙ ap (λ at. masters_after s at (touch_by moved.move) was_master) (sym moved.at)
     ∙ closed_so scene s was_master moved.move moved.can in
     runs_stand scene f g next events new (masters_after s place (touch_of event.what) was_master) (step_whole scene f g s place event next i steps)
-    (subst (λ was. Stands scene was next) (sym now) (subst (Stands scene (was_after was_master moved.move)) (sym moved.is) (stays_standing scene s was_master i.kept t moved.move moved.can))) run
+    (subst (λ was. MastersStand scene was next) (sym now) (subst (MastersStand scene (was_after was_master moved.move)) (sym moved.is) (stays_standing scene s was_master i.kept t moved.move moved.can))) run

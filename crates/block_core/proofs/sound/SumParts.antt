@@ -21,7 +21,7 @@ use Rattle.bioset_pools.specs.Sets.{waits_first}
 use Rattle.run_machine.specs.Submissions.{Takes, Doing, Copies, rests, settled, goes_on, copies, legs_of}
 use Rattle.run_machine.specs.Tasks.{TaskState, Writer, Completer, Todo, Carried, Empty, Brings, Carries, Fails}
 use Rattle.run_machine.specs.Runs.{State}
-use Rattle.block_core.specs.Weights.{Weight, Lined, total_weight, one, doing_weight, task_weight, submission_weight, carried_weight, elements_of_pool, holding_elements, names_node}
+use Rattle.block_core.specs.Weights.{Weight, Lined, total_weight, one_if_same, doing_weight, task_weight, submission_weight, carried_weight, elements_of_pool, holding_elements, names_node}
 use Rattle.block_core.proofs.moves.Moves.{limit_of, HasSubmission, gathered_of, filled_of, vector_of, cut_lists, IsTake, TellsNode, Releases, piece}
 use Rattle.block_core.proofs.moves.Sums.{weight-upd, one-same}
 use Rattle.block_core.proofs.moves.Totals.{task_part, submission_part as submission_in_task}
@@ -37,16 +37,16 @@ taken_out pool gives h = absurd h
 taken_out pool (resizes min) h = absurd h
 
 -- a pool's out after a take, a miss and a give
-pub out_more : (f : ℕ → PoolState) (p : ℕ) (move : PoolMove) (q : ℕ) → IsTake move → (upd f p (after_move (f p) move) q).facts.out ≡ (f q).facts.out + one p q
-out_more f p move q h = omega (arith, weight-upd (λ (y : PoolState). y.facts.out) f p (after_move (f p) move) q, ap (λ n. one p q * n) (taken_out (f p) move h))
+pub out_more : (f : ℕ → PoolState) (p : ℕ) (move : PoolMove) (q : ℕ) → IsTake move → (upd f p (after_move (f p) move) q).facts.out ≡ (f q).facts.out + one_if_same p q
+out_more f p move q h = omega (arith, weight-upd (λ (y : PoolState). y.facts.out) f p (after_move (f p) move) q, ap (λ n. one_if_same p q * n) (taken_out (f p) move h))
 
 pub out_same : (f : ℕ → PoolState) (p : ℕ) (used : Bool) (q : ℕ) → (upd f p (after_move (f p) (misses used)) q).facts.out ≡ (f q).facts.out
 out_same f p used q = omega (arith, weight-upd (λ (y : PoolState). y.facts.out) f p (after_move (f p) (misses used)) q)
 
-pub out_less : (f : ℕ → PoolState) (p q : ℕ) → 1 ≤ (f p).facts.out → (upd f p (after_move (f p) gives) q).facts.out + one p q ≡ (f q).facts.out
+pub out_less : (f : ℕ → PoolState) (p q : ℕ) → 1 ≤ (f p).facts.out → (upd f p (after_move (f p) gives) q).facts.out + one_if_same p q ≡ (f q).facts.out
 out_less f p q le =
     let one_less : (f p).facts.out - 1 + 1 ≡ (f p).facts.out = omega arith in
-    omega (arith, weight-upd (λ (y : PoolState). y.facts.out) f p (after_move (f p) gives) q, ap (λ n. one p q * n) one_less)
+    omega (arith, weight-upd (λ (y : PoolState). y.facts.out) f p (after_move (f p) gives) q, ap (λ n. one_if_same p q * n) one_less)
 
 -- a weight of the two parts of a split, behind list 0
 pub cut_weight : (g : Item Pad → ℕ) (bio : Item Pad) (lists : TaskLists) (hand : Item Pad) (n key : ℕ) (kind : Kind) (sizes : List ℕ) (members : ℕ → Tree)
@@ -63,11 +63,11 @@ pub begun_elements : (scene : Scene) (q writer : ℕ) (todo : Todo) (later : Lis
     → submission_weight (elements_of_pool q) 32 (settled scene.setup (filled_of writer todo item vector key ∷ [])) + (elements_of_pool q).node writer key (top_node todo.number (vector_of todo vector))
     ≡ task_weight (elements_of_pool q) 0 (Writer writer (todo ∷ later) (gathered_of item vector) rests)
 begun_elements scene q writer todo later item None key =
-    omega (arith, first_weight (elements_of_pool q) (blind_elements q) 32 scene.setup (filled_of writer todo item None key ∷ []), sum_by-cons (λ (bio : Item Pad). one bio.share.no q) (filled_of writer todo item None key) [])
+    omega (arith, first_weight (elements_of_pool q) (blind_elements q) 32 scene.setup (filled_of writer todo item None key ∷ []), sum_by-cons (λ (bio : Item Pad). one_if_same bio.share.no q) (filled_of writer todo item None key) [])
 begun_elements scene q writer todo later item (Some vector) key =
-    omega (arith, first_weight (elements_of_pool q) (blind_elements q) 32 scene.setup (filled_of writer todo item (Some vector) key ∷ []), sum_by-cons (λ (bio : Item Pad). one bio.share.no q) (filled_of writer todo item (Some vector) key) [])
+    omega (arith, first_weight (elements_of_pool q) (blind_elements q) 32 scene.setup (filled_of writer todo item (Some vector) key ∷ []), sum_by-cons (λ (bio : Item Pad). one_if_same bio.share.no q) (filled_of writer todo item (Some vector) key) [])
 
-pub released_elements : (q number : ℕ) (old new : Holding) → Releases old number new → holding_elements q new + one number q ≡ holding_elements q old
+pub released_elements : (q number : ℕ) (old new : Holding) → Releases old number new → holding_elements q new + one_if_same number q ≡ holding_elements q old
 released_elements q number old new (inl h) = rw (h.3, h.1, h.2) (omega arith)
 released_elements q number old new (inr (inl h)) = rw (h.3, h.1, h.2) (omega arith)
 released_elements q number old new (inr (inr h)) = rw (h.3, h.1, h.2) (omega arith)

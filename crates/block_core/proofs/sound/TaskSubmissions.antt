@@ -20,7 +20,7 @@ use Rattle.run_machine.specs.Runs.{State}
 use Rattle.block_core.proofs.moves.Moves.{Move, Can, after, with_submission, HasSubmission, Wants, with_want, filled_of, cut_lists}
 use Rattle.block_core.proofs.moves.Moves as moves
 use Rattle.block_core.proofs.moves.Sums.{upd-same, upd-other, same_or_not}
-use Rattle.block_core.proofs.sound.Invariant.{Suits, DoingFits, SubmissionFits, HandFits, TaskFits, LedgersAreNumbered, Invariant}
+use Rattle.block_core.proofs.sound.Invariant.{Suits, DoingFits, SubmissionFits, HandFits, TaskIsSound, LedgersAreNumbered, Invariant}
 use Rattle.std.proofs.lemmas.Bool.{eqb-false}
 
 -- what is so at all places is so when one of them changes
@@ -80,15 +80,15 @@ wants_busy Rests dev want h = h
 wants_busy (Breaks breach kept) dev want h = tt
 
 -- the submission of a task is in order
-pub submission_fits : (scene : Scene) (x : TaskState) (doing : Doing) (lists : TaskLists) → TaskFits scene x → HasSubmission x doing lists → DoingFits scene.setup doing lists
+pub submission_fits : (scene : Scene) (x : TaskState) (doing : Doing) (lists : TaskLists) → TaskIsSound scene x → HasSubmission x doing lists → DoingFits scene.setup doing lists
 submission_fits scene (Writer number todo taken submission) doing lists fits h = subst (SubmissionFits scene.setup) h fits.1
 submission_fits scene (Rescuer dev submission) doing lists fits h = subst (SubmissionFits scene.setup) h fits.1
 submission_fits scene (Completer disk carried) doing lists fits h = absurd h
 submission_fits scene (Keeper keeping) doing lists fits h = absurd h
 
 -- a task that submits has nothing in hand, so it goes on with any submission in order
-pub submission_keeps : (scene : Scene) (x : TaskState) (doing : Doing) (lists : TaskLists) (new : Submission) → TaskFits scene x → HasSubmission x doing lists → IsBusy doing
-    → SubmissionFits scene.setup new → TaskFits scene (with_submission x new)
+pub submission_keeps : (scene : Scene) (x : TaskState) (doing : Doing) (lists : TaskLists) (new : Submission) → TaskIsSound scene x → HasSubmission x doing lists → IsBusy doing
+    → SubmissionFits scene.setup new → TaskIsSound scene (with_submission x new)
 submission_keeps scene (Writer number todo taken submission) doing lists new fits h busy to = (fits.0, to, no_hand taken fits.2)
   where
     not_resting : (l : Submission) → l ≡ record { doing = doing; lists = lists } → l ≡ rests → ⊥
@@ -103,23 +103,23 @@ submission_keeps scene (Completer disk carried) doing lists new fits h busy to =
 submission_keeps scene (Keeper keeping) doing lists new fits h busy to = absurd h
 
 module _ (scene : Scene) (s : State) (f : LedgersAreNumbered scene) (i : Invariant scene s) where
-  at_place : (place : ℕ) (x : TaskState) → s.task place ≡ x → TaskFits scene x
-  at_place place x is = subst (TaskFits scene) is (i.tasks place)
+  at_place : (place : ℕ) (x : TaskState) → s.task place ≡ x → TaskIsSound scene x
+  at_place place x is = subst (TaskIsSound scene) is (i.tasks place)
 
-  goes : (place : ℕ) (y : TaskState) → TaskFits scene y → (other : ℕ) → TaskFits scene (upd s.task place y other)
-  goes place y fits = all-upd (TaskFits scene) s.task place y i.tasks fits
+  goes : (place : ℕ) (y : TaskState) → TaskIsSound scene y → (other : ℕ) → TaskIsSound scene (upd s.task place y other)
+  goes place y fits = all-upd (TaskIsSound scene) s.task place y i.tasks fits
 
   on_submission : (place : ℕ) (x : TaskState) (doing : Doing) (lists : TaskLists) (new : Submission) → s.task place ≡ x → HasSubmission x doing lists → IsBusy doing → SubmissionFits scene.setup new
-      → (other : ℕ) → TaskFits scene (upd s.task place (with_submission x new) other)
+      → (other : ℕ) → TaskIsSound scene (upd s.task place (with_submission x new) other)
   on_submission place x doing lists new is h busy to = goes place (with_submission x new) (submission_keeps scene x doing lists new (at_place place x is) h busy to)
 
   wants_on : (place : ℕ) (x : TaskState) (doing : Doing) (lists more : TaskLists) (dev : DevId) (old new : Want) → s.task place ≡ x → HasSubmission x doing lists → Wants doing dev old
-      → (other : ℕ) → TaskFits scene (upd s.task place (with_submission x (record { doing = with_want doing new; lists = more })) other)
+      → (other : ℕ) → TaskIsSound scene (upd s.task place (with_submission x (record { doing = with_want doing new; lists = more })) other)
   wants_on place x doing lists more dev old new is h wants =
       on_submission place x doing lists (record { doing = with_want doing new; lists = more }) is h (wants_busy doing dev old wants)
       (wants_fit scene.setup doing dev old new lists more wants (submission_fits scene x doing lists (at_place place x is) h))
 
-  pub tasks : (m : Move) → Can scene s m → (other : ℕ) → TaskFits scene ((after scene s m).task other)
+  pub tasks : (m : Move) → Can scene s m → (other : ℕ) → TaskIsSound scene ((after scene s m).task other)
   -- takes of writers: a writer that has something in hand has nothing submitted
   tasks (moves.TakesFirst place writer todo later move) c = let fits = at_place place _ c.1 in goes place _ (fits.0, refl, refl)
   tasks (moves.TakesVector place writer todo later item move) c = let fits = at_place place _ c.1 in goes place _ (fits.0, refl, refl)

@@ -14,7 +14,7 @@ use Rattle.block_core.specs.Weights.{Weight, Pending, Rescued, total_weight, sum
 use Rattle.block_core.proofs.moves.References.{references, awaited_ends}
 use Rattle.block_core.specs.Roles.{named}
 use Rattle.block_core.proofs.moves.Sums.{below_or}
-use Rattle.block_core.proofs.sound.Invariant.{own_of, GoesOn, TaskFits, IsIn, Invariant}
+use Rattle.block_core.proofs.sound.Invariant.{own_of, GoesOn, TaskIsSound, IsIn, Invariant}
 use Rattle.std.specs.Prelude.{All, replicate, zip}
 use Rattle.std.proofs.lemmas.List.{get_or-replicate, length-replicate}
 use Rattle.std.proofs.lemmas.List.Elements.{All-nil, All-cons, All-head, All-tail, All-map, All-append, All-filter, All-get_or}
@@ -77,7 +77,7 @@ total_zero scene s w none o =
       sum_at-zero (book_weight w) scene.books s.objects.book (λ writer. nodes_zero w writer (s.objects.book writer) (o.books writer)),
     )
 
-begins_fit : (scene : Scene) (x : TaskState) → Begins scene x → TaskFits scene x
+begins_fit : (scene : Scene) (x : TaskState) → Begins scene x → TaskIsSound scene x
 begins_fit scene (Writer number todo taken submission) h = rw (h.1, h.2) (h.0, refl, tt)
 begins_fit scene (Rescuer dev submission) h = rw (h.1) (h.0, refl)
 begins_fit scene (Completer disk carried) h = h.0

@@ -3,7 +3,7 @@ use Rattle.std.proofs.Common.{◌≡◌, ◌+◌, ◌<◌, ◌≤◌, ℕ, zero,
 use Rattle.std.specs.Prelude.{sum_by}
 use Rattle.std.proofs.lemmas.List.Sums.{sum_by-cons}
 use Rattle.run_machine.specs.Tasks.{Todo}
-use Rattle.block_core.specs.Weights.{total_weight, one}
+use Rattle.block_core.specs.Weights.{total_weight, one_if_same}
 use Rattle.block_core.proofs.moves.Sums.{one-same, one-other, same_or_not}
 use Rattle.std.specs.Prelude.{zip}
 use Rattle.std.specs.List.{range_with_len}
@@ -14,9 +14,9 @@ use Rattle.block_core.proofs.sound.DoneOnce.{stage, to_begin}
 use Rattle.block_core.proofs.start.StartTotals.{opened_total}
 use Rattle.elem_ledger.specs.Ledger.{LedgerId}
 
-one-small : (i j : ℕ) → one i j ≤ 1
+one-small : (i j : ℕ) → one_if_same i j ≤ 1
 one-small i j = elim (same_or_not i j) [
-  | inl e ↦ omega (arith, subst (λ k. one i k ≡ 1) e (one-same i))
+  | inl e ↦ omega (arith, subst (λ k. one_if_same i k ≡ 1) e (one-same i))
   | inr ne ↦ omega (arith, one-other i j ne)
 ]
 
@@ -34,16 +34,16 @@ once w a (suc n) (x ∷ xs) = elim (same_or_not a w) [
   | inr ne ↦ omega (arith, one-other a w ne, once w (a + 1) n xs)
 ]
 
-pub begins_sum : (w : ℕ) (ts : List Todo) → sum_by (λ (todo : Todo). one todo.number w) ts ≡ to_begin w ts
+pub begins_sum : (w : ℕ) (ts : List Todo) → sum_by (λ (todo : Todo). one_if_same todo.number w) ts ≡ to_begin w ts
 begins_sum w [] = refl
-begins_sum w (todo ∷ ts) = omega (arith, sum_by-cons (λ (todo : Todo). one todo.number w) todo ts, begins_sum w ts)
+begins_sum w (todo ∷ ts) = omega (arith, sum_by-cons (λ (todo : Todo). one_if_same todo.number w) todo ts, begins_sum w ts)
 
 -- each write is in stage once at most
 pub stage_at_start : (s : Scenario) (good : IsScenario s) (ledger : ℕ → LedgerId) (w : ℕ) → total_weight (scene s ledger) (stage w) (start s) ≤ 1
 stage_at_start s good ledger w =
     omega (
       arith,
-      opened_total s good ledger (stage w) (λ (todo : Todo). one todo.number w) (λ n ts. sym (begins_sum w ts)),
+      opened_total s good ledger (stage w) (λ (todo : Todo). one_if_same todo.number w) (λ n ts. sym (begins_sum w ts)),
       begins_sum w (todos s),
       once w 0 (length s.writes) (zip s.rounds s.writes),
     )

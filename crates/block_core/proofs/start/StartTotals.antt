@@ -16,7 +16,7 @@ use Rattle.run_machine.specs.Submissions.{rests}
 use Rattle.run_machine.specs.Tasks.{TaskState, Writer, Rescuer, Completer, Keeper, Duty, Todo, NoBio, Empty}
 use Rattle.run_machine.specs.Opened.{Scenario, scene, start, tasks as opened_tasks, todos, todos_of, is_by, writers, duties, keepers, no_task, setup as setup_in, at as device_at}
 use Rattle.run_machine.proofs.Passing.{filter_sum, none_passes}
-use Rattle.block_core.specs.Weights.{Weight, Pending, Rescued, total_weight, sum_at, one, task_weight, book_weight}
+use Rattle.block_core.specs.Weights.{Weight, Pending, Rescued, total_weight, sum_at, one_if_same, task_weight, book_weight}
 use Rattle.block_core.specs.Scenarios.{IsScenario}
 use Rattle.block_core.proofs.moves.Sums.{one-same, one-other, same_or_not}
 use Rattle.block_core.proofs.start.InvariantAtStart.{Begins, start_opened, nodes_zero, sum_at-zero, todos_all}
@@ -92,22 +92,22 @@ unfolding sum_at
 range_sum h = refl
 
 -- of all numbers below n, one at most is this one
-picked : (h : ℕ → ℕ) (w n : ℕ) → sum_at (λ v (x : ℕ). one v w * h v) n (λ v. v) ≤ h w
+picked : (h : ℕ → ℕ) (w n : ℕ) → sum_at (λ v (x : ℕ). one_if_same v w * h v) n (λ v. v) ≤ h w
 unfolding sum_at
 picked h w zero = omega arith
 picked h w (suc n) = elim (same_or_not n w) [
   | inl e ↦
-      let own : one n w * h n ≡ h w = ap (λ k. one k w * h k) e ∙ ap (λ m. m * h w) (one-same w) ∙ omega arith in
+      let own : one_if_same n w * h n ≡ h w = ap (λ k. one_if_same k w * h k) e ∙ ap (λ m. m * h w) (one-same w) ∙ omega arith in
       omega (arith, none_below h w n (omega (arith, e)), own)
   | inr ne ↦
-      let none : one n w * h n ≡ 0 = ap (λ m. m * h n) (one-other n w ne) ∙ omega arith in
+      let none : one_if_same n w * h n ≡ 0 = ap (λ m. m * h n) (one-other n w ne) ∙ omega arith in
       omega (arith, picked h w n, none)
 ]
   where
-    none_below : (h : ℕ → ℕ) (w n : ℕ) → n ≤ w → sum_at (λ v (x : ℕ). one v w * h v) n (λ v. v) ≡ 0
+    none_below : (h : ℕ → ℕ) (w n : ℕ) → n ≤ w → sum_at (λ v (x : ℕ). one_if_same v w * h v) n (λ v. v) ≡ 0
     none_below h w zero le = refl
     none_below h w (suc n) le =
-        let none : one n w * h n ≡ 0 = ap (λ m. m * h n) (one-other n w (λ e. omega (arith, e, le))) ∙ omega arith in
+        let none : one_if_same n w * h n ≡ 0 = ap (λ m. m * h n) (one-other n w (λ e. omega (arith, e, le))) ∙ omega arith in
         omega (arith, none_below h w n (omega (arith, le)), none)
 
 -- what a task has to begin is worth
@@ -141,9 +141,9 @@ module _ (s : Scenario) where
   completer_tasks = map (λ dev. Completer (device_at dev) Empty) (filter (is_disk (setup_in s)) (range_with_len 0 (setup_in s).count))
 
 -- of what each writer has to begin, the share of one
-pub own_share : (s : Scenario) (w : ℕ) (h : ℕ → ℕ) → sum_by (λ v. one v w * h v) (writers s) ≤ h w
+pub own_share : (s : Scenario) (w : ℕ) (h : ℕ → ℕ) → sum_by (λ v. one_if_same v w * h v) (writers s) ≤ h w
 own_share s w h =
-    omega (arith, filter_sum (λ v. one v w * h v) (λ v. list_any (is_by v) (todos s)) (range_with_len 0 8), range_sum (λ v. one v w * h v), picked h w 8)
+    omega (arith, filter_sum (λ v. one_if_same v w * h v) (λ v. list_any (is_by v) (todos s)) (range_with_len 0 8), range_sum (λ v. one_if_same v w * h v), picked h w 8)
 
 module _ (s : Scenario) (good : IsScenario s) (ledger : ℕ → LedgerId) where
   -- a sum over all tasks

@@ -6,7 +6,7 @@ use Rattle.std.proofs.lemmas.List.Sums.{sum_by-cons}
 use Rattle.elem_ledger.specs.Ledger.{LedgerId}
 use Rattle.run_machine.specs.Submissions.{rests}
 use Rattle.run_machine.specs.Tasks.{TaskState, Writer, Rescuer, Completer, Duty, Resizes, Starts, Todo, NoBio, Empty}
-use Rattle.block_core.specs.Weights.{total_weight, one}
+use Rattle.block_core.specs.Weights.{total_weight, one_if_same}
 use Rattle.block_core.proofs.moves.Sums.{below_or}
 use Rattle.std.specs.Prelude.{nat_le, fold, max, zip}
 use Rattle.std.specs.List.{range_with_len, flat_map}
@@ -84,8 +84,8 @@ todos_fit rounds a (suc n) (r ∷ rs) (w ∷ ws) h =
       todos_fit rounds (a + 1) n rs ws (λ i. let q : a + 1 + i ≡ a + suc i = omega arith in ap (round_of rounds) q ∙ h (suc i)),
     )
 
-counted : (x : ℕ) (rs : List ℕ) (r : ℕ) → in_round (x ∷ rs) r ≡ one x r + in_round rs r
-unfolding one
+counted : (x : ℕ) (rs : List ℕ) (r : ℕ) → in_round (x ∷ rs) r ≡ one_if_same x r + in_round rs r
+unfolding one_if_same
 counted x rs r = by_test (x == r)
   where
     by_test : (v : Bool) → length (if v then x ∷ filter (λ x. x == r) rs else filter (λ x. x == r) rs) ≡ (if v then 1 else 0) + in_round rs r
@@ -101,7 +101,7 @@ todos_worth rounds r a (suc n) [] ws few same h = refl
 todos_worth rounds r a (suc n) (x ∷ rs) [] few same h = absurd (omega (arith, same))
 todos_worth rounds r a (suc n) (x ∷ rs) (w ∷ ws) few same h =
     let e : a ≡ a + 0 = omega arith in
-    let own : is_of_round rounds r a ≡ one x r = ap (λ k. one k r) (ap (round_of rounds) e ∙ h 0) in
+    let own : is_of_round rounds r a ≡ one_if_same x r = ap (λ k. one_if_same k r) (ap (round_of rounds) e ∙ h 0) in
     let rest = todos_worth rounds r (a + 1) n rs ws (omega (arith, few)) (omega (arith, same)) (λ i. let q : a + 1 + i ≡ a + suc i = omega arith in ap (round_of rounds) q ∙ h (suc i)) in
     omega (arith, own, rest, counted x rs r)
 

@@ -13,7 +13,7 @@ use Rattle.bio_records.specs.Items.{Item}
 use Rattle.bio_books.specs.Books.{Node, BookState, node_at, with_node}
 use Rattle.run_machine.specs.Maps.{upd}
 use Rattle.run_machine.specs.Submissions.{legs_of, leg_at}
-use Rattle.block_core.specs.Weights.{one}
+use Rattle.block_core.specs.Weights.{one_if_same}
 use Rattle.block_core.proofs.status.Marks.{leg_may, Mark, decides, above}
 use Rattle.block_core.proofs.moves.Sums.{upd-same, upd-other, one-same, one-other, same_or_not}
 use Rattle.block_core.proofs.sound.SumParts.{unless}
@@ -35,13 +35,13 @@ range_none f (suc n) a none =
     )
 
 -- what counts at one place alone
-pub at_key : (writer w key k a b : ℕ) → ((writer ≡ w) → (key ≡ k) → a ≤ b) → one writer w * one key k * a ≤ one writer w * one key k * b
+pub at_key : (writer w key k a b : ℕ) → ((writer ≡ w) → (key ≡ k) → a ≤ b) → one_if_same writer w * one_if_same key k * a ≤ one_if_same writer w * one_if_same key k * b
 at_key writer w key k a b le = elim (same_or_not writer w) [
-  | inr ne ↦ let z : one writer w ≡ 0 = one-other writer w ne in rw z (omega arith)
+  | inr ne ↦ let z : one_if_same writer w ≡ 0 = one-other writer w ne in rw z (omega arith)
   | inl e ↦ elim (same_or_not key k) [
-    | inr ne ↦ let z : one key k ≡ 0 = one-other key k ne in rw z (omega arith)
-    | inl f ↦ let x : one writer w ≡ 1 = ap (one writer) (sym e) ∙ one-same writer in
-        let y : one key k ≡ 1 = ap (one key) (sym f) ∙ one-same key in
+    | inr ne ↦ let z : one_if_same key k ≡ 0 = one-other key k ne in rw z (omega arith)
+    | inl f ↦ let x : one_if_same writer w ≡ 1 = ap (one_if_same writer) (sym e) ∙ one-same writer in
+        let y : one_if_same key k ≡ 1 = ap (one_if_same key) (sym f) ∙ one-same key in
         let h = le e f in rw (x, y) (omega (arith, h))
   ]
 ]
@@ -55,9 +55,9 @@ times_in x y a = grind arith
 pub with_nothing : (x y z : ℕ) → x * (y + z * 0) ≡ x * y
 with_nothing x y z = grind arith
 
-pub not_here : (writer w key k : ℕ) → (w ≢ writer) ⊎ (k ≢ key) → one writer w * one key k ≡ 0
-not_here writer w key k (inl ne) = ap (λ n. n * one key k) (one-other writer w (λ e. ne (sym e))) ∙ omega arith
-not_here writer w key k (inr ne) = ap (λ n. one writer w * n) (one-other key k (λ e. ne (sym e))) ∙ omega arith
+pub not_here : (writer w key k : ℕ) → (w ≢ writer) ⊎ (k ≢ key) → one_if_same writer w * one_if_same key k ≡ 0
+not_here writer w key k (inl ne) = ap (λ n. n * one_if_same key k) (one-other writer w (λ e. ne (sym e))) ∙ omega arith
+not_here writer w key k (inr ne) = ap (λ n. one_if_same writer w * n) (one-other key k (λ e. ne (sym e))) ∙ omega arith
 
 pub here_or : (writer w key k : ℕ) → ((w ≡ writer) × (k ≡ key)) ⊎ ((w ≢ writer) ⊎ (k ≢ key))
 here_or writer w key k = by_two (same_or_not w writer) (same_or_not k key)

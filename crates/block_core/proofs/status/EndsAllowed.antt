@@ -28,7 +28,7 @@ use Rattle.block_core.specs.Weights.{Weight, Lined, Rescued, total_weight, names
 use Rattle.block_core.proofs.status.Marks.{is, bio_may, leg_may, todo_may, Mark, allowed, allowed_by, mismatch, above, unallowed, IsMarked}
 use Rattle.block_core.proofs.moves.Moves.{Move, Can, after, lost, gained, limit_of, HasSubmission, filled_of, cut_lists, piece}
 use Rattle.block_core.proofs.moves.Moves as moves
-use Rattle.block_core.proofs.sound.Invariant.{TaskFits, own_part, Invariant}
+use Rattle.block_core.proofs.sound.Invariant.{TaskIsSound, own_part, Invariant}
 use Rattle.block_core.specs.Roles.{named}
 use Rattle.block_core.proofs.sound.TaskSubmissions.{submission_fits}
 use Rattle.block_core.proofs.moves.Deltas.{delta}
@@ -235,7 +235,7 @@ module _ (scene : Scene) (ends : Fragment → Status) (written : ℕ → Status 
         let new = new_mark false (bio_may setup ends item.bio) in
         let marks = with_mark mark bio.writer key new in
         let d = placed_at setup s a place x (Copies bio master leg (Links hand)) lists c.1 c.2 in
-        let lt = submission_fits scene x (Copies bio master leg (Links hand)) lists (subst (TaskFits scene) c.1 (i.tasks place)) c.2 in
+        let lt = submission_fits scene x (Copies bio master leg (Links hand)) lists (subst (TaskIsSound scene) c.1 (i.tasks place)) c.2 in
         let f : ℕ → ℕ = λ k. leg_may ends t bio k end - allowed (marks bio.writer master) end in
         more_off end (moves.Legged place x bio lists master leg hand key node) c bio.writer key new c.5
         (omega (

@@ -20,12 +20,12 @@ use Rattle.run_machine.specs.Scene.{Setup, Scene, tree_at}
 use Rattle.run_machine.specs.Submissions.{Links, ToPush, ToCut, ToMaster, Drives, Copies, rests, first_length, landed, legs_of, leg_at}
 use Rattle.run_machine.specs.Tasks.{Writer, HasBio, HasBoth, Carried}
 use Rattle.run_machine.specs.Runs.{State}
-use Rattle.block_core.specs.Weights.{Weight, Lined, total_weight, one, names_node, under}
+use Rattle.block_core.specs.Weights.{Weight, Lined, total_weight, one_if_same, names_node, under}
 use Rattle.block_core.proofs.status.Marks.{is, bio_may, leg_may, todo_may, Mark, decides, lack, deciding, IsMarked}
 use Rattle.block_core.proofs.moves.Moves.{Move, Can, after, lost, gained, limit_of, filled_of, vector_of, cut_lists, piece}
 use Rattle.block_core.proofs.moves.Moves as moves
 use Rattle.block_core.proofs.moves.Sums.{one-same, within_book}
-use Rattle.block_core.proofs.sound.Invariant.{TaskFits, Invariant}
+use Rattle.block_core.proofs.sound.Invariant.{TaskIsSound, Invariant}
 use Rattle.block_core.proofs.sound.TaskSubmissions.{submission_fits}
 use Rattle.block_core.proofs.moves.Deltas.{vacant_at, delta}
 use Rattle.block_core.proofs.moves.BookMaps.{made, chained}
@@ -54,7 +54,7 @@ module _ (scene : Scene) (ends : Fragment → Status) (written : ℕ → Status 
   landing_decides : (mark : ℕ → ℕ → Mark) (master : Bool) (w k : ℕ) → IsLanding setup (deciding setup ends mark master w k)
   landing_decides mark master w k limit item there =
       let at : Bio = landed (tree_at setup item.bio.dev) item.bio in
-      ap (λ n. n * decides master (bio_may setup ends at Ok)) (landed_same (λ (bio : Bio). one bio.writer w * one bio.node k) (λ to members bio. refl) (tree_at setup item.bio.dev) item.bio)
+      ap (λ n. n * decides master (bio_may setup ends at Ok)) (landed_same (λ (bio : Bio). one_if_same bio.writer w * one_if_same bio.node k) (λ to members bio. refl) (tree_at setup item.bio.dev) item.bio)
       ∙ ap (λ n. names_node w k item * decides master n) (v.lands item.bio Ok there)
 
   module _ (s : State) (g : DeviceGeometry setup) (i : Invariant scene s) (a : Placed setup s) (counted : total_weight scene (misfits over) s ≡ 0) (endings : (place : ℕ) → HasEnding ends (s.task place))
@@ -95,19 +95,19 @@ module _ (scene : Scene) (ends : Fragment → Status) (written : ℕ → Status 
     -- a new node lacks what comes to it
     new_lacks : (writer key : ℕ) (new : Mark) (node : Node) (comes : Bool → ℕ) → lack new (Some node) ≤ comes new.master → (w k : ℕ)
         → let marks = with_mark mark writer key new in
-        one writer w * (one key k * lack (marks w k) (Some node)) ≤ one writer w * one key k * comes (marks w k).master
+        one_if_same writer w * (one_if_same key k * lack (marks w k) (Some node)) ≤ one_if_same writer w * one_if_same key k * comes (marks w k).master
     new_lacks writer key new node comes le w k =
         let marks = with_mark mark writer key new in
         let here : (writer ≡ w) → (key ≡ k) → lack (marks w k) (Some node) ≤ comes (marks w k).master =
         λ e f.
         let P : Mark → Type 0 = λ m. lack m (Some node) ≤ comes m.master in
         subst P (sym (mark_here mark writer key new) ∙ ap (marks writer) f ∙ ap (λ x. marks x k) e) le in
-        omega (arith, times_in (one writer w) (one key k) (lack (marks w k) (Some node)), at_key writer w key k (lack (marks w k) (Some node)) (comes (marks w k).master) here)
+        omega (arith, times_in (one_if_same writer w) (one_if_same key k) (lack (marks w k) (Some node)), at_key writer w key k (lack (marks w k) (Some node)) (comes (marks w k).master) here)
 
     more_decided : (m : Move) → Can scene s m → (writer key : ℕ) (new : Mark) (node : Node) → IsVacant (s.objects.book writer) key → (w k : ℕ)
         → let marks = with_mark mark writer key new in
-        lack (marks w k) (node_at ((after scene s m).objects.book w) k) ≡ lack (marks w k) (node_at (s.objects.book w) k) + one writer w * (one key k * lack (marks w k) (Some node))
-        → one writer w * (one key k * lack (marks w k) (Some node)) + lost scene (to_decide marks w k) s m ≤ gained scene (to_decide marks w k) s m
+        lack (marks w k) (node_at ((after scene s m).objects.book w) k) ≡ lack (marks w k) (node_at (s.objects.book w) k) + one_if_same writer w * (one_if_same key k * lack (marks w k) (Some node))
+        → one_if_same writer w * (one_if_same key k * lack (marks w k) (Some node)) + lost scene (to_decide marks w k) s m ≤ gained scene (to_decide marks w k) s m
         → lack (marks w k) (node_at ((after scene s m).objects.book w) k) ≤ total_weight scene (to_decide marks w k) (after scene s m)
     more_decided m c writer key new node vacant w k books le =
         omega (arith, still_decided writer key new vacant w k, delta scene (to_decide (with_mark mark writer key new) w k) s m c, books, le)
@@ -120,7 +120,7 @@ module _ (scene : Scene) (ends : Fragment → Status) (written : ℕ → Status 
         let m = moves.Told place disk carried writer key status part node in
         let w = to_decide mark writer key in
         let master : Bool = (mark writer key).master in
-        let one_end : one writer writer * one key key * decides master (is Ok status) ≡ decides master (is Ok status) = rw (one-same writer, one-same key) (omega arith) in
+        let one_end : one_if_same writer writer * one_if_same key key * decides master (is Ok status) ≡ decides master (is Ok status) = rw (one-same writer, one-same key) (omega arith) in
         let lacks : lack (mark writer key) (Some node) ≤ total_weight scene w s = subst (λ found. lack (mark writer key) found ≤ total_weight scene w s) c.4 (h.decided writer key) in
         let comes = told_lacks (mark writer key) (h.fair writer key) node.role (by_role scene ends written s i endings mark h writer key node c.4) node.status status (total_weight scene w (after scene s m))
         (omega (arith, lacks, delta scene w s m c, told_weight scene ends written s i endings mark h master writer key place disk carried writer key status part c.0 c.1 c.2, one_end)) in
@@ -198,12 +198,12 @@ module _ (scene : Scene) (ends : Fragment → Status) (written : ℕ → Status 
         let there = cut_there setup (limit_of x) g bio hand lists key number kind sizes members d c.3 in
         let fits : over bio.bio ≡ 0 = cut_fits over scene s counted place x bio hand lists c.0 c.1 c.2 in
         let parts = v.cut bio hand key number kind sizes members d.1.0.0 (omega (arith, fits)) c.3 there.0 in
-        let refers : ℕ = one bio.bio.writer w * one bio.bio.node k in
+        let refers : ℕ = one_if_same bio.bio.writer w * one_if_same bio.bio.node k in
         more_decided (moves.Chained place x bio lists hand number kind sizes members key node) c bio.bio.writer key new made_node c.6 w k
         (omega (
           arith,
           chained (lack (marks w k)) refl s.objects.book bio.bio.writer key bio.bio.node node made_node (raised node) w k (lack (marks w k) (Some made_node)) 0 0 c.6 c.5 refl refl,
-          with_nothing (one bio.bio.writer w) (one key k * lack (marks w k) (Some made_node)) (one bio.bio.node k),
+          with_nothing (one_if_same bio.bio.writer w) (one_if_same key k * lack (marks w k) (Some made_node)) (one_if_same bio.bio.node k),
         ))
         (omega (
           arith,
@@ -214,7 +214,7 @@ module _ (scene : Scene) (ends : Fragment → Status) (written : ℕ → Status 
           ap (λ (m : Mark). refers * decides master (m.ends Ok)) (mark_here mark bio.bio.writer key new),
           times_less refers (decides master (bio_may setup ends bio.bio Ok)) (decides master (bio_may setup ends child.bio Ok) + decides master (bio_may setup ends rest.bio Ok))
               (parts_decide master (bio_may setup ends bio.bio) (bio_may setup ends child.bio) (bio_may setup ends rest.bio) parts.unwell parts.well),
-          times_both (one bio.bio.writer w) (one bio.bio.node k) (decides master (bio_may setup ends child.bio Ok)) (decides master (bio_may setup ends rest.bio Ok)),
+          times_both (one_if_same bio.bio.writer w) (one_if_same bio.bio.node k) (decides master (bio_may setup ends child.bio Ok)) (decides master (bio_may setup ends rest.bio Ok)),
         ))
     -- links of masters
     decided_after (moves.Mastered place x bio lists slip key node) c w k =
@@ -232,14 +232,14 @@ module _ (scene : Scene) (ends : Fragment → Status) (written : ℕ → Status 
         (omega (
           arith,
           chained (lack (marks w k)) refl s.objects.book bio.bio.writer key bio.bio.node node made_node (keeping bio node) w k (lack (marks w k) (Some made_node)) 0 0 c.5 c.4 refl refl,
-          with_nothing (one bio.bio.writer w) (one key k * lack (marks w k) (Some made_node)) (one bio.bio.node k),
+          with_nothing (one_if_same bio.bio.writer w) (one_if_same key k * lack (marks w k) (Some made_node)) (one_if_same bio.bio.node k),
         ))
         (omega (
           arith,
           copies_there setup (to_decide marks w k) (landing_decides marks master w k) (limit_of x) lists bio.bio key 0 (none_there setup (limit_of x) lists d.0) (all_there setup (limit_of x) lists.list1 d.1.1),
-          left_none (one bio.bio.writer w * one key k) 0 legs (λ j. decides master (leg_may ends t bio.bio j Ok)),
+          left_none (one_if_same bio.bio.writer w * one_if_same key k) 0 legs (λ j. decides master (leg_may ends t bio.bio j Ok)),
           new_lacks bio.bio.writer key new made_node comes (omega (arith, some)) w k,
-          ap (λ (m : Mark). one bio.bio.writer w * one bio.bio.node k * decides master (m.ends Ok)) (mark_here mark bio.bio.writer key new),
+          ap (λ (m : Mark). one_if_same bio.bio.writer w * one_if_same bio.bio.node k * decides master (m.ends Ok)) (mark_here mark bio.bio.writer key new),
         ))
     -- links of legs
     decided_after (moves.Legged place x bio lists master leg hand key node) c w k =
@@ -251,9 +251,9 @@ module _ (scene : Scene) (ends : Fragment → Status) (written : ℕ → Status 
         let m : Bool = (marks w k).master in
         let made_node = leg_node node.write master in
         let d = placed_at setup s a place x (Copies bio master leg (Links hand)) lists c.1 c.2 in
-        let lt = submission_fits scene x (Copies bio master leg (Links hand)) lists (subst (TaskFits scene) c.1 (i.tasks place)) c.2 in
+        let lt = submission_fits scene x (Copies bio master leg (Links hand)) lists (subst (TaskIsSound scene) c.1 (i.tasks place)) c.2 in
         let f : ℕ → ℕ = λ j. decides m (leg_may ends t bio j Ok) in
-        let refers : ℕ = one bio.writer w * one master k in
+        let refers : ℕ = one_if_same bio.writer w * one_if_same master k in
         more_decided (moves.Legged place x bio lists master leg hand key node) c bio.writer key new made_node c.5 w k
         (made (lack (marks w k)) refl s.objects.book bio.writer key made_node w k (lack (marks w k) (Some made_node)) c.5 refl)
         (omega (
@@ -262,9 +262,9 @@ module _ (scene : Scene) (ends : Fragment → Status) (written : ℕ → Status 
               (leg_there setup (limit_of x) g bio hand lists master leg key d lt) (all_there setup (limit_of x) lists.list1 d.3),
           left_none refers (leg + 1) legs f,
           ap (λ n. refers * n) (legs_next f legs leg lt),
-          times_both (one bio.writer w) (one master k) (f leg) (sum_by f (range_with_len (leg + 1) (legs - (leg + 1)))),
+          times_both (one_if_same bio.writer w) (one_if_same master k) (f leg) (sum_by f (range_with_len (leg + 1) (legs - (leg + 1)))),
           sum_by_push ((to_decide marks w k).bio (Lined (limit_of x))) lists.list0 item,
-          leg_named_by (λ x y. one x w * one y k * decides m (bio_may setup ends item.bio Ok)) bio hand leg key t lt,
+          leg_named_by (λ x y. one_if_same x w * one_if_same y k * decides m (bio_may setup ends item.bio Ok)) bio hand leg key t lt,
           new_lacks bio.writer key new made_node (λ m. decides m (bio_may setup ends item.bio Ok)) (omega arith) w k,
           ap (λ (x : Mark). refers * decides m (x.ends Ok)) (mark_here mark bio.writer key new),
           ap (λ n. refers * decides m n) (v.leg bio hand leg key Ok d.0 lt),
@@ -277,7 +277,7 @@ module _ (scene : Scene) (ends : Fragment → Status) (written : ℕ → Status 
         elim (here_or writer w key k) [
           | inr other ↦
               let teller = told_weight scene ends written s i endings mark h (mark w k).master w k place disk carried writer key status part c.0 c.1 c.2 in
-              let none : one writer w * one key k * decides (mark w k).master (is Ok status) ≡ 0 = ap (λ n. n * decides (mark w k).master (is Ok status)) (not_here writer w key k other) ∙ omega arith in
+              let none : one_if_same writer w * one_if_same key k * decides (mark w k).master (is Ok status) ≡ 0 = ap (λ n. n * decides (mark w k).master (is Ok status)) (not_here writer w key k other) ∙ omega arith in
               omega (
                 arith,
                 h.decided w k,
@@ -297,7 +297,7 @@ module _ (scene : Scene) (ends : Fragment → Status) (written : ℕ → Status 
         elim (here_or writer w key k) [
           | inr other ↦
               let teller = told_weight scene ends written s i endings mark h (mark w k).master w k place disk carried writer key status part c.0 c.1 c.2 in
-              let none : one writer w * one key k * decides (mark w k).master (is Ok status) ≡ 0 = ap (λ n. n * decides (mark w k).master (is Ok status)) (not_here writer w key k other) ∙ omega arith in
+              let none : one_if_same writer w * one_if_same key k * decides (mark w k).master (is Ok status) ≡ 0 = ap (λ n. n * decides (mark w k).master (is Ok status)) (not_here writer w key k other) ∙ omega arith in
               let well = well_is (mark writer key) (h.fair writer key) closed.status (closes scene ends written s i endings mark h place disk carried writer key status part node c) in
               omega (
                 arith,

@@ -20,7 +20,7 @@ use Rattle.run_machine.specs.Tasks.{Todo}
 use Rattle.run_machine.specs.Opened.{Scenario}
 use Rattle.run_machine.specs.Runs.{State}
 use Rattle.block_core.specs.Touches.{is_master}
-use Rattle.block_core.specs.Weights.{Weight, Spot, Lined, Rescued, Pending, Brought, total_weight, one, names_node, under, legs_left}
+use Rattle.block_core.specs.Weights.{Weight, Spot, Lined, Rescued, Pending, Brought, total_weight, one_if_same, names_node, under, legs_left}
 use Rattle.block_core.specs.Fragments.{offset_of, fragment_of}
 use Rattle.block_core.proofs.moves.Sums.{apart}
 
@@ -140,7 +140,7 @@ deciding setup ends mark master w k = record {
   todo = λ writer todos taken. 0;
   bio = λ spot item. names_node w k item * decides master (bio_may setup ends item.bio Ok);
   copy = λ bio m leg.
-      one bio.writer w * one m k * sum_by (λ j. decides master (leg_may ends (tree_at setup bio.dev) bio j Ok)) (range_with_len leg (legs_left setup bio leg));
+      one_if_same bio.writer w * one_if_same m k * sum_by (λ j. decides master (leg_may ends (tree_at setup bio.dev) bio j Ok)) (range_with_len leg (legs_left setup bio leg));
   hand = λ bio. 0;
   vector = λ vector. 0;
   slip = λ slip. 0;

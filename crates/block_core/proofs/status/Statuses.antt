@@ -32,7 +32,7 @@ use Rattle.run_machine.specs.Opened.{Scenario, scene, start, todos, setup as set
 use Rattle.run_machine.specs.Requests as requests
 use Rattle.run_machine.specs.Requests.{Reply}
 use Rattle.run_machine.specs.Runs.{State, IsRun, Happens, HasEnded}
-use Rattle.block_core.specs.Weights.{total_weight, one}
+use Rattle.block_core.specs.Weights.{total_weight, one_if_same}
 use Rattle.block_core.specs.Rounds.{round_of, is_of_round, tops, tops_left, all_worth, unfinished_of}
 use Rattle.block_core.specs.Scenarios.{IsScenario, IsNaming}
 use Rattle.block_core.proofs.status.Marks.{is, may, bio_may, todo_may, write_may, Mark, IsMark, lack, above, unallowed, IsMarked}
@@ -50,7 +50,7 @@ use Rattle.block_core.proofs.moves.Devices.{ground}
 use Rattle.block_core.proofs.moves.StepMoves.{step_is_move}
 use Rattle.block_core.proofs.start.InvariantAtStart.{Begins, start_opened}
 use Rattle.block_core.proofs.sound.DoneOnce.{done_of, told_done, done_by, asked_by, to_begin, stage, staged}
-use Rattle.block_core.proofs.sound.EveryRun.{Whole, runs_whole, start_whole, run_tallied}
+use Rattle.block_core.proofs.sound.EveryRun.{IsReachedWhole, runs_whole, start_whole, run_tallied}
 use Rattle.block_core.proofs.moves.Totals.{IsWithin, within, task_part}
 use Rattle.block_core.proofs.images.EndedRuns.{zero_at}
 use Rattle.block_core.proofs.moves.Misfits.{misfits, no_misfits}
@@ -149,7 +149,7 @@ module _ (s : Scenario) (ledger : ℕ → LedgerId) (f : LedgersAreNumbered (sce
   abbrev sc : Scene
   sc = scene s ledger
 
-  module _ (bios : ℕ → ℕ → Bio) (st : State) (i : Whole sc st) (t : HasStatuses s ledger bios st) where
+  module _ (bios : ℕ → ℕ → Bio) (st : State) (i : IsReachedWhole sc st) (t : HasStatuses s ledger bios st) where
     Tallied : Move → ℕ → Type 0
     Tallied m number =
         (1 ≤ total_weight sc (stage number) (after sc st m)) ⊎ ((end : Status) × (slice_get (after sc st m).objects.tally.statuses number ≡ Some end) × WriteMayEnd s number end)
@@ -216,7 +216,7 @@ module _ (s : Scenario) (ledger : ℕ → LedgerId) (f : LedgersAreNumbered (sce
       tallied = tallied_after m c;
     }
 
-  pub runs_told : (st : State) (events : List Event) (new : State) (bios : ℕ → ℕ → Bio) → Whole sc st → HasStatuses s ledger bios st → (run : IsRun sc st events new)
+  pub runs_told : (st : State) (events : List Event) (new : State) (bios : ℕ → ℕ → Bio) → IsReachedWhole sc st → HasStatuses s ledger bios st → (run : IsRun sc st events new)
       → HasStatuses s ledger (node_bios sc st events new run bios) new
   runs_told st [] new bios i t run = subst (HasStatuses s ledger bios) (sym run) t
   runs_told st (event ∷ events) new bios i t (next, (place, steps), run) =
@@ -235,7 +235,7 @@ is_numbered w a zero rs ws rl wl ge lt = absurd (omega (arith, ge, lt))
 is_numbered w a (suc n) [] ws rl wl ge lt = absurd (omega (arith, rl))
 is_numbered w a (suc n) (r ∷ rs) [] rl wl ge lt = absurd (omega (arith, wl))
 is_numbered w a (suc n) (r ∷ rs) (x ∷ ws) rl wl ge lt = elim (same_or_not a w) [
-  | inl e ↦ let here : one a w ≡ 1 = ap (one a) (sym e) ∙ one-same a in omega (arith, here)
+  | inl e ↦ let here : one_if_same a w ≡ 1 = ap (one_if_same a) (sym e) ∙ one-same a in omega (arith, here)
   | inr ne ↦ omega (arith, is_numbered w (a + 1) n rs ws (omega (arith, rl)) (omega (arith, wl)) (omega (arith, ge, ne)) (omega (arith, lt)))
 ]
 
@@ -268,7 +268,7 @@ module _ (s : Scenario) (good : IsScenario s) (ledger : ℕ → LedgerId) where
   start_staged number lt =
       omega (
         arith,
-        opened_total s good ledger (stage number) (λ (todo : Todo). one todo.number number) (λ n ts. sym (begins_sum number ts)),
+        opened_total s good ledger (stage number) (λ (todo : Todo). one_if_same todo.number number) (λ n ts. sym (begins_sum number ts)),
         begins_sum number (todos s),
         is_numbered number 0 (length s.writes) s.rounds s.writes good.rounds refl (omega arith) (omega (arith, lt)),
       )
@@ -292,12 +292,12 @@ module _ (s : Scenario) (good : IsScenario s) (ledger : ℕ → LedgerId) where
       }
 
 -- a write that is in stage is an unfinished one of its round
-same_round : (rounds : List ℕ) (number n : ℕ) → one n number ≤ is_of_round rounds (round_of rounds number) n
+same_round : (rounds : List ℕ) (number n : ℕ) → one_if_same n number ≤ is_of_round rounds (round_of rounds number) n
 same_round rounds number n = elim (same_or_not n number) [
   | inr ne ↦ omega (arith, one-other n number ne)
   | inl e ↦
-      let here : one n number ≡ 1 = ap (one n) (sym e) ∙ one-same n in
-      let round : is_of_round rounds (round_of rounds number) n ≡ 1 = ap (λ k. one (round_of rounds n) (round_of rounds k)) (sym e) ∙ one-same (round_of rounds n) in
+      let here : one_if_same n number ≡ 1 = ap (one_if_same n) (sym e) ∙ one-same n in
+      let round : is_of_round rounds (round_of rounds number) n ≡ 1 = ap (λ k. one_if_same (round_of rounds n) (round_of rounds k)) (sym e) ∙ one-same (round_of rounds n) in
       omega (arith, here, round)
 ]
 
@@ -317,14 +317,14 @@ stage_within rounds number = record {
   closed = λ task writer closed. by_parent closed.parent closed.write;
 }
   where
-    by_role : (r : Role) (write : ℕ) → let worth = tops r * is_of_round rounds (round_of rounds number) write in tops r * one write number ≤ worth + worth + worth
+    by_role : (r : Role) (write : ℕ) → let worth = tops r * is_of_round rounds (round_of rounds number) write in tops r * one_if_same write number ≤ worth + worth + worth
     by_role role.Top write = omega (arith, same_round rounds number write)
     by_role (role.Chain parent) write = omega arith
     by_role (role.Master parent) write = omega arith
     by_role (role.Leg parent) write = omega arith
 
     by_parent : (parent : Option ℕ) (write : ℕ)
-        → let worth = tops_left parent * is_of_round rounds (round_of rounds number) write in tops_left parent * one write number ≤ worth + worth + worth
+        → let worth = tops_left parent * is_of_round rounds (round_of rounds number) write in tops_left parent * one_if_same write number ≤ worth + worth + worth
     by_parent None write = omega (arith, same_round rounds number write)
     by_parent (Some parent) write = omega arith
 

@@ -13,7 +13,7 @@ use Rattle.bio_books.specs.Drops.{Closed, closed_of}
 use Rattle.run_machine.specs.Scene.{Setup, Scene, tree_at}
 use Rattle.run_machine.specs.Tasks.{TaskState, Writer, Rescuer, Completer, Keeper, Carried, Empty, Brings, Carries, Fails}
 use Rattle.run_machine.specs.Runs.{State}
-use Rattle.block_core.specs.Weights.{Weight, total_weight, one, carried_weight, names_node, under, legs_left}
+use Rattle.block_core.specs.Weights.{Weight, total_weight, one_if_same, carried_weight, names_node, under, legs_left}
 use Rattle.block_core.proofs.moves.References.{references, awaited_ends}
 use Rattle.block_core.specs.Fragments.{fragment_of}
 use Rattle.block_core.proofs.status.Marks.{is, bio_may, leg_may, Mark, IsMark, allowed, decides, lack, mismatch, above, unallowed, deciding, IsMarked}
@@ -61,7 +61,7 @@ module _ (scene : Scene) (ends : Fragment → Status) (written : ℕ → Status 
     copy = λ bio m leg.
         omega (
           arith,
-          times_less (one bio.writer w * one m k) (sum_by (λ j. decides master (leg_may ends (tree_at setup bio.dev) bio j Ok)) (range_with_len leg (legs_left setup bio leg))) (legs_left setup bio leg)
+          times_less (one_if_same bio.writer w * one_if_same m k) (sum_by (λ j. decides master (leg_may ends (tree_at setup bio.dev) bio j Ok)) (range_with_len leg (legs_left setup bio leg))) (legs_left setup bio leg)
               (sum_few (λ j. decides master (leg_may ends (tree_at setup bio.dev) bio j Ok)) (legs_left setup bio leg) leg
               (λ j. decides_few master (leg_may ends (tree_at setup bio.dev) bio j Ok) (leg_few ends (tree_at setup bio.dev) bio j Ok))),
         );
@@ -113,16 +113,16 @@ module _ (scene : Scene) (ends : Fragment → Status) (written : ℕ → Status 
   -- and decides as what it is
   pub told_weight : (master : Bool) (w k : ℕ) (place : ℕ) (disk : DevId) (carried : Carried) (writer key : ℕ) (status : Status) (part : Option (Item Pad)) → place < scene.tasks
       → s.task place ≡ Completer disk carried → TellsNode carried writer key status part
-      → carried_weight (deciding setup ends mark master w k) place carried ≡ one writer w * one key k * decides master (is Ok status)
+      → carried_weight (deciding setup ends mark master w k) place carried ≡ one_if_same writer w * one_if_same key k * decides master (is Ok status)
   told_weight master w k place disk (Brings bio ending) writer key status part here at t =
       let e = (subst (HasEnding ends) at (endings place)).1 in
       let like : bio_may setup ends bio.bio Ok ≡ is Ok (ends (fragment_of bio.bio)) = omega (arith, teller_off Ok place disk (Brings bio ending) here at) in
       let same : bio_may setup ends bio.bio Ok ≡ is Ok status = like ∙ ap (is Ok) (sym e ∙ sym t.2) in
-      ap (λ n. names_node w k bio * decides master n) same ∙ ap (λ n. one n w * one bio.bio.node k * decides master (is Ok status)) (sym t.0)
-      ∙ ap (λ n. one writer w * one n k * decides master (is Ok status)) (sym t.1)
+      ap (λ n. names_node w k bio * decides master n) same ∙ ap (λ n. one_if_same n w * one_if_same bio.bio.node k * decides master (is Ok status)) (sym t.0)
+      ∙ ap (λ n. one_if_same writer w * one_if_same n k * decides master (is Ok status)) (sym t.1)
   told_weight master w k place disk (Carries of closed) writer key status part here at t =
-      ap (λ p. under w k of p * decides master (is Ok closed.status)) t.1 ∙ ap (λ n. one n w * one key k * decides master (is Ok closed.status)) (sym t.0)
-      ∙ ap (λ end. one writer w * one key k * decides master (is Ok end)) (sym t.2)
+      ap (λ p. under w k of p * decides master (is Ok closed.status)) t.1 ∙ ap (λ n. one_if_same n w * one_if_same key k * decides master (is Ok closed.status)) (sym t.0)
+      ∙ ap (λ end. one_if_same writer w * one_if_same key k * decides master (is Ok end)) (sym t.2)
   told_weight master w k place disk Empty writer key status part here at t = absurd t
   told_weight master w k place disk (Fails breach kept) writer key status part here at t = absurd t
 
@@ -133,7 +133,7 @@ module _ (scene : Scene) (ends : Fragment → Status) (written : ℕ → Status 
       let m = moves.Closes place disk carried writer key status part node in
       let w : Weight = to_decide mark writer key in
       let r : Weight = references setup writer key in
-      let same : one writer writer * one key key ≡ 1 = rw (one-same writer, one-same key) refl in
+      let same : one_if_same writer writer * one_if_same key key ≡ 1 = rw (one-same writer, one-same key) refl in
       let waits : total_weight scene r s ≡ 1 = sym (i.counts writer key) ∙ ap awaited_ends c.4 ∙ c.5 in
       let refers = tells_refs setup writer key writer key status part carried c.2 in
       let closed : Closed = closed_of (told node status part) in
@@ -146,7 +146,7 @@ module _ (scene : Scene) (ends : Fragment → Status) (written : ℕ → Status 
       let own : under writer key writer (parent_of node.role) * decides (mark writer key).master ((mark writer key).ends Ok) ≡ 0 =
       ap (λ n. n * decides (mark writer key).master ((mark writer key).ends Ok)) up ∙ omega arith in
       let teller = told_weight (mark writer key).master writer key place disk carried writer key status part c.0 c.1 c.2 in
-      let one_end : one writer writer * one key key * decides (mark writer key).master (is Ok status) ≡ decides (mark writer key).master (is Ok status) =
+      let one_end : one_if_same writer writer * one_if_same key key * decides (mark writer key).master (is Ok status) ≡ decides (mark writer key).master (is Ok status) =
       ap (λ n. n * decides (mark writer key).master (is Ok status)) same ∙ omega arith in
       let lacks : lack (mark writer key) (Some node) ≤ total_weight scene w s = subst (λ found. lack (mark writer key) found ≤ total_weight scene w s) c.4 (h.decided writer key) in
       closes_given (mark writer key) (h.fair writer key) node.role (by_role writer key node c.4) node.status status (kept_allowed writer key node c.4)

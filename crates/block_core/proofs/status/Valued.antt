@@ -30,7 +30,7 @@ use Rattle.block_core.specs.Fragments.{fragment_of}
 use Rattle.block_core.specs.Touches.{is_master}
 use Rattle.block_core.specs.AtWork.{IsBrought, IsInDisk}
 use Rattle.block_core.specs.Values.{BioMayEnd, LegMayEnd, TodoMayEnd, IsAllowed, Decides, BioComes, LegComes, NodeComes, ClosedComes, Comes, NodeIsValued, EndsAsItsFragment, IsValued}
-use Rattle.block_core.specs.Weights.{Weight, one, names_node, under, legs_left, doing_weight, total_weight}
+use Rattle.block_core.specs.Weights.{Weight, one_if_same, names_node, under, legs_left, doing_weight, total_weight}
 use Rattle.block_core.proofs.moves.Sums.{apart}
 use Rattle.block_core.proofs.moves.Totals.{task_part}
 use Rattle.block_core.proofs.sound.Invariant.{Invariant}
@@ -238,8 +238,8 @@ module _ (s : Scenario) (scene : Scene) (bios : ℕ → ℕ → Bio) (state : St
     under_is : (writer : ℕ) (parent : Option ℕ) (n : ℕ) → 1 ≤ under w k writer parent * n → (writer ≡ w) × (parent ≡ Some k) × (1 ≤ n)
     under_is writer None n some = absurd (omega (arith, some))
     under_is writer (Some parent) n some =
-        let a = both (one writer w * one parent k) n some in
-        let b = both (one writer w) (one parent k) a.0 in
+        let a = both (one_if_same writer w * one_if_same parent k) n some in
+        let b = both (one_if_same writer w) (one_if_same parent k) a.0 in
         (one-eq writer w b.0, ap Some (one-eq parent k b.1), a.1)
 
     still_comes : (master : Bool) → 1 ≤ total_weight scene (to_come master) state → Comes scene ends bios state w k (Decides master)
@@ -248,7 +248,7 @@ module _ (s : Scenario) (scene : Scene) (bios : ℕ → ℕ → Bio) (state : St
         by_found : Weighs scene state (to_come master) → Comes scene ends bios state w k (Decides master)
         by_found (inl (item, spot, there, weighs)) =
             let a = both (names_node w k item) (decides master (bio_may setup ends item.bio Ok)) weighs in
-            let b = both (one item.bio.writer w) (one item.bio.node k) a.0 in
+            let b = both (one_if_same item.bio.writer w) (one_if_same item.bio.node k) a.0 in
             inl (
               item,
               there,
@@ -259,8 +259,8 @@ module _ (s : Scenario) (scene : Scene) (bios : ℕ → ℕ → Bio) (state : St
         by_found (inr (inl (place, submission, bio, m, next, want, lt, is_submission, copies, weighs))) =
             let t = tree_at setup bio.dev in
             let f : ℕ → ℕ = λ j. decides master (leg_may ends t bio j Ok) in
-            let a = both (one bio.writer w * one m k) (sum_by f (range_with_len next (legs_left setup bio next))) weighs in
-            let b = both (one bio.writer w) (one m k) a.0 in
+            let a = both (one_if_same bio.writer w * one_if_same m k) (sum_by f (range_with_len next (legs_left setup bio next))) weighs in
+            let b = both (one_if_same bio.writer w) (one_if_same m k) a.0 in
             let r = some_in_range f (legs_left setup bio next) next a.1 in
             let ge = r.1 in
             let within = r.2 in

@@ -13,7 +13,7 @@ use Rattle.run_machine.specs.Scene.{Setup, Scene}
 use Rattle.run_machine.specs.Tasks.{Completer, Carried, Empty, Carries}
 use Rattle.run_machine.specs.Objects.{done_one}
 use Rattle.run_machine.specs.Runs.{State}
-use Rattle.block_core.specs.Weights.{total_weight, one, elements_of_pool, holding_elements}
+use Rattle.block_core.specs.Weights.{total_weight, one_if_same, elements_of_pool, holding_elements}
 use Rattle.block_core.proofs.moves.References.{references}
 use Rattle.block_core.proofs.moves.Moves.{with_pool, with_book}
 use Rattle.block_core.proofs.moves.Totals.{task_part}
@@ -104,7 +104,7 @@ module _ (scene : Scene) (s : State) (k : Invariant scene s) where
       free_of scene s place here _ at requests.Did _ tt refl refl (with_pool s.objects r.share.no gives) (out, refl)
   carries_free place here disk w None None None (Some parent) write status at =
       let part = task_part scene (references setup w parent) s place _ here at in
-      let both_one : one w w * one parent parent ≡ 1 = rw (one-same w, one-same parent) refl in
+      let both_one : one_if_same w w * one_if_same parent parent ≡ 1 = rw (one-same w, one-same parent) refl in
       drop_free place here disk _ at w parent status None refl (omega (arith, part, both_one))
   carries_free place here disk w None None None None write status at =
       free_of scene s place here _ at requests.Did _ tt refl refl (record s.objects { tally = done_one write status s.objects.tally }) refl

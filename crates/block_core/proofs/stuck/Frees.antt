@@ -14,12 +14,12 @@ use Rattle.run_machine.specs.Submissions.{Doing, Rests, Drives, Copies, Breaks, 
 use Rattle.run_machine.specs.Tasks.{TaskState, Writer, Rescuer, Completer, Keeper, Todo, Gathered, NoBio, HasBio, HasBoth, Empty, Brings, Carries, Fails, filled_vector}
 use Rattle.run_machine.specs.Objects.{clear_bio, clear_vector}
 use Rattle.run_machine.specs.Runs.{State}
-use Rattle.block_core.specs.Weights.{one}
+use Rattle.block_core.specs.Weights.{one_if_same}
 use Rattle.block_core.proofs.moves.References.{references}
 use Rattle.block_core.proofs.moves.Moves.{with_pool, with_book}
 use Rattle.block_core.proofs.moves.Totals.{task_part}
 use Rattle.block_core.proofs.moves.Sums.{upd-same, one-same, below_or}
-use Rattle.block_core.proofs.sound.Invariant.{DoingFits, SubmissionFits, TaskFits, Invariant}
+use Rattle.block_core.proofs.sound.Invariant.{DoingFits, SubmissionFits, TaskIsSound, Invariant}
 use Rattle.block_core.proofs.sound.TaskSubmissions.{IsBusy}
 use Rattle.block_core.proofs.sound.Orders.{TaskPlaced, Placed}
 use Rattle.std.specs.Prelude.{nat_le, sum_by}
@@ -54,7 +54,7 @@ module _ (scene : Scene) (s : State) (n : Needs scene.setup) (k : Invariant scen
       → look_of (At_rest number (todo ∷ later) taken) ≡ None → (vector : Option VectorItem) → request setup (At_rest number (todo ∷ later) taken) ≡ requests.Link number (requests.Write todo.number vector) → HasFree scene s
   opens_free place here number todo later taken at lt look vector asks =
       let all = sum_by-cons (todo_need setup) todo later in
-      let need = some_needs (one number number) (sum_by (todo_need setup) (todo ∷ later)) (one-same number) (omega (arith, all)) in
+      let need = some_needs (one_if_same number number) (sum_by (todo_need setup) (todo ∷ later)) (one-same number) (omega (arith, all)) in
       let v = has_vacant scene s r place (At_rest number (todo ∷ later) taken) number here at lt (omega (arith, need)) in
       let book = with_node (s.objects.book number) v.0 (Some (top_node todo.number vector)) in
       free_of scene s place here (At_rest number (todo ∷ later) taken) at (requests.LinkedTo (Made v.0)) _ (subst (IsLet scene.ledger s.objects (At_rest number (todo ∷ later) taken)) (sym look) tt)
@@ -136,7 +136,7 @@ module _ (scene : Scene) (s : State) (n : Needs scene.setup) (k : Invariant scen
   pub task_free : (ids : ℕ → TaskId) (keeper : ℕ) → Posted ids keeper scene s → (place : ℕ) → place < scene.tasks → HasFree scene s ⊎ IsStill s (s.task place)
   task_free ids keeper posted place here = by_task (s.task place) refl (k.tasks place) (p.tasks place) (posted.tasks place)
     where
-      by_task : (x : TaskState) → s.task place ≡ x → TaskFits scene x → TaskPlaced setup x → AtPost ids keeper scene s.objects.tally place x → HasFree scene s ⊎ IsStill s x
+      by_task : (x : TaskState) → s.task place ≡ x → TaskIsSound scene x → TaskPlaced setup x → AtPost ids keeper scene s.objects.tally place x → HasFree scene s ⊎ IsStill s x
       by_task (Writer number todo taken submission) at fits t post = by_submission (submission_or_rests submission)
         where
           by_submission : (submission.doing ≡ Rests) ⊎ IsBusy submission.doing → HasFree scene s ⊎ StillWriter s todo taken submission.doing
@@ -152,7 +152,7 @@ module _ (scene : Scene) (s : State) (n : Needs scene.setup) (k : Invariant scen
       by_task (Completer disk Empty) at fits t post = complete_free scene s k place here disk at
       by_task (Completer disk (Brings bio status)) at fits t post =
           let part = task_part scene (references setup bio.bio.writer bio.bio.node) s place (Completer disk (Brings bio status)) here at in
-          let both_one : one bio.bio.writer bio.bio.writer * one bio.bio.node bio.bio.node ≡ 1 = rw (one-same bio.bio.writer, one-same bio.bio.node) refl in
+          let both_one : one_if_same bio.bio.writer bio.bio.writer * one_if_same bio.bio.node bio.bio.node ≡ 1 = rw (one-same bio.bio.writer, one-same bio.bio.node) refl in
           inl (drop_free scene s k place here disk (Brings bio status) at bio.bio.writer bio.bio.node status (Some bio) refl (omega (arith, part, both_one)))
       by_task (Completer disk (Carries w closed)) at fits t post =
           inl (carries_free scene s k place here disk w closed.held.vector closed.held.bio closed.held.slip closed.parent closed.write closed.status at)

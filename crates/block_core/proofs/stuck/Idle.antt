@@ -14,11 +14,11 @@ use Rattle.run_machine.specs.Scene.{Scene}
 use Rattle.run_machine.specs.Submissions.{Doing, Rests, Drives, Copies, Breaks, Submission}
 use Rattle.run_machine.specs.Tasks.{TaskState, Writer, Rescuer, Completer, Keeper, Todo, Gathered, NoBio, HasBio, HasBoth, Empty, Brings, Carries, Fails}
 use Rattle.run_machine.specs.Runs.{State}
-use Rattle.block_core.specs.Weights.{Weight, Rescued, Pending, total_weight, sum_at, one, weigh_option, submission_weight, task_weight, book_weight, elements_of_pool, names_node, under, legs_left}
+use Rattle.block_core.specs.Weights.{Weight, Rescued, Pending, total_weight, sum_at, one_if_same, weigh_option, submission_weight, task_weight, book_weight, elements_of_pool, names_node, under, legs_left}
 use Rattle.block_core.proofs.moves.References.{references, awaited_ends}
 use Rattle.block_core.proofs.moves.Moves.{HasSubmission}
 use Rattle.block_core.proofs.moves.Sums.{one-same, within_book, below_or}
-use Rattle.block_core.proofs.sound.Invariant.{DoingFits, TaskFits, Invariant}
+use Rattle.block_core.proofs.sound.Invariant.{DoingFits, TaskIsSound, Invariant}
 use Rattle.block_core.proofs.start.InvariantAtStart.{nodes_zero}
 use Rattle.block_core.proofs.moves.Totals.{part_of, task_part, submission_part}
 
@@ -74,7 +74,7 @@ node_part scene s i w writer key node at =
 
 -- a bio refers to the node that it names
 pub names_one : (item : Item Pad) → names_node item.bio.writer item.bio.node item ≡ 1
-names_one item = ap (λ n. n * one item.bio.node item.bio.node) (one-same item.bio.writer) ∙ ap (λ n. 1 * n) (one-same item.bio.node)
+names_one item = ap (λ n. n * one_if_same item.bio.node item.bio.node) (one-same item.bio.writer) ∙ ap (λ n. 1 * n) (one-same item.bio.node)
 
 module _ (scene : Scene) (s : State) (i : Invariant scene s) (level : ℕ → ℕ → ℕ) (down : GoesDown s level) (none : NoneBegun scene s) where
   -- no level in a book is above all of them together, so a way up from node to node would come to a top
@@ -95,7 +95,7 @@ module _ (scene : Scene) (s : State) (i : Invariant scene s) (level : ℕ → �
       by_parent on None is = none.tops writer key node (open_in_books scene s i writer key node at) at is
       by_parent on (Some parent) is =
           let refers : under writer parent writer (parent_of node.role) ≡ 1 =
-          ap (under writer parent writer) is ∙ (ap (λ n. n * one parent parent) (one-same writer) ∙ ap (λ n. 1 * n) (one-same parent)) in
+          ap (under writer parent writer) is ∙ (ap (λ n. n * one_if_same parent parent) (one-same writer) ∙ ap (λ n. 1 * n) (one-same parent)) in
           let up = open_at scene s i writer parent (omega (arith, refers, node_part scene s i (references scene.setup writer parent) writer key node at)) in
           on parent up.0 up.1 (omega (arith, lt, down writer key node parent at is))
 
@@ -122,14 +122,14 @@ module _ (scene : Scene) (s : State) (i : Invariant scene s) (level : ℕ → �
   no_submission place x (Copies bio master leg want) lists here is h fits =
       let w = references scene.setup bio.writer master in
       let left = legs_left scene.setup bio leg in
-      let refers : one bio.writer bio.writer * one master master * left ≡ left =
-      ap (λ k. k * one master master * left) (one-same bio.writer) ∙ (ap (λ k. 1 * k * left) (one-same master) ∙ omega arith) in
+      let refers : one_if_same bio.writer bio.writer * one_if_same master master * left ≡ left =
+      ap (λ k. k * one_if_same master master * left) (one-same bio.writer) ∙ (ap (λ k. 1 * k * left) (one-same master) ∙ omega arith) in
       absurd (omega (arith, refers, fits, no_ref bio.writer master, task_part scene w s place x here is, submission_part w place x (Copies bio master leg want) lists h))
 
   resting : (q limit : ℕ) (submission : Submission) → (submission.doing ≡ Rests) × (submission.lists ≡ no_lists) → submission_weight (elements_of_pool q) limit submission ≡ 0
   resting q limit submission at = rw (at.0, at.1) refl
 
-  task_home : (q place : ℕ) (x : TaskState) → place < scene.tasks → s.task place ≡ x → TaskFits scene x → task_weight (elements_of_pool q) place x ≡ 0
+  task_home : (q place : ℕ) (x : TaskState) → place < scene.tasks → s.task place ≡ x → TaskIsSound scene x → task_weight (elements_of_pool q) place x ≡ 0
   -- writers: none has a submission or a bio in its hand
   task_home q place (Writer number todos NoBio submission) here is fits =
       omega (arith, resting q 32 submission (no_submission place (Writer number todos NoBio submission) submission.doing submission.lists here is refl fits.1))
@@ -152,7 +152,7 @@ module _ (scene : Scene) (s : State) (i : Invariant scene s) (level : ℕ → �
       by_parent None same = none.carried place disk writer closed here is same
       by_parent (Some parent) same =
           let refers : under writer parent writer closed.parent ≡ 1 =
-          ap (under writer parent writer) same ∙ (ap (λ n. n * one parent parent) (one-same writer) ∙ ap (λ n. 1 * n) (one-same parent)) in
+          ap (under writer parent writer) same ∙ (ap (λ n. n * one_if_same parent parent) (one-same writer) ∙ ap (λ n. 1 * n) (one-same parent)) in
           omega (arith, refers, no_ref writer parent, task_part scene (references scene.setup writer parent) s place (Completer disk (Carries writer closed)) here is)
   task_home q place (Completer disk (Fails breach kept)) here is fits = refl
   -- the keeper holds no element

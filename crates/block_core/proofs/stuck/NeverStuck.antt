@@ -18,7 +18,7 @@ use Rattle.block_core.proofs.sound.Invariant.{LedgersAreNumbered}
 use Rattle.block_core.proofs.sound.Orders.{DeviceGeometry}
 use Rattle.block_core.proofs.sound.Counters.{Counted, stays_counted}
 use Rattle.block_core.proofs.sound.LargestCounts.{no_counter_is_full}
-use Rattle.block_core.proofs.sound.EveryRun.{Whole, step_whole, runs_whole, runs_tallied, runs_posted, runs_long, runs_leveled, runs_waiting, start_whole, start_leveled}
+use Rattle.block_core.proofs.sound.EveryRun.{IsReachedWhole, step_whole, runs_whole, runs_tallied, runs_posted, runs_long, runs_leveled, runs_waiting, start_whole, start_leveled}
 use Rattle.block_core.proofs.start.InvariantAtStart.{start_opened}
 use Rattle.block_core.proofs.start.PostsAtStart.{ids_of, start_posted, start_crew}
 use Rattle.block_core.proofs.start.TallyAtStart.{keeper_place, start_tallied, from_none}
@@ -31,7 +31,7 @@ use Rattle.block_core.proofs.stuck.WaitersBelow.{WaitInvariant}
 
 -- no counter is above the number of events, and eight
 module _ (scene : Scene) (f : LedgersAreNumbered scene) (g : DeviceGeometry scene.setup) where
-  runs_counted : (n : ℕ) (s : State) (events : List Event) (new : State) → Whole scene s → Counted n s → IsRun scene s events new → Counted (n + length events) new
+  runs_counted : (n : ℕ) (s : State) (events : List Event) (new : State) → IsReachedWhole scene s → Counted n s → IsRun scene s events new → Counted (n + length events) new
   runs_counted n s [] new i t run = let e : n ≡ n + 0 = omega arith in subst (λ k. Counted k new) e (subst (Counted n) (sym run) t)
   runs_counted n s (event ∷ events) new i t (next, (place, steps), run) =
       let moved = step_is_move scene s f i.kept place event next steps in
@@ -40,7 +40,7 @@ module _ (scene : Scene) (f : LedgersAreNumbered scene) (g : DeviceGeometry scen
       (runs_counted (n + 1) next events new (step_whole scene f g s place event next i steps)
       (subst (Counted (n + 1)) (sym moved.is) (stays_counted scene s g i.placed n t moved.move moved.can)) run)
 
-  few_numbers : (s : State) (events : List Event) (new : State) → Whole scene s → Counted 0 s → IsRun scene s events new → length events + 9 < 2 ^ 64 → HasNumbers new
+  few_numbers : (s : State) (events : List Event) (new : State) → IsReachedWhole scene s → Counted 0 s → IsRun scene s events new → length events + 9 < 2 ^ 64 → HasNumbers new
   few_numbers s events new i t run few =
       let c = runs_counted 0 s events new i t run in
       record {
@@ -52,7 +52,7 @@ module _ (s : Scenario) (ledger : ℕ → LedgerId) (good : IsScenario s) (namin
   numbered : LedgersAreNumbered (scene s ledger)
   numbered = record { named = naming }
 
-  whole : Whole (scene s ledger) (start s)
+  whole : IsReachedWhole (scene s ledger) (start s)
   whole = start_whole s ledger good naming
 
   run_goes_by : HasRescuers s.stack → EveryPoolKeepsSome s → AreSorted s.rounds → (events : List Event) (state : State) → IsRun (scene s ledger) (start s) events state → HasNumbers state

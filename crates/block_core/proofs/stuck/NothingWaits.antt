@@ -14,7 +14,7 @@ use Rattle.run_machine.specs.Scene.{Setup, Scene, tree_at}
 use Rattle.run_machine.specs.Submissions.{Want, Takes, Punts as WantsPunt, Links, ToPush, ToCut, ToRecord, ToMaster, Doing, Rests, Drives, Copies, Breaks, Submission, legs_of}
 use Rattle.run_machine.specs.Tasks.{TaskState, Writer, Rescuer, Completer, Keeper, Todo, Gathered, NoBio, HasBio, HasBoth, Empty, Brings, Carries, Fails}
 use Rattle.run_machine.specs.Runs.{State}
-use Rattle.block_core.specs.Weights.{Weight, Lined, sum_at, one, submission_weight}
+use Rattle.block_core.specs.Weights.{Weight, Lined, sum_at, one_if_same, submission_weight}
 use Rattle.block_core.proofs.moves.Sums.{one-other, same_or_not}
 use Rattle.block_core.proofs.sound.Invariant.{Suits, DoingFits}
 use Rattle.block_core.proofs.sound.TaskSubmissions.{IsBusy}
@@ -114,7 +114,7 @@ some_one u v P (item ∷ items) h z all =
       | inr some ↦ (item, all.0, some, omega (arith, z, b))
     ]
 
-pub one-eq : (i j : ℕ) → 1 ≤ one i j → i ≡ j
+pub one-eq : (i j : ℕ) → 1 ≤ one_if_same i j → i ≡ j
 one-eq i j h = elim (same_or_not i j) [ inl e ↦ e | inr ne ↦ absurd (omega (arith, h, one-other i j ne)) ]
 
 pub both : (a b : ℕ) → 1 ≤ a * b → (1 ≤ a) × (1 ≤ b)

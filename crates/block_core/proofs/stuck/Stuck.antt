@@ -18,7 +18,7 @@ use Rattle.run_machine.specs.Opened.{from_round}
 use Rattle.block_core.specs.Weights.{Weight, Pending, Rescued, sum_at, weigh_option, task_weight, gathered_weight, book_weight}
 use Rattle.block_core.proofs.moves.Moves.{with_pool}
 use Rattle.block_core.proofs.moves.Sums.{one-other, same_or_not}
-use Rattle.block_core.proofs.sound.Invariant.{DoingFits, TaskFits}
+use Rattle.block_core.proofs.sound.Invariant.{DoingFits, TaskIsSound}
 use Rattle.block_core.proofs.sound.TaskSubmissions.{IsBusy}
 use Rattle.block_core.proofs.sound.Orders.{DoingPlaced, TaskPlaced, each_map}
 use Rattle.run_machine.specs.Scene.{is_disk}
@@ -159,7 +159,7 @@ module _ (scene : Scene) (s : State) (level : ℕ → ℕ → ℕ) (known : Wait
     taken_zero (HasBio item) = refl
     taken_zero (HasBoth item vector) = refl
 
-    task_none : (place : ℕ) (x : TaskState) → TaskFits scene x → TaskPlaced setup x → TaskRounds rounds keeper now place x → AtPost ids keeper scene s.objects.tally place x → IsStill s x → task_weight u place x ≡ 0
+    task_none : (place : ℕ) (x : TaskState) → TaskIsSound scene x → TaskPlaced setup x → TaskRounds rounds keeper now place x → AtPost ids keeper scene s.objects.tally place x → IsStill s x → task_weight u place x ≡ 0
     task_none place (Writer number todo taken submission) fits t r post h =
         let later = writer_later number todo taken submission.doing submission.lists fits.1 t.1 h post.1.0 in
         omega (arith, none_now todo later r, taken_zero taken, submission_zero (λ todos taken. all_worth (is_of_round rounds now) todos) (is_of_round rounds now) 32 submission)
@@ -221,13 +221,13 @@ module _ (scene : Scene) (s : State) (level : ℕ → ℕ → ℕ) (known : Wait
     keeper_free some =
         let kp = is_keeper (s.task keeper) ((posted.tasks keeper).0 ∙ crew.keeps) in
         by_keeping kp.0 kp.1
-        (subst (TaskFits scene) kp.1 (known.kept.tasks keeper)) (subst (TaskRounds rounds keeper now keeper) kp.1 (tallied.tasks keeper))
+        (subst (TaskIsSound scene) kp.1 (known.kept.tasks keeper)) (subst (TaskRounds rounds keeper now keeper) kp.1 (tallied.tasks keeper))
         (subst (AtPost ids keeper scene s.objects.tally keeper) kp.1 (posted.tasks keeper))
       where
         left_over : sum s.objects.tally.left ≡ from_round rounds (now + 1)
         left_over = let sums = tallied.tally.sums in omega (arith, sums, all_done)
 
-        by_keeping : (keeping : Keeping) → s.task keeper ≡ Keeper keeping → TaskFits scene (Keeper keeping) → TaskRounds rounds keeper now keeper (Keeper keeping) → AtPost ids keeper scene s.objects.tally keeper (Keeper keeping)
+        by_keeping : (keeping : Keeping) → s.task keeper ≡ Keeper keeping → TaskIsSound scene (Keeper keeping) → TaskRounds rounds keeper now keeper (Keeper keeping) → AtPost ids keeper scene s.objects.tally keeper (Keeper keeping)
             → HasFree scene s
         by_keeping (Stops breach) at fits r post = absurd fits
         by_keeping (Keeps []) at fits r post =

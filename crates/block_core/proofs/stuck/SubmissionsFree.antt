@@ -15,7 +15,7 @@ use Rattle.run_machine.specs.Submissions.{Takes, Punts as WantsPunt, Links, ToPu
 use Rattle.run_machine.specs.Tasks.{TaskState}
 use Rattle.run_machine.specs.Objects.{clear_bio, clear_slip}
 use Rattle.run_machine.specs.Runs.{State}
-use Rattle.block_core.specs.Weights.{one, doing_weight, legs_left}
+use Rattle.block_core.specs.Weights.{one_if_same, doing_weight, legs_left}
 use Rattle.block_core.proofs.moves.References.{references}
 use Rattle.block_core.proofs.moves.Moves.{limit_of, HasSubmission, with_pool, with_book}
 use Rattle.block_core.proofs.moves.Sums.{one-same}
@@ -96,10 +96,10 @@ module _ (scene : Scene) (s : State) (n : Needs scene.setup) (k : Invariant scen
   submission_free place here x at (Drives bio (ToCut (Links hand))) lists h busy fits d =
       let doing : Doing = Drives bio (ToCut (Links hand)) in
       let w = bio.bio.writer in
-      let names_it : one w w * one bio.bio.node bio.bio.node ≡ 1 = rw (one-same w, one-same bio.bio.node) refl in
+      let names_it : one_if_same w w * one_if_same bio.bio.node bio.bio.node ≡ 1 = rw (one-same w, one-same bio.bio.node) refl in
       let o = named place here x at doing lists h w bio.bio.node (omega (arith, names_it)) in
       let need = cut_need setup n bio (Links hand) (tree_at setup bio.bio.dev) refl d.1.0.0 d.3 in
-      let v = opens place here x at doing lists h w bio.bio.node o.0 o.1 (omega (arith, some_needs (one w w) (need_at setup bio.bio) (one-same w) need)) in
+      let v = opens place here x at doing lists h w bio.bio.node o.0 o.1 (omega (arith, some_needs (one_if_same w w) (need_at setup bio.bio) (one-same w) need)) in
       let book = with_node (with_node (s.objects.book w) v.0 (Some (child_node o.0.write bio.bio.node))) bio.bio.node (Some (raised o.0)) in
       let opened : ChainsAt (s.objects.book w) bio.bio.node (Some o.0) (Made v.0) book = (numbers.ends w bio.bio.node o.0 o.1, v.1, refl) in
       inl (free_submission scene s place here x at doing lists h busy (requests.LinkedTo (Made v.0)) _ refl refl (with_book s.objects w book)
@@ -118,10 +118,10 @@ module _ (scene : Scene) (s : State) (n : Needs scene.setup) (k : Invariant scen
       let w = bio.bio.writer in
       let tree = tree_at setup bio.bio.dev in
       let legs = legs_of tree in
-      let names_it : one w w * one bio.bio.node bio.bio.node ≡ 1 = rw (one-same w, one-same bio.bio.node) refl in
+      let names_it : one_if_same w w * one_if_same bio.bio.node bio.bio.node ≡ 1 = rw (one-same w, one-same bio.bio.node) refl in
       let o = named place here x at doing lists h w bio.bio.node (omega (arith, names_it)) in
       let need : 1 ≤ need_at setup bio.bio = omega (arith, mirror_need tree bio.bio.range bio.bio.dev.0 slip d.3 d.1.0.0.some) in
-      let v = opens place here x at doing lists h w bio.bio.node o.0 o.1 (omega (arith, some_needs (one w w) (need_at setup bio.bio) (one-same w) need)) in
+      let v = opens place here x at doing lists h w bio.bio.node o.0 o.1 (omega (arith, some_needs (one_if_same w w) (need_at setup bio.bio) (one-same w) need)) in
       let book = with_node (with_node (s.objects.book w) v.0 (Some (master_node o.0.write bio.bio.node slip legs))) bio.bio.node (Some (keeping bio o.0)) in
       let opened : MastersAt (s.objects.book w) bio.bio.node (Some o.0) bio slip legs (Made v.0) book = (v.1, refl) in
       inl (free_submission scene s place here x at doing lists h busy (requests.LinkedTo (Made v.0)) _ refl refl (with_book s.objects w book)
@@ -137,10 +137,10 @@ module _ (scene : Scene) (s : State) (n : Needs scene.setup) (k : Invariant scen
       let doing : Doing = Copies bio master leg (Links hand) in
       let w = bio.writer in
       let left : 1 ≤ legs_left setup bio leg = omega (arith, fits) in
-      let both_one : one w w * one master master ≡ 1 = rw (one-same w, one-same master) refl in
-      let o = named place here x at doing lists h w master (omega (arith, some_needs (one w w * one master master) (legs_left setup bio leg) both_one left)) in
+      let both_one : one_if_same w w * one_if_same master master ≡ 1 = rw (one-same w, one-same master) refl in
+      let o = named place here x at doing lists h w master (omega (arith, some_needs (one_if_same w w * one_if_same master master) (legs_left setup bio leg) both_one left)) in
       let need : 1 ≤ legs_need setup bio leg = omega (arith, left, legs_few (tree_at setup bio.dev) bio.range leg) in
-      let v = opens place here x at doing lists h w master o.0 o.1 (omega (arith, some_needs (one w w) (legs_need setup bio leg) (one-same w) need)) in
+      let v = opens place here x at doing lists h w master o.0 o.1 (omega (arith, some_needs (one_if_same w w) (legs_need setup bio leg) (one-same w) need)) in
       let book = with_node (s.objects.book w) v.0 (Some (leg_node o.0.write master)) in
       let opened : LegsAt (s.objects.book w) master (Some o.0) (Made v.0) book = (v.1, refl) in
       inl (free_submission scene s place here x at doing lists h busy (requests.LinkedTo (Made v.0)) _ refl refl (with_book s.objects w book)

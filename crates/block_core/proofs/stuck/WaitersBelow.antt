@@ -13,10 +13,10 @@ use Rattle.run_machine.specs.Scene.{Setup, Scene}
 use Rattle.run_machine.specs.Submissions.{Doing, Rests, Drives, Copies, Breaks, Submission, rests}
 use Rattle.run_machine.specs.Tasks.{TaskState, Writer, Rescuer, Completer, Keeper, Todo, Gathered, NoBio, HasBio, HasBoth, Empty, Brings, Carries, Fails}
 use Rattle.run_machine.specs.Runs.{State}
-use Rattle.block_core.specs.Weights.{Weight, Pending, Rescued, Lined, total_weight, sum_at, one, weigh_option, doing_weight, task_weight, submission_weight, book_weight, elements_of_pool, holding_elements, names_node, under, legs_left}
+use Rattle.block_core.specs.Weights.{Weight, Pending, Rescued, Lined, total_weight, sum_at, one_if_same, weigh_option, doing_weight, task_weight, submission_weight, book_weight, elements_of_pool, holding_elements, names_node, under, legs_left}
 use Rattle.block_core.proofs.moves.References.{references, awaited_ends}
 use Rattle.block_core.proofs.moves.Sums.{apart}
-use Rattle.block_core.proofs.sound.Invariant.{DoingFits, SubmissionFits, TaskFits, Invariant}
+use Rattle.block_core.proofs.sound.Invariant.{DoingFits, SubmissionFits, TaskIsSound, Invariant}
 use Rattle.block_core.proofs.sound.TaskSubmissions.{IsBusy}
 use Rattle.block_core.proofs.sound.Orders.{IsOwn, DoingPlaced, TaskPlaced, Placed, DeviceGeometry}
 use Rattle.std.specs.Prelude.{min}
@@ -82,7 +82,7 @@ module _ (scene : Scene) (s : State) (level : ℕ → ℕ → ℕ) (known : Wait
   abbrev Has : Weight → Type 0
   Has u = ((limit : ℕ) × Found scene s known.ground u off limit) ⊎ ((item : Item Pad) × (1 ≤ u.hand item) × (item.share.no ≡ 65) × (spares s 64 ≡ 0))
 
-  task_found : (u : Weight) → ((n : ℕ) (todos : List Todo) (taken : Gathered) → u.todo n todos taken ≡ 0) → (place : ℕ) (x : TaskState) → TaskFits scene x → TaskPlaced setup x → TaskWaits setup x → IsStill s x
+  task_found : (u : Weight) → ((n : ℕ) (todos : List Todo) (taken : Gathered) → u.todo n todos taken ≡ 0) → (place : ℕ) (x : TaskState) → TaskIsSound scene x → TaskPlaced setup x → TaskWaits setup x → IsStill s x
       → 1 ≤ task_weight u place x → task_weight off place x ≡ 0 → Has u
   -- writers: one without a bio has its submission, one with a bio waits for a vector, and one with both does not stand still
   task_found u todos place (Writer number todo NoBio submission) fits t w still some none =
@@ -112,7 +112,7 @@ module _ (scene : Scene) (s : State) (level : ℕ → ℕ → ℕ) (known : Wait
   rescuer_waits : (dev : ℕ) → dev < setup.count → (s.objects.rescue dev ≡ [] → ⊥) → (pool : ℕ) × (pool < 2 * dev) × (pool < 64) × (spares s pool ≡ 0) × IsPool setup pool
   rescuer_waits dev lt some =
       let r = c.rescuers dev lt (by_rescuer (known.waits.rescued dev)) in
-      let fits : TaskFits scene (Rescuer (record { 0 = dev }) r.1) = subst (TaskFits scene) r.3 (known.kept.tasks r.0) in
+      let fits : TaskIsSound scene (Rescuer (record { 0 = dev }) r.1) = subst (TaskIsSound scene) r.3 (known.kept.tasks r.0) in
       let t : TaskPlaced setup (Rescuer (record { 0 = dev }) r.1) = subst (TaskPlaced setup) r.3 (known.placed.tasks r.0) in
       let still : IsStill s (Rescuer (record { 0 = dev }) r.1) = subst (IsStill s) r.3 (c.still r.0 r.2) in
       elim (rests_or_busy r.1.doing) [
@@ -164,14 +164,14 @@ module _ (scene : Scene) (s : State) (level : ℕ → ℕ → ℕ) (known : Wait
   -- a bio that names a node is of the node's level
   named_below : (w k : ℕ) (item : Item Pad) → Below setup s (min item.share.no 64) → 1 ≤ names_node w k item → bio_off level item ≡ 0 → Below setup s (level w k)
   named_below w k item below some none =
-      let b = both (one item.bio.writer w) (one item.bio.node k) some in
+      let b = both (one_if_same item.bio.writer w) (one_if_same item.bio.node k) some in
       let a : level item.bio.writer item.bio.node ≡ level w k = ap (level item.bio.writer) (one-eq item.bio.node k b.1) ∙ ap (λ v. level v k) (one-eq item.bio.writer w b.0) in
       lower setup s (min item.share.no 64) (level w k) (omega (arith, a, none)) below
 
-  copied_below : (w k : ℕ) (bio : Bio) (master leg : ℕ) → Below setup s (2 * bio.dev.0 + 1) → 1 ≤ one bio.writer w * one master k * legs_left setup bio leg
+  copied_below : (w k : ℕ) (bio : Bio) (master leg : ℕ) → Below setup s (2 * bio.dev.0 + 1) → 1 ≤ one_if_same bio.writer w * one_if_same master k * legs_left setup bio leg
       → apart (level bio.writer master) (2 * bio.dev.0 + 1) ≡ 0 → Below setup s (level w k)
   copied_below w k bio master leg below some none =
-      let b = both (one bio.writer w) (one master k) (both (one bio.writer w * one master k) (legs_left setup bio leg) some).0 in
+      let b = both (one_if_same bio.writer w) (one_if_same master k) (both (one_if_same bio.writer w * one_if_same master k) (legs_left setup bio leg) some).0 in
       let a : level bio.writer master ≡ level w k = ap (level bio.writer) (one-eq master k b.1) ∙ ap (λ v. level v k) (one-eq bio.writer w b.0) in
       lower setup s (2 * bio.dev.0 + 1) (level w k) (omega (arith, a, none)) below
 
@@ -223,7 +223,7 @@ module _ (scene : Scene) (s : State) (level : ℕ → ℕ → ℕ) (known : Wait
           by_parent : (parent : Option ℕ) → 1 ≤ under w k v parent → parent_off level v j parent ≡ 0 → Below setup s (level w k)
           by_parent None h none = absurd (omega (arith, h))
           by_parent (Some parent) h none =
-              let b = both (one v w) (one parent k) h in
+              let b = both (one_if_same v w) (one_if_same parent k) h in
               let a : level v parent ≡ level w k = ap (level v) (one-eq parent k b.1) ∙ ap (λ x. level x k) (one-eq v w b.0) in
               lower setup s (level v j) (level w k) (omega (arith, a, none)) (again v j child is (omega (arith, a, none, lt)))
 
@@ -232,26 +232,26 @@ module _ (scene : Scene) (s : State) (level : ℕ → ℕ → ℕ) (known : Wait
   held_above q l held some none = by_three held.bio held.vector held.slip some none
     where
       by_three : (bio : Option (Item Pad)) (vector : Option VectorItem) (slip : Option SlipItem)
-          → 1 ≤ weigh_option (λ (bio : Item Pad). one bio.share.no q) bio + weigh_option (λ (vector : VectorItem). one vector.share.no q) vector + weigh_option (λ (slip : SlipItem). one slip.share.no q) slip
+          → 1 ≤ weigh_option (λ (bio : Item Pad). one_if_same bio.share.no q) bio + weigh_option (λ (vector : VectorItem). one_if_same vector.share.no q) vector + weigh_option (λ (slip : SlipItem). one_if_same slip.share.no q) slip
           → weigh_option (λ (bio : Item Pad). apart l (min bio.share.no 64)) bio + weigh_option (λ (vector : VectorItem). apart l (min vector.share.no 64)) vector + weigh_option (λ (slip : SlipItem). apart l (min slip.share.no 64)) slip ≡ 0
           → l ≤ q
-      by_three bio vector slip some none = elim (zero_or (weigh_option (λ (bio : Item Pad). one bio.share.no q) bio)) [
+      by_three bio vector slip some none = elim (zero_or (weigh_option (λ (bio : Item Pad). one_if_same bio.share.no q) bio)) [
         | inr h ↦ by_bio bio h (omega (arith, none))
-        | inl no_bio ↦ elim (zero_or (weigh_option (λ (vector : VectorItem). one vector.share.no q) vector)) [
+        | inl no_bio ↦ elim (zero_or (weigh_option (λ (vector : VectorItem). one_if_same vector.share.no q) vector)) [
           | inr h ↦ by_vector vector h (omega (arith, none))
           | inl no_vector ↦ by_slip slip (omega (arith, some, no_bio, no_vector)) (omega (arith, none))
         ]
       ]
         where
-          by_bio : (bio : Option (Item Pad)) → 1 ≤ weigh_option (λ (bio : Item Pad). one bio.share.no q) bio → weigh_option (λ (bio : Item Pad). apart l (min bio.share.no 64)) bio ≡ 0 → l ≤ q
+          by_bio : (bio : Option (Item Pad)) → 1 ≤ weigh_option (λ (bio : Item Pad). one_if_same bio.share.no q) bio → weigh_option (λ (bio : Item Pad). apart l (min bio.share.no 64)) bio ≡ 0 → l ≤ q
           by_bio None h z = absurd (omega (arith, h))
           by_bio (Some bio) h z = omega (arith, one-eq bio.share.no q h, z)
 
-          by_vector : (vector : Option VectorItem) → 1 ≤ weigh_option (λ (vector : VectorItem). one vector.share.no q) vector → weigh_option (λ (vector : VectorItem). apart l (min vector.share.no 64)) vector ≡ 0 → l ≤ q
+          by_vector : (vector : Option VectorItem) → 1 ≤ weigh_option (λ (vector : VectorItem). one_if_same vector.share.no q) vector → weigh_option (λ (vector : VectorItem). apart l (min vector.share.no 64)) vector ≡ 0 → l ≤ q
           by_vector None h z = absurd (omega (arith, h))
           by_vector (Some vector) h z = omega (arith, one-eq vector.share.no q h, z)
 
-          by_slip : (slip : Option SlipItem) → 1 ≤ weigh_option (λ (slip : SlipItem). one slip.share.no q) slip → weigh_option (λ (slip : SlipItem). apart l (min slip.share.no 64)) slip ≡ 0 → l ≤ q
+          by_slip : (slip : Option SlipItem) → 1 ≤ weigh_option (λ (slip : SlipItem). one_if_same slip.share.no q) slip → weigh_option (λ (slip : SlipItem). apart l (min slip.share.no 64)) slip ≡ 0 → l ≤ q
           by_slip None h z = absurd (omega (arith, h))
           by_slip (Some slip) h z = omega (arith, one-eq slip.share.no q h, z)
 

@@ -25,7 +25,7 @@ use Rattle.run_machine.specs.Runs.{State}
 use Rattle.run_machine.proofs.Frames.{upd_keeps}
 use Rattle.block_core.proofs.moves.Moves.{Move, Can, after, limit_of, with_submission, HasSubmission, Wants, with_want, filled_of, cut_lists}
 use Rattle.block_core.proofs.moves.Moves as moves
-use Rattle.block_core.proofs.sound.Invariant.{TaskFits, Invariant}
+use Rattle.block_core.proofs.sound.Invariant.{TaskIsSound, Invariant}
 use Rattle.block_core.proofs.moves.Geometry.{IsThere}
 use Rattle.block_core.proofs.sound.TaskSubmissions.{all-upd, submission_fits}
 use Rattle.block_core.proofs.sound.Orders.{Above, IsPlaced, IsOwn, DoingPlaced, TaskPlaced, Placed, DeviceGeometry, of_set}
@@ -214,7 +214,7 @@ module _ (scene : Scene) (s : State) (g : DeviceGeometry scene.setup) (r : AreRe
   -- links of legs
   tasks (moves.Legged place x bio lists master leg hand key node) c =
       let d = placed_at scene.setup s p place x (Copies bio master leg (Links hand)) lists c.1 c.2 in
-      let lt = submission_fits scene x (Copies bio master leg (Links hand)) lists (subst (TaskFits scene) c.1 (k.tasks place)) c.2 in
+      let lt = submission_fits scene x (Copies bio master leg (Links hand)) lists (subst (TaskIsSound scene) c.1 (k.tasks place)) c.2 in
       let item = leg_at bio hand leg key (tree_at scene.setup bio.dev) in
       on_submission place x _ (copies_wait scene.setup r (submitted item lists) bio master (leg + 1)
       (λ is.

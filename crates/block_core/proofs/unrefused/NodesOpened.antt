@@ -17,13 +17,13 @@ use Rattle.run_machine.specs.Submissions.{Links, ToPush, ToCut, ToMaster, Drives
 use Rattle.run_machine.specs.Tasks.{Writer, Todo}
 use Rattle.run_machine.specs.Runs.{State}
 use Rattle.block_core.specs.Touches.{Touch, Opens, Shuts, Passes}
-use Rattle.block_core.specs.Weights.{Weight, Lined, submission_weight, one}
+use Rattle.block_core.specs.Weights.{Weight, Lined, submission_weight, one_if_same}
 use Rattle.block_core.specs.Rooms.{need_at, todo_need, legs_need, room, HasRoomInBooks}
 use Rattle.block_core.proofs.moves.Moves.{Move, Can, after, lost, gained, limit_of, touch_by, gathered_of, filled_of, cut_lists}
 use Rattle.block_core.proofs.moves.Moves as moves
 use Rattle.block_core.proofs.moves.Sums.{upd-same, upd-other, same_or_not}
 use Rattle.block_core.proofs.moves.SubmissionWeights.{landed_same}
-use Rattle.block_core.proofs.sound.Invariant.{TaskFits, Invariant}
+use Rattle.block_core.proofs.sound.Invariant.{TaskIsSound, Invariant}
 use Rattle.block_core.proofs.moves.Geometry.{IsThere}
 use Rattle.block_core.proofs.sound.Orders.{IsOwn, TodoThere, TaskPlaced, Placed, DeviceGeometry}
 use Rattle.block_core.proofs.moves.Deltas.{delta}
@@ -48,16 +48,16 @@ landed_room : (setup : Setup) → Needs setup → (w limit : ℕ) (item : Item P
     → (room setup w).bio (Lined limit) (record item { bio = landed (tree_at setup item.bio.dev) item.bio }) ≡ (room setup w).bio (Lined limit) item
 landed_room setup n w limit item is =
     let at : Bio = landed (tree_at setup item.bio.dev) item.bio in
-    ap (λ v. one v w * need_at setup at) (landed_same (λ (bio : Bio). bio.writer) (λ to members bio. refl) (tree_at setup item.bio.dev) item.bio)
-    ∙ ap (λ v. one item.bio.writer w * v) (n.lands item.bio is)
+    ap (λ v. one_if_same v w * need_at setup at) (landed_same (λ (bio : Bio). bio.writer) (λ to members bio. refl) (tree_at setup item.bio.dev) item.bio)
+    ∙ ap (λ v. one_if_same item.bio.writer w * v) (n.lands item.bio is)
 
 copies_room : (setup : Setup) (n : Needs setup) (w : ℕ) (worth : ℕ → ℕ) (limit : ℕ) (lists : TaskLists) (bio : Bio) (master leg : ℕ) → AreThere setup lists.list0 → AreThere setup lists.list1
     → submission_weight (room_worth setup w worth) limit (copies setup lists bio master leg)
-    ≤ one bio.writer w * legs_need setup bio leg + sum_by ((room_worth setup w worth).bio (Lined limit)) lists.list0 + sum_by ((room_worth setup w worth).bio (Lined limit)) lists.list1
+    ≤ one_if_same bio.writer w * legs_need setup bio leg + sum_by ((room_worth setup w worth).bio (Lined limit)) lists.list0 + sum_by ((room_worth setup w worth).bio (Lined limit)) lists.list1
 copies_room setup n w worth limit lists bio master leg first second = omega (
   arith,
   copies_there setup (room_worth setup w worth) (landed_room setup n w) limit lists bio master leg first second,
-  unless_less (leg == legs_of (tree_at setup bio.dev)) (one bio.writer w * legs_need setup bio leg),
+  unless_less (leg == legs_of (tree_at setup bio.dev)) (one_if_same bio.writer w * legs_need setup bio leg),
 )
 
 -- places of books that change none of their number
@@ -75,7 +75,7 @@ module _ (scene : Scene) (s : State) (g : DeviceGeometry scene.setup) (n : Needs
   -- an event that opens a node has one less to open
   abbrev Spends : ℕ → (ℕ → ℕ) → Move → Type 0
   Spends w worth m =
-      gained scene (room_worth scene.setup w worth) s m + opened_worth (λ writer. one writer w) (touch_by m) ≤ lost scene (room_worth scene.setup w worth) s m + opened_worth worth (touch_by m)
+      gained scene (room_worth scene.setup w worth) s m + opened_worth (λ writer. one_if_same writer w) (touch_by m) ≤ lost scene (room_worth scene.setup w worth) s m + opened_worth worth (touch_by m)
 
   lands : (w : ℕ) (worth : ℕ → ℕ) → IsLanding scene.setup (room_worth scene.setup w worth)
   lands w worth = landed_room scene.setup n w
@@ -85,12 +85,12 @@ module _ (scene : Scene) (s : State) (g : DeviceGeometry scene.setup) (n : Needs
   begins w worth place writer todo later item None key there =
       let filled_item : Item Pad = filled_of writer todo item None key in
       let b = settled_there scene.setup (room_worth scene.setup w worth) (lands w worth) 32 (filled_item ∷ []) (there key, tt) in
-      let all = ap (λ k. one writer w * k) (sum_by-cons (todo_need scene.setup) todo later) in
+      let all = ap (λ k. one_if_same writer w * k) (sum_by-cons (todo_need scene.setup) todo later) in
       omega (arith, b, sum_by-cons ((room_worth scene.setup w worth).bio (Lined 32)) filled_item [], all)
   begins w worth place writer todo later item (Some vector) key there =
       let filled_item : Item Pad = filled_of writer todo item (Some vector) key in
       let b = settled_there scene.setup (room_worth scene.setup w worth) (lands w worth) 32 (filled_item ∷ []) (there key, tt) in
-      let all = ap (λ k. one writer w * k) (sum_by-cons (todo_need scene.setup) todo later) in
+      let all = ap (λ k. one_if_same writer w * k) (sum_by-cons (todo_need scene.setup) todo later) in
       omega (arith, b, sum_by-cons ((room_worth scene.setup w worth).bio (Lined 32)) filled_item [], all)
 
   pub spends : (w : ℕ) (worth : ℕ → ℕ) (m : Move) → Can scene s m → Spends w worth m
@@ -109,7 +109,7 @@ module _ (scene : Scene) (s : State) (g : DeviceGeometry scene.setup) (n : Needs
       let k = first_length kind sizes bio.bio.range in
       let d = placed_at scene.setup s a place x (Drives bio (ToCut (Links hand))) lists c.1 c.2 in
       let cuts = cut_there scene.setup (limit_of x) g bio hand lists key number kind sizes members d c.3 in
-      let part = ap (λ v. one bio.bio.writer w * v) (n.cut bio hand key number kind sizes members d.1.0.0 c.3 cuts.0) in
+      let part = ap (λ v. one_if_same bio.bio.writer w * v) (n.cut bio hand key number kind sizes members d.1.0.0 c.3 cuts.0) in
       omega (
         arith,
         goes_there scene.setup (room_worth scene.setup w worth) (lands w worth) (limit_of x) bio.bio.dev (cut_lists bio lists hand k key kind sizes members) cuts.1 (all_there scene.setup (limit_of x) lists.list1 d.1.1),
@@ -120,18 +120,18 @@ module _ (scene : Scene) (s : State) (g : DeviceGeometry scene.setup) (n : Needs
   spends w worth (moves.Mastered place x bio lists slip key node) c =
       let d = placed_at scene.setup s a place x (Drives bio (ToMaster slip)) lists c.1 c.2 in
       let is = d.1.0.0 in
-      let part = ap (λ v. one bio.bio.writer w * v) (mirror_need (tree_at scene.setup bio.bio.dev) bio.bio.range bio.bio.dev.0 slip d.3 is.some) in
+      let part = ap (λ v. one_if_same bio.bio.writer w * v) (mirror_need (tree_at scene.setup bio.bio.dev) bio.bio.range bio.bio.dev.0 slip d.3 is.some) in
       omega (arith, copies_room scene.setup n w worth (limit_of x) lists bio.bio key 0 (none_there scene.setup (limit_of x) lists d.0) (all_there scene.setup (limit_of x) lists.list1 d.1.1), part)
   -- links of legs
   spends w worth (moves.Legged place x bio lists master leg hand key node) c =
       let d = placed_at scene.setup s a place x (Copies bio master leg (Links hand)) lists c.1 c.2 in
-      let lt = submission_fits scene x (Copies bio master leg (Links hand)) lists (subst (TaskFits scene) c.1 (i.tasks place)) c.2 in
+      let lt = submission_fits scene x (Copies bio master leg (Links hand)) lists (subst (TaskIsSound scene) c.1 (i.tasks place)) c.2 in
       let item = leg_at bio hand leg key (tree_at scene.setup bio.dev) in
       let more = submitted item lists in
       let first = leg_there scene.setup (limit_of x) g bio hand lists master leg key d lt in
-      let next = ap (λ v. one bio.writer w * v) (legs_on (tree_at scene.setup bio.dev) bio.range leg lt) in
-      let part = ap (λ v. one bio.writer w * v) (n.leg bio hand leg key d.0 lt) in
-      let own = ap (λ v. one v w * need_at scene.setup item.bio) (leg_writer bio hand leg key (tree_at scene.setup bio.dev) lt) in
+      let next = ap (λ v. one_if_same bio.writer w * v) (legs_on (tree_at scene.setup bio.dev) bio.range leg lt) in
+      let part = ap (λ v. one_if_same bio.writer w * v) (n.leg bio hand leg key d.0 lt) in
+      let own = ap (λ v. one_if_same v w * need_at scene.setup item.bio) (leg_writer bio hand leg key (tree_at scene.setup bio.dev) lt) in
       omega (
         arith,
         copies_room scene.setup n w worth (limit_of x) more bio master (leg + 1) first (all_there scene.setup (limit_of x) lists.list1 d.3),
@@ -167,5 +167,5 @@ module _ (scene : Scene) (s : State) (g : DeviceGeometry scene.setup) (n : Needs
   pub stays_roomy : (m : Move) → Can scene s m → HasRoomInBooks scene s → HasRoomInBooks scene (after scene s m)
   stays_roomy m c r = record {
     places = places m c r.places;
-    room = λ w. omega (arith, delta scene (room scene.setup w) s m c, spends w (λ writer. one writer w) m c, r.room w);
+    room = λ w. omega (arith, delta scene (room scene.setup w) s m c, spends w (λ writer. one_if_same writer w) m c, r.room w);
   }

@@ -15,7 +15,7 @@ use Rattle.block_core.proofs.sound.Orders.{DeviceGeometry}
 use Rattle.block_core.proofs.sound.TaskSubmissions.{all-upd}
 use Rattle.block_core.proofs.moves.StepMoves.{step_is_move}
 use Rattle.block_core.proofs.start.InvariantAtStart.{Begins}
-use Rattle.block_core.proofs.sound.EveryRun.{Whole, runs_whole}
+use Rattle.block_core.proofs.sound.EveryRun.{IsReachedWhole, runs_whole}
 
 -- something is taken for a write alone
 abbrev pub IsForOne : List Todo → Gathered → Type 0
@@ -72,7 +72,7 @@ module _ (scene : Scene) (s : State) (all : (place : ℕ) → GoesOnCarrying (s.
   carries_on (moves.Started place round later duties) c = goes place _ tt
 
 module _ (scene : Scene) (f : LedgersAreNumbered scene) (g : DeviceGeometry scene.setup) where
-  pub runs_on : (s : State) (events : List Event) (new : State) → Whole scene s → ((place : ℕ) → GoesOnCarrying (s.task place)) → IsRun scene s events new
+  pub runs_on : (s : State) (events : List Event) (new : State) → IsReachedWhole scene s → ((place : ℕ) → GoesOnCarrying (s.task place)) → IsRun scene s events new
       → (place : ℕ) → GoesOnCarrying (new.task place)
   runs_on s [] new i all run = subst (λ (x : State). (place : ℕ) → GoesOnCarrying (x.task place)) (sym run) all
   runs_on s (event ∷ events) new i all (next, (place, steps), run) =

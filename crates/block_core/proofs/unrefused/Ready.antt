@@ -22,14 +22,14 @@ use Rattle.run_machine.specs.Requests.{Request, Reply, Opening}
 use Rattle.run_machine.specs.Tasks.{TaskState, Writer, Rescuer, Completer, Keeper, Keeping, Keeps, Stops, Resizes, Starts, Todo, Gathered, NoBio, HasBio, HasBoth, Carried, Empty, Brings, Carries, Fails, request, with_bio, needs_vector}
 use Rattle.run_machine.specs.Objects.{Objects, Serves}
 use Rattle.run_machine.specs.Runs.{State}
-use Rattle.block_core.specs.Weights.{one, task_weight, legs_left}
+use Rattle.block_core.specs.Weights.{one_if_same, task_weight, legs_left}
 use Rattle.block_core.proofs.moves.References.{references, awaited_ends}
 use Rattle.block_core.specs.Rooms.{need_at, todo_need, legs_need, room, HasRoomInBooks}
 use Rattle.block_core.specs.Breaks.{is_refusal}
 use Rattle.block_core.proofs.moves.Moves.{HasSubmission}
 use Rattle.block_core.proofs.moves.Sums.{one-same}
 use Rattle.block_core.specs.Roles.{named}
-use Rattle.block_core.proofs.sound.Invariant.{own_part, own_of, TaskFits, Invariant}
+use Rattle.block_core.proofs.sound.Invariant.{own_part, own_of, TaskIsSound, Invariant}
 use Rattle.block_core.proofs.sound.Orders.{Placed}
 use Rattle.block_core.proofs.moves.Deltas.{vacant_at}
 use Rattle.block_core.proofs.sound.TaskSubmissions.{submission_fits}
@@ -205,8 +205,8 @@ module _ (scene : Scene) (s : State) (n : Needs scene.setup) (small : IsSmall sc
       let key = bio.bio.node in
       let d = placed_at scene.setup s a place x doing lists is h in
       let need = cut_need scene.setup n bio (Links hand) (tree_at scene.setup bio.bio.dev) refl d.1.0.0 d.3 in
-      let all : one writer writer * need_at scene.setup bio.bio ≡ need_at scene.setup bio.bio = ap (λ k. k * need_at scene.setup bio.bio) (one-same writer) ∙ omega arith in
-      let names_it : one writer writer * one key key ≡ 1 = ap (λ k. k * one key key) (one-same writer) ∙ (ap (λ k. 1 * k) (one-same key)) in
+      let all : one_if_same writer writer * need_at scene.setup bio.bio ≡ need_at scene.setup bio.bio = ap (λ k. k * need_at scene.setup bio.bio) (one-same writer) ∙ omega arith in
+      let names_it : one_if_same writer writer * one_if_same key key ≡ 1 = ap (λ k. k * one_if_same key key) (one-same writer) ∙ (ap (λ k. 1 * k) (one-same key)) in
       let stands = is_open x writer key is (omega (arith, names_it, submission_part (references scene.setup writer key) place x doing lists h)) in
       (has_vacant scene s r place x writer here is (in_books writer key stands) (omega (arith, need, all, submission_part (room scene.setup writer) place x doing lists h)), stands)
   -- links of masters: likewise
@@ -217,19 +217,19 @@ module _ (scene : Scene) (s : State) (n : Needs scene.setup) (small : IsSmall sc
       let d = placed_at scene.setup s a place x doing lists is h in
       let there = d.1.0.0 in
       let need = mirror_need (tree_at scene.setup bio.bio.dev) bio.bio.range bio.bio.dev.0 slip d.3 there.some in
-      let all : one writer writer * need_at scene.setup bio.bio ≡ need_at scene.setup bio.bio = ap (λ k. k * need_at scene.setup bio.bio) (one-same writer) ∙ omega arith in
-      let names_it : one writer writer * one key key ≡ 1 = ap (λ k. k * one key key) (one-same writer) ∙ (ap (λ k. 1 * k) (one-same key)) in
+      let all : one_if_same writer writer * need_at scene.setup bio.bio ≡ need_at scene.setup bio.bio = ap (λ k. k * need_at scene.setup bio.bio) (one-same writer) ∙ omega arith in
+      let names_it : one_if_same writer writer * one_if_same key key ≡ 1 = ap (λ k. k * one_if_same key key) (one-same writer) ∙ (ap (λ k. 1 * k) (one-same key)) in
       let stands = is_open x writer key is (omega (arith, names_it, submission_part (references scene.setup writer key) place x doing lists h)) in
       (has_vacant scene s r place x writer here is (in_books writer key stands) (omega (arith, need, all, submission_part (room scene.setup writer) place x doing lists h)), stands)
   -- links of legs: likewise, and the node above is the master
   ready_submission x (Copies bio master leg (Links hand)) lists is h =
       let doing : Doing = Copies bio master leg (Links hand) in
       let writer = bio.writer in
-      let lt = submission_fits scene x doing lists (subst (TaskFits scene) is (i.tasks place)) h in
+      let lt = submission_fits scene x doing lists (subst (TaskIsSound scene) is (i.tasks place)) h in
       let few = legs_few (tree_at scene.setup bio.dev) bio.range leg in
-      let all : one writer writer * legs_need scene.setup bio leg ≡ legs_need scene.setup bio leg = ap (λ k. k * legs_need scene.setup bio leg) (one-same writer) ∙ omega arith in
+      let all : one_if_same writer writer * legs_need scene.setup bio leg ≡ legs_need scene.setup bio leg = ap (λ k. k * legs_need scene.setup bio leg) (one-same writer) ∙ omega arith in
       let left = legs_left scene.setup bio leg in
-      let refers : one writer writer * one master master * left ≡ left = ap (λ k. k * one master master * left) (one-same writer) ∙ (ap (λ k. 1 * k * left) (one-same master) ∙ omega arith) in
+      let refers : one_if_same writer writer * one_if_same master master * left ≡ left = ap (λ k. k * one_if_same master master * left) (one-same writer) ∙ (ap (λ k. 1 * k * left) (one-same master) ∙ omega arith) in
       let stands = is_open x writer master is (omega (arith, refers, lt, submission_part (references scene.setup writer master) place x doing lists h)) in
       (has_vacant scene s r place x writer here is (in_books writer master stands) (omega (arith, few, lt, all, submission_part (room scene.setup writer) place x doing lists h)), stands)
   -- no other asks a book
@@ -270,7 +270,7 @@ module _ (scene : Scene) (s : State) (n : Needs scene.setup) (small : IsSmall sc
   ready_carried disk (Brings bio status) is =
       let writer = bio.bio.writer in
       let key = bio.bio.node in
-      let names_it : one writer writer * one key key ≡ 1 = ap (λ k. k * one key key) (one-same writer) ∙ (ap (λ k. 1 * k) (one-same key)) in
+      let names_it : one_if_same writer writer * one_if_same key key ≡ 1 = ap (λ k. k * one_if_same key key) (one-same writer) ∙ (ap (λ k. 1 * k) (one-same key)) in
       is_open (Completer disk (Brings bio status)) writer key is (omega (arith, names_it))
   ready_carried disk (Carries writer closed) is = by_held closed.held.vector closed.held.bio closed.held.slip closed.parent closed.write closed.status is
     where
@@ -281,7 +281,7 @@ module _ (scene : Scene) (s : State) (n : Needs scene.setup) (small : IsSmall sc
       by_held None (Some bio) slip parent write status is = tt
       by_held None None (Some slip) parent write status is = tt
       by_held None None None (Some parent) write status is =
-          let names_it : one writer writer * one parent parent ≡ 1 = ap (λ k. k * one parent parent) (one-same writer) ∙ (ap (λ k. 1 * k) (one-same parent)) in
+          let names_it : one_if_same writer writer * one_if_same parent parent ≡ 1 = ap (λ k. k * one_if_same parent parent) (one-same writer) ∙ (ap (λ k. 1 * k) (one-same parent)) in
           is_open _ writer parent is (omega (arith, names_it))
       by_held None None None None write status is = tt
   ready_carried disk (Fails breach kept) is = tt
@@ -292,7 +292,7 @@ module _ (scene : Scene) (s : State) (n : Needs scene.setup) (small : IsSmall sc
   ready_keeper (Keeps (Starts round later ∷ duties)) = tt
   ready_keeper (Stops breach) = tt
 
-  ready_task : (x : TaskState) → s.task place ≡ x → TaskFits scene x → IsReady s.objects (request scene.setup x)
+  ready_task : (x : TaskState) → s.task place ≡ x → TaskIsSound scene x → IsReady s.objects (request scene.setup x)
   ready_task (Writer number todo taken submission) is fits = ready_writer number todo taken submission.doing submission.lists is fits.0
   ready_task (Rescuer dev submission) is fits = ready_rescuer dev submission.doing submission.lists is
   ready_task (Completer disk carried) is fits = ready_carried disk carried is

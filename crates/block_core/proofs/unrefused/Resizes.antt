@@ -11,7 +11,7 @@ use Rattle.run_machine.specs.Submissions.{Submission}
 use Rattle.run_machine.specs.Requests as requests
 use Rattle.run_machine.specs.Tasks.{Writer, Completer, Keeper, Keeps, Resizes, Duty, Todo, Gathered, NoBio, HasBio, HasBoth, Carries}
 use Rattle.run_machine.specs.Runs.{State, IsLet}
-use Rattle.block_core.specs.Weights.{total_weight, one}
+use Rattle.block_core.specs.Weights.{total_weight, one_if_same}
 use Rattle.block_core.proofs.sound.OffLevels.{AreLeveled, off_levels, parent_off}
 use Rattle.block_core.proofs.sound.EventStages.{top_is}
 use Rattle.block_core.specs.Rounds.{round_of, is_of_round, tops, tops_left, unfinished_of, begun_of}
@@ -51,8 +51,8 @@ module _ (rounds : List ℕ) (keeper : ℕ) (scene : Scene) (s : State) (i : Inv
       r : ℕ
       r = round_of rounds node.write
 
-      worth : tops node.role * one r r ≡ 1
-      worth = ap (λ n. n * one r r) (top_is node.role is) ∙ ap (λ n. 1 * n) (one-same r)
+      worth : tops node.role * one_if_same r r ≡ 1
+      worth = ap (λ n. n * one_if_same r r) (top_is node.role is) ∙ ap (λ n. 1 * n) (one-same r)
 
   no_carried : (place : ℕ) (disk : DevId) (writer : ℕ) (closed : Closed) → place < scene.tasks → s.task place ≡ Completer disk (Carries writer closed) → closed.parent ≡ None → ⊥
   no_carried place disk writer closed here is top = elim (over r) [
@@ -63,8 +63,8 @@ module _ (rounds : List ℕ) (keeper : ℕ) (scene : Scene) (s : State) (i : Inv
       r : ℕ
       r = round_of rounds closed.write
 
-      worth : tops_left closed.parent * one r r ≡ 1
-      worth = ap (λ parent. tops_left parent * one r r) top ∙ ap (λ n. 1 * n) (one-same r)
+      worth : tops_left closed.parent * one_if_same r r ≡ 1
+      worth = ap (λ parent. tops_left parent * one_if_same r r) top ∙ ap (λ n. 1 * n) (one-same r)
 
   -- what is in a hand is for the first of some writes
   no_hand : (place number : ℕ) (todos : List Todo) (taken : Gathered) (submission : Submission) → place < scene.tasks → s.task place ≡ Writer number todos taken submission → taken ≡ NoBio

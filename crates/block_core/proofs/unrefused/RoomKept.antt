@@ -14,15 +14,15 @@ use Rattle.block_core.proofs.unrefused.NodeNeeds.{Needs, needs_known}
 use Rattle.block_core.proofs.moves.StepMoves.{step_is_move}
 use Rattle.block_core.proofs.unrefused.NodesOpened.{stays_roomy}
 use Rattle.block_core.proofs.start.RoomAtStart.{start_roomy}
-use Rattle.block_core.proofs.sound.EveryRun.{Whole, runs_whole, start_whole}
+use Rattle.block_core.proofs.sound.EveryRun.{IsReachedWhole, runs_whole, start_whole}
 
 module _ (scene : Scene) (f : LedgersAreNumbered scene) (g : DeviceGeometry scene.setup) (n : Needs scene.setup) where
-  step_roomy : (s : State) (place : ℕ) (event : Event) (new : State) → Whole scene s → HasRoomInBooks scene s → Steps scene s place event new → HasRoomInBooks scene new
+  step_roomy : (s : State) (place : ℕ) (event : Event) (new : State) → IsReachedWhole scene s → HasRoomInBooks scene s → Steps scene s place event new → HasRoomInBooks scene new
   step_roomy s place event new i r steps =
       let moved = step_is_move scene s f i.kept place event new steps in
       subst (HasRoomInBooks scene) (sym moved.is) (stays_roomy scene s g n i.kept i.placed moved.move moved.can r)
 
-  pub runs_roomy : (s : State) (events : List Event) (new : State) → Whole scene s → HasRoomInBooks scene s → IsRun scene s events new → HasRoomInBooks scene new
+  pub runs_roomy : (s : State) (events : List Event) (new : State) → IsReachedWhole scene s → HasRoomInBooks scene s → IsRun scene s events new → HasRoomInBooks scene new
   runs_roomy s [] new i r run = subst (HasRoomInBooks scene) (sym run) r
   runs_roomy s (event ∷ events) new i r (next, (place, steps), run) =
       let j = runs_whole scene f g s (event ∷ []) next i (next, (place, steps), refl) in

@@ -22,7 +22,7 @@ use Rattle.run_machine.proofs.Apart.{one_keeper}
 use Rattle.run_machine.proofs.Passing.{filter_sum}
 use Rattle.block_core.specs.Scenarios.{IsScenario, IsNaming}
 use Rattle.block_core.specs.Breaks.{ElementsAreAllowed, GoesUnrefused, NoTaskBreaks}
-use Rattle.block_core.proofs.sound.Invariant.{DoingFits, TaskFits, LedgersAreNumbered}
+use Rattle.block_core.proofs.sound.Invariant.{DoingFits, TaskIsSound, LedgersAreNumbered}
 use Rattle.block_core.proofs.moves.Devices.{ground}
 use Rattle.block_core.proofs.unrefused.NodeNeeds.{needs_known}
 use Rattle.block_core.proofs.start.InvariantAtStart.{start_opened}
@@ -42,7 +42,7 @@ unbroken_submission scene (Drives bio ask) lists fits = refl
 unbroken_submission scene (Copies bio master leg want) lists fits = refl
 unbroken_submission scene (Breaks breach kept) lists fits = absurd fits
 
-unbroken : (scene : Scene) (x : TaskState) → TaskFits scene x → GoesOnCarrying x → is_broken x ≡ false
+unbroken : (scene : Scene) (x : TaskState) → TaskIsSound scene x → GoesOnCarrying x → is_broken x ≡ false
 unbroken scene (Writer number todo taken submission) fits on = ap is_some (unbroken_submission scene submission.doing submission.lists fits.1)
 unbroken scene (Rescuer dev submission) fits on = ap is_some (unbroken_submission scene submission.doing submission.lists fits.1)
 unbroken scene (Completer disk carried) fits on = on

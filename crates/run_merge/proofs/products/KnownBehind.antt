@@ -10,7 +10,7 @@ use Rattle.run_machine.specs.Runs.{State}
 use Rattle.block_core.specs.Rounds.{round_of, is_of_round}
 use Rattle.block_core.specs.Scenarios.{IsScenario, IsNaming}
 use Rattle.block_core.specs.Dones.{times_done}
-use Rattle.block_core.specs.Weights.{total_weight, one}
+use Rattle.block_core.specs.Weights.{total_weight, one_if_same}
 use Rattle.block_core.proofs.sound.DoneOnce.{stage}
 use Rattle.block_core.proofs.moves.Devices.{ground}
 use Rattle.block_core.proofs.sound.Invariant.{LedgersAreNumbered}
@@ -18,7 +18,7 @@ use Rattle.block_core.proofs.sound.Orders.{DeviceGeometry}
 use Rattle.block_core.proofs.sound.Rounds.{DutiesFit, TaskRounds, Tallied}
 use Rattle.block_core.proofs.start.TallyAtStart.{keeper_place, start_tallied}
 use Rattle.block_core.proofs.moves.Sums.{one-same, one-other, same_or_not, below_or}
-use Rattle.block_core.proofs.sound.EveryRun.{Whole, runs_whole, runs_done, runs_tallied, start_whole, stage_once}
+use Rattle.block_core.proofs.sound.EveryRun.{IsReachedWhole, runs_whole, runs_done, runs_tallied, start_whole, stage_once}
 use Rattle.run_merge.specs.Entries.{Entry}
 use Rattle.run_merge.specs.Products.{AreDone, AreOfRun}
 use Rattle.run_merge.proofs.products.WritesEnd.{ends, ended_is_told, told_is_ended}
@@ -58,10 +58,10 @@ module _ (s : Scenario) (ledger : ℕ → LedgerId) (good : IsScenario s) (namin
     done = done;
   }
     where
-      begun : Whole sc (start s)
+      begun : IsReachedWhole sc (start s)
       begun = start_whole s ledger good naming
 
-      whole : Whole sc state
+      whole : IsReachedWhole sc state
       whole = runs_whole sc numbered g (start s) events state begun run
 
       t : Tallied s.rounds (keeper_place s good ledger) sc state
@@ -116,12 +116,12 @@ module _ (s : Scenario) (ledger : ℕ → LedgerId) (good : IsScenario s) (namin
           by_two (inl early) = t.tally.past (round_of s.rounds write) early
           by_two (inr ge) = let e : round_of s.rounds write ≡ now = omega (arith, ge, few) in ap (λ r. slice_index_or state.objects.tally.left r 0) e ∙ none
 
-          worth : (n : ℕ) → one n write ≤ is_of_round s.rounds (round_of s.rounds write) n
+          worth : (n : ℕ) → one_if_same n write ≤ is_of_round s.rounds (round_of s.rounds write) n
           worth n = by_same (same_or_not n write)
             where
-              by_same : (n ≡ write) ⊎ (n ≢ write) → one n write ≤ is_of_round s.rounds (round_of s.rounds write) n
+              by_same : (n ≡ write) ⊎ (n ≢ write) → one_if_same n write ≤ is_of_round s.rounds (round_of s.rounds write) n
               by_same (inl e) =
-                  let a : one n write ≡ 1 = ap (λ k. one k write) e ∙ one-same write in
-                  let b : is_of_round s.rounds (round_of s.rounds write) n ≡ 1 = ap (λ k. one (round_of s.rounds k) (round_of s.rounds write)) e ∙ one-same (round_of s.rounds write) in
+                  let a : one_if_same n write ≡ 1 = ap (λ k. one_if_same k write) e ∙ one-same write in
+                  let b : is_of_round s.rounds (round_of s.rounds write) n ≡ 1 = ap (λ k. one_if_same (round_of s.rounds k) (round_of s.rounds write)) e ∙ one-same (round_of s.rounds write) in
                   omega (arith, a, b)
               by_same (inr ne) = let z = one-other n write ne in omega (arith, z)

@@ -11,7 +11,7 @@ use Rattle.run_machine.specs.Opened.{Scenario, scene, start}
 use Rattle.run_machine.specs.Runs.{State}
 use Rattle.block_core.specs.Rounds.{tops, tops_left, all_worth, unfinished_of}
 use Rattle.block_core.specs.Scenarios.{IsScenario}
-use Rattle.block_core.specs.Weights.{total_weight, one}
+use Rattle.block_core.specs.Weights.{total_weight, one_if_same}
 use Rattle.block_core.proofs.sound.DoneOnce.{to_begin, stage}
 use Rattle.block_core.proofs.sound.Dones.{stage_is}
 use Rattle.block_core.proofs.sound.Invariant.{Invariant}
@@ -20,7 +20,7 @@ use Rattle.block_core.proofs.start.TallyAtStart.{numbered, unfinished_at_start}
 use Rattle.block_core.proofs.moves.Sums.{one-same, one-other, same_or_not}
 
 -- at the start
-none_numbered : (w a n : ℕ) (rs : List ℕ) (ws : List Write) → a + n ≤ w → all_worth (λ k. one k w) (map numbered (zip (range_with_len a n) (zip rs ws))) ≡ 0
+none_numbered : (w a n : ℕ) (rs : List ℕ) (ws : List Write) → a + n ≤ w → all_worth (λ k. one_if_same k w) (map numbered (zip (range_with_len a n) (zip rs ws))) ≡ 0
 none_numbered w a zero rs ws le = refl
 none_numbered w a (suc n) [] ws le = refl
 none_numbered w a (suc n) (r ∷ rs) [] le = refl
@@ -28,7 +28,7 @@ none_numbered w a (suc n) (r ∷ rs) (x ∷ ws) le =
     omega (arith, one-other a w (λ e. omega (arith, e, le)), none_numbered w (a + 1) n rs ws (omega (arith, le)))
 
 some_numbered : (w a n : ℕ) (rs : List ℕ) (ws : List Write) → a ≤ w → w < a + n → n ≤ length rs → n ≤ length ws
-    → 1 ≤ all_worth (λ k. one k w) (map numbered (zip (range_with_len a n) (zip rs ws)))
+    → 1 ≤ all_worth (λ k. one_if_same k w) (map numbered (zip (range_with_len a n) (zip rs ws)))
 some_numbered w a zero rs ws ge lt few fewer = absurd (omega (arith, ge, lt))
 some_numbered w a (suc n) [] ws ge lt few fewer = absurd (omega (arith, few))
 some_numbered w a (suc n) (r ∷ rs) [] ge lt few fewer = absurd (omega (arith, fewer))
@@ -36,10 +36,10 @@ some_numbered w a (suc n) (r ∷ rs) (x ∷ ws) ge lt few fewer =
     by_two (same_or_not a w) (λ ne. some_numbered w (a + 1) n rs ws (omega (arith, ne, ge)) (omega (arith, lt)) (omega (arith, few)) (omega (arith, fewer)))
   where
     rest : ℕ
-    rest = all_worth (λ k. one k w) (map numbered (zip (range_with_len (a + 1) n) (zip rs ws)))
+    rest = all_worth (λ k. one_if_same k w) (map numbered (zip (range_with_len (a + 1) n) (zip rs ws)))
 
-    by_two : (a ≡ w) ⊎ (a ≢ w) → (a ≢ w → 1 ≤ rest) → 1 ≤ one a w + rest
-    by_two (inl e) more = let here : one a w ≡ 1 = ap (λ k. one k w) e ∙ one-same w in omega (arith, here)
+    by_two : (a ≡ w) ⊎ (a ≢ w) → (a ≢ w → 1 ≤ rest) → 1 ≤ one_if_same a w + rest
+    by_two (inl e) more = let here : one_if_same a w ≡ 1 = ap (λ k. one_if_same k w) e ∙ one-same w in omega (arith, here)
     by_two (inr ne) more = omega (arith, more ne)
 
 module _ (s : Scenario) (good : IsScenario s) (ledger : ℕ → LedgerId) where
@@ -48,11 +48,11 @@ module _ (s : Scenario) (good : IsScenario s) (ledger : ℕ → LedgerId) where
       let is = ap (λ u. total_weight (scene s ledger) u (start s)) (stage_is w) in
       let same = good.rounds in
       let some = some_numbered w 0 (length s.writes) s.rounds s.writes (omega arith) (omega (arith, lt)) (omega (arith, same)) (omega arith) in
-      omega (arith, is, unfinished_at_start s good ledger (λ n. one n w), some)
+      omega (arith, is, unfinished_at_start s good ledger (λ n. one_if_same n w), some)
 
   pub none_at_start : (w : ℕ) → length s.writes ≤ w → total_weight (scene s ledger) (stage w) (start s) ≡ 0
   none_at_start w le =
-      ap (λ u. total_weight (scene s ledger) u (start s)) (stage_is w) ∙ unfinished_at_start s good ledger (λ n. one n w)
+      ap (λ u. total_weight (scene s ledger) u (start s)) (stage_is w) ∙ unfinished_at_start s good ledger (λ n. one_if_same n w)
       ∙ none_numbered w 0 (length s.writes) s.rounds s.writes (omega (arith, le))
 
 -- A write in stage is worth no more than all unfinished ones, where it is worth one or more;
@@ -60,14 +60,14 @@ todos_within : (g h : ℕ → ℕ) → ((n : ℕ) → g n ≤ h n) → (ts : Lis
 todos_within g h le [] = omega arith
 todos_within g h le (todo ∷ ts) = omega (arith, le todo.number, todos_within g h le ts)
 
-pub stage_within : (scene : Scene) (s : State) (i : Invariant scene s) (f : ℕ → ℕ) (w : ℕ) → ((n : ℕ) → one n w ≤ f n) → total_weight scene (stage w) s ≤ total_weight scene (unfinished_of f) s
+pub stage_within : (scene : Scene) (s : State) (i : Invariant scene s) (f : ℕ → ℕ) (w : ℕ) → ((n : ℕ) → one_if_same n w ≤ f n) → total_weight scene (stage w) s ≤ total_weight scene (unfinished_of f) s
 stage_within scene s i f w le =
     let is = ap (λ u. total_weight scene u s) (stage_is w) in
     omega (
       arith,
       is,
-      under_in_all scene s i (unfinished_of (λ n. one n w)) (unfinished_of f) (record {
-        todo = λ writer ts taken part. todos_within (λ n. one n w) f le ts;
+      under_in_all scene s i (unfinished_of (λ n. one_if_same n w)) (unfinished_of f) (record {
+        todo = λ writer ts taken part. todos_within (λ n. one_if_same n w) f le ts;
         bio = λ spot item part. omega arith;
         copy = λ bio master leg lt part. omega arith;
         hand = λ item. omega arith;

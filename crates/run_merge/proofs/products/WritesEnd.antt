@@ -8,7 +8,7 @@ use Rattle.run_machine.specs.Requests.{Request, GiveBio, GiveVec, GiveSlip, Done
 use Rattle.run_machine.specs.Tasks.{request}
 use Rattle.run_machine.specs.Runs.{State, Steps, IsRun}
 use Rattle.block_core.specs.Dones.{done_in, times_done}
-use Rattle.block_core.specs.Weights.{one}
+use Rattle.block_core.specs.Weights.{one_if_same}
 use Rattle.block_core.proofs.sound.DoneOnce.{asked, done_of, told_done}
 use Rattle.shared_objects.specs.Calls.{struck}
 use Rattle.run_merge.specs.Entries.{Entry, entries_in}
@@ -18,7 +18,7 @@ abbrev pub ends : ℕ → Entry → Bool
 ends write e = ends_write write e.asked
 
 asked_is : (w : ℕ) (request : Request) → asked w request ≡ (if ends_write w (struck request) then 1 else 0)
-unfolding one
+unfolding one_if_same
 asked_is w (Done write status) = refl
 asked_is w (GiveBio bio) = refl
 asked_is w (GiveVec vector) = refl

@@ -14,7 +14,7 @@ use Rattle.run_machine.specs.Scene.{Scene, Setup}
 use Rattle.run_machine.specs.Submissions.{Doing, Rests, Drives, Copies, Breaks, Submission}
 use Rattle.run_machine.specs.Tasks.{Carried, Empty, Brings, Carries, Fails, TaskState, Writer, Rescuer, Completer, Keeper}
 use Rattle.run_machine.specs.Runs.{State}
-use Rattle.block_core.specs.Weights.{Weight, Rescued, Pending, total_weight, one, names_node as refers, under, legs_left, doing_weight, submission_weight, carried_weight, task_weight}
+use Rattle.block_core.specs.Weights.{Weight, Rescued, Pending, total_weight, one_if_same, names_node as refers, under, legs_left, doing_weight, submission_weight, carried_weight, task_weight}
 use Rattle.block_core.proofs.moves.References.{references}
 use Rattle.block_core.proofs.moves.VacantMarks.{with_mark, mark_still, mark_other, no_ref, elsewhere, no_factor}
 use Rattle.block_core.proofs.moves.Totals.{part_of}
@@ -31,7 +31,7 @@ module _ (setup : Setup) (to : Places) (writer key place : ℕ) where
   abbrev new : Places
   new = with_mark to writer key place
 
-  still : (v k : ℕ) → one v writer * one k key ≡ 0 → new v k ≡ to v k
+  still : (v k : ℕ) → one_if_same v writer * one_if_same k key ≡ 0 → new v k ≡ to v k
   still = mark_still to writer key place
 
   item_still : (item : Item Pad) → refers writer key item ≡ 0 → item_to new item ≡ item_to to item
@@ -50,8 +50,8 @@ module _ (setup : Setup) (to : Places) (writer key place : ℕ) where
   doing_still limit gone (Drives bio ask) has none = ap (λ item. Drives item (ask_to ask)) (item_still bio (omega (arith, none)))
   doing_still limit gone (Copies bio master leg want) has none =
       let left : 1 ≤ legs_left setup bio leg = omega (arith, has) in
-      let part : one bio.writer writer * one master key * legs_left setup bio leg ≡ 0 = omega (arith, none) in
-      ap (λ m. Copies (record bio { node = gone }) m leg (want_to want)) (still bio.writer master (no_factor (one bio.writer writer * one master key) (legs_left setup bio leg) left part))
+      let part : one_if_same bio.writer writer * one_if_same master key * legs_left setup bio leg ≡ 0 = omega (arith, none) in
+      ap (λ m. Copies (record bio { node = gone }) m leg (want_to want)) (still bio.writer master (no_factor (one_if_same bio.writer writer * one_if_same master key) (legs_left setup bio leg) left part))
 
   submission_still : (limit gone : ℕ) (submission : Submission) → HasLeg setup submission.doing → submission_weight (references setup writer key) limit submission ≡ 0 → submission_to new gone submission ≡ submission_to to gone submission
   submission_still limit gone submission has none =

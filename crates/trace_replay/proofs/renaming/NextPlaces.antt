@@ -23,7 +23,7 @@ use Rattle.block_core.proofs.moves.StepMoves.{step_is_move}
 use Rattle.block_core.proofs.moves.Sums.{upd-same, upd-other, same_or_not, one-same}
 use Rattle.block_core.proofs.sound.Invariant.{LedgersAreNumbered}
 use Rattle.block_core.proofs.sound.Orders.{DeviceGeometry}
-use Rattle.block_core.proofs.sound.EveryRun.{Whole, step_whole, start_whole}
+use Rattle.block_core.proofs.sound.EveryRun.{IsReachedWhole, step_whole, start_whole}
 use Rattle.block_core.proofs.start.InvariantAtStart.{start_opened}
 use Rattle.block_core.proofs.start.RoomAtStart.{start_roomy}
 use Rattle.block_core.proofs.unrefused.NodeNeeds.{Needs, needs_known}
@@ -180,7 +180,7 @@ module _ (names : Names) (w place : ℕ) where
 module _ (scene : Scene) (f : LedgersAreNumbered scene) (g : DeviceGeometry scene.setup) (n : Needs scene.setup) where
   -- what stays of a run that is read by names
   record IsUnused (names : Names) (s : State) : Type 0 where
-    pub whole : Whole scene s
+    pub whole : IsReachedWhole scene s
     pub roomy : HasRoomInBooks scene s
     pub left : HasLeft scene names s
     pub none : (w place : ℕ) → names.opened w ≤ place → node_at (s.objects.book w) place ≡ None

@@ -9,7 +9,7 @@ use Rattle.run_machine.specs.Maps.{upd}
 use Rattle.run_machine.specs.Scene.{Setup, Scene}
 use Rattle.run_machine.specs.Runs.{State, Steps}
 use Rattle.block_core.specs.Touches.{Touch, Opens, Shuts, Passes, touch_of}
-use Rattle.block_core.specs.Weights.{Weight, one, total_weight}
+use Rattle.block_core.specs.Weights.{Weight, one_if_same, total_weight}
 use Rattle.block_core.specs.Rooms.{room, HasRoomInBooks}
 use Rattle.block_core.proofs.moves.Moves.{Move, Can, after, touch_by}
 use Rattle.block_core.proofs.moves.Moves as moves
@@ -29,7 +29,7 @@ to_open setup w = room_worth setup w (λ writer. 0)
 
 -- one more is opened
 abbrev pub opens : ℕ → Touch → ℕ
-opens w = opened_worth (λ writer. one writer w)
+opens w = opened_worth (λ writer. one_if_same writer w)
 
 none_worth : (touch : Touch) → opened_worth (λ writer. 0) touch ≡ 0
 none_worth (Opens writer node) = refl
@@ -90,10 +90,10 @@ module _ (scene : Scene) (s : State) (writer key : ℕ) where
   finds_vacant (moves.Started place round later duties) c is = not_open Passes tt is
 
 -- how many nodes were opened behind an event
-more_at : (f : ℕ → ℕ) (writer w : ℕ) → upd f writer (f writer + 1) w ≡ f w + one writer w
+more_at : (f : ℕ → ℕ) (writer w : ℕ) → upd f writer (f writer + 1) w ≡ f w + one_if_same writer w
 more_at f writer w = elim (same_or_not w writer) [
   | inl e ↦
-      let At : ℕ → Type 0 = λ v. upd f writer (f writer + 1) v ≡ f v + one writer v in
+      let At : ℕ → Type 0 = λ v. upd f writer (f writer + 1) v ≡ f v + one_if_same writer v in
       let same = upd-same f writer (f writer + 1) in
       let here : At writer = omega (arith, same, one-same writer) in
       subst At (sym e) here
@@ -141,7 +141,7 @@ module _ (scene : Scene) (f : LedgersAreNumbered scene) (g : DeviceGeometry scen
       let moved = step_is_move scene s f i place event new steps in
       let touch = is ∙ moved.touches in
       let spent = opens_of_those scene s g n i a writer moved.move moved.can in
-      let one_more : one writer writer ≡ opens writer (touch_by moved.move) = ap (opens writer) touch in
+      let one_more : one_if_same writer writer ≡ opens writer (touch_by moved.move) = ap (opens writer) touch in
       let had = left writer in
       (finds_vacant scene s writer key moved.move moved.can touch, omega (arith, spent, one_more, one-same writer, had))
 

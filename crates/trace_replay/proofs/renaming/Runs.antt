@@ -17,7 +17,7 @@ use Rattle.block_core.proofs.moves.Devices.{ground}
 use Rattle.block_core.proofs.moves.VacantMarks.{with_mark, mark_here}
 use Rattle.block_core.proofs.sound.Invariant.{LedgersAreNumbered}
 use Rattle.block_core.proofs.sound.Orders.{DeviceGeometry}
-use Rattle.block_core.proofs.sound.EveryRun.{Whole, step_whole, start_whole}
+use Rattle.block_core.proofs.sound.EveryRun.{IsReachedWhole, step_whole, start_whole}
 use Rattle.block_core.proofs.start.InvariantAtStart.{Begins, start_opened}
 use Rattle.block_core.proofs.start.RoomAtStart.{start_roomy}
 use Rattle.block_core.proofs.unrefused.NodeNeeds.{Needs, needs_known}
@@ -33,7 +33,7 @@ use Rattle.trace_replay.proofs.renaming.Room.{HasLeft, left_behind, finds_next, 
 module _ (scene : Scene) (naming : (number : ℕ) → (scene.ledger number).no ≡ number) (f : LedgersAreNumbered scene) (g : DeviceGeometry scene.setup) (n : Needs scene.setup) where
   -- what stays while the run is read: the other state is alike
   pub record Beside (names : Names) (one other : State) : Type 0 where
-    pub whole : Whole scene one
+    pub whole : IsReachedWhole scene one
     pub roomy : HasRoomInBooks scene one
     pub left : HasLeft scene names one
     pub to : Places

@@ -19,7 +19,7 @@ use Rattle.run_machine.specs.Objects.{Objects, Serves}
 use Rattle.run_machine.specs.Events.{id_of, what_of}
 use Rattle.run_machine.specs.Runs.{State, IsLet, Steps}
 use Rattle.block_core.proofs.moves.Sums.{upd-same, upd-other, same_or_not}
-use Rattle.block_core.proofs.sound.Invariant.{DoingFits, TaskFits}
+use Rattle.block_core.proofs.sound.Invariant.{DoingFits, TaskIsSound}
 use Rattle.plain_core.specs.objects.Ledgers.{ledger_of}
 use Rattle.trace_replay.specs.Names.{Names, names_after}
 use Rattle.trace_replay.proofs.renaming.Renaming.{Places, task_to, request_to, writer_in, reply_to, what_to, event_to}
@@ -41,7 +41,7 @@ doing_leg setup (Drives bio ask) lists fits = tt
 doing_leg setup (Copies bio master leg want) lists fits = fits
 doing_leg setup (Breaks breach kept) lists fits = tt
 
-pub has_leg : (scene : Scene) (x : TaskState) → TaskFits scene x → TaskHasLeg scene.setup x
+pub has_leg : (scene : Scene) (x : TaskState) → TaskIsSound scene x → TaskHasLeg scene.setup x
 has_leg scene (Writer number todo taken submission) fits = doing_leg scene.setup submission.doing submission.lists fits.1
 has_leg scene (Rescuer dev submission) fits = doing_leg scene.setup submission.doing submission.lists fits.1
 has_leg scene (Completer disk carried) fits = tt
@@ -107,7 +107,7 @@ module _ (scene : Scene) where
   keeper_within (Keeps (Starts round later ∷ duties)) = tt
   keeper_within (Stops breach) = tt
 
-  is_within : (x : TaskState) → TaskFits scene x → Within (request scene.setup x)
+  is_within : (x : TaskState) → TaskIsSound scene x → Within (request scene.setup x)
   is_within (Writer number todo taken submission) fits = writer_within number todo taken submission.doing submission
   is_within (Rescuer dev submission) fits = rescuer_within dev submission.doing submission fits.0
   is_within (Completer disk carried) fits = carried_within disk carried fits
@@ -156,7 +156,7 @@ pub record TakenToo (scene : Scene) (to : Places) (names : Names) (other : State
   pub alike : StatesAlike scene to (names_after names event.what) new like
   pub placed : IsPlaced to names event.what
 
-pub step_to : (scene : Scene) (to : Places) (names : Names) (one other new : State) (place : ℕ) (event : Event) → ((number : ℕ) → (scene.ledger number).no ≡ number) → TaskFits scene (one.task place) → StatesAlike scene to names one other
+pub step_to : (scene : Scene) (to : Places) (names : Names) (one other new : State) (place : ℕ) (event : Event) → ((number : ℕ) → (scene.ledger number).no ≡ number) → TaskIsSound scene (one.task place) → StatesAlike scene to names one other
     → IsNext to names one.objects event.what → Steps scene one place event new → TakenToo scene to names other place event new
 step_to scene to names one other new place event naming fits alike next steps =
     let setup = scene.setup in
