@@ -10,7 +10,7 @@ use Rattle.task_steps.specs.Homes.{IsTaskOf}
 use Rattle.task_steps.specs.Routed.{routing_setup}
 use Rattle.task_steps.specs.Stage.{Stage}
 
--- whatever is told of a task of a stack names what the stack has
+-- whatever event is told of a task that a stage's objects have, whatever was replied, it names devices, disks and pools of their stack
 abbrev pub TasksNameTheStack : Type 0
 TasksNameTheStack = (stage : Stage) (task : TaskState) (reply : Reply) (event : Event) → IsStack stage.routing.stack → IsTaskOf stage task
     → event.task ≡ id_of task → what_of (request (routing_setup stage.routing) task) reply ≡ Some event.what → IsEventOf stage.routing.stack event

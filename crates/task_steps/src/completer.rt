@@ -148,8 +148,8 @@ impl Carried {
         self.fail(Breach::Spent, put_back(rest, back))
     }
 
-    // What is left of a closed node after a call.
-    fn keep(&mut self, writer: u32, node: ClosedNode)
+    // It carries from now on what is left of this closed node.
+    fn carry(&mut self, writer: u32, node: ClosedNode)
         requires empty { self.old ≡ Empty }
         requires alone { IsAlonePart node.held.bio }
         ensures { self.new ≡ Carries writer (closed_node_of node) }

@@ -13,7 +13,7 @@ pub fn tasks_stay_home()
     ensures { TasksStayHome }
 {}
 
-/// Whatever is told of such a task names devices, disks and pools that the stack has.
+/// Whatever event is told of a task that a stage's objects have, whatever was replied, it names devices, disks and pools of their stack.
 pub fn tasks_name_the_stack()
     ensures { TasksNameTheStack }
 {}

@@ -57,8 +57,8 @@ fn keeps(what: What) -> Step
     })
 }
 
-// The tally or a pool had no ticket for a call, which was handed nothing.
-fn spent(nothing: Unmade) -> (Option<Breach>, Step)
+// The keeper breaks off, since there was no ticket for its call, which was handed nothing.
+fn breaks_for_ticket(nothing: Unmade) -> (Option<Breach>, Step)
     ensures { result ≡ (Some Breach'.Spent, Step'.Broken Breach'.Spent) }
 {
     drop(nothing);
@@ -76,7 +76,7 @@ fn resize<O: Objects>(objects: &mut O, pool: PoolId, min: u32) -> (Option<Breach
             let breach = Breach::Out { pool, out };
             (Some(breach), Step::Broken(breach))
         }
-        Err(nothing) => spent(nothing),
+        Err(nothing) => breaks_for_ticket(nothing),
     }
 }
 
@@ -87,7 +87,7 @@ fn start<O: Objects>(objects: &mut O, round: u32) -> (Option<Breach>, Step)
 {
     match objects.next_round() {
         Ok(()) => (None, keeps(What::Round { round })),
-        Err(nothing) => spent(nothing),
+        Err(nothing) => breaks_for_ticket(nothing),
     }
 }
 

@@ -210,7 +210,7 @@ pub trait Objects {
         ensures back { IfErr result (λ back. back ≡ unmade.Ask ask) }
         ensures kept { holds self.new × (stage self.new ≡ stage self.old) };
 
-    /// Tells a node in the book of a writer of an end.
+    /// Tells a node in the book of a writer of an end, with the bio that comes with it, if one does. Without a ticket that bio comes back.
     fn drop_one(
         &mut self,
         writer: u32,

@@ -69,11 +69,11 @@ impl Carried {
         match dropped {
             Dropped::Left => drops(disk, writer, node, status, End::Left),
             Dropped::Up(closed) => {
-                self.keep(writer, closed);
+                self.carry(writer, closed);
                 drops(disk, writer, node, status, End::Up)
             }
             Dropped::Top(closed) => {
-                self.keep(writer, closed);
+                self.carry(writer, closed);
                 drops(disk, writer, node, status, End::Top)
             }
             Dropped::Stray(part) => self.stray(writer, node, part),
