@@ -8,7 +8,7 @@ use Rattle.bio_books.specs.Drops.{DropOutcome}
 use Rattle.bio_books.specs.Drops as end
 use Rattle.run_machine.specs.declared.event.Event.{Event}
 use Rattle.run_machine.specs.Scene.{Scene}
-use Rattle.run_machine.specs.Requests.{Reply, LinkedTo, DroppedTo, Spent}
+use Rattle.run_machine.specs.Requests.{Reply, LinkedTo, DroppedTo, NoTicket}
 use Rattle.run_machine.specs.Tasks.{Keeper, Keeps, Duty, Resizes, request, look_of, is_broken}
 use Rattle.run_machine.specs.Objects.{Objects, Serves}
 use Rattle.run_machine.specs.Opened.{Scenario, scene, start}
@@ -35,7 +35,7 @@ is_no_end (end.Stray part) = true
 abbrev pub is_refusal : Reply → Bool
 is_refusal (LinkedTo answer) = is_no_link answer
 is_refusal (DroppedTo ended) = is_no_end ended
-is_refusal Spent = true
+is_refusal NoTicket = true
 is_refusal reply = false
 
 pub record GoesUnrefused (scene : Scene) (state : State) : Type 0 where

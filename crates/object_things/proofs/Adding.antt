@@ -19,7 +19,7 @@ use Rattle.mempool_core.specs.Pool.{LedgerPool, PoolMoves}
 use Rattle.mempool_core.proofs.MoveLemmas.{moves_keep_adds_up}
 use Rattle.run_machine.specs.declared.event.Got.{Got}
 use Rattle.run_machine.specs.declared.event.Got.TheVariants as got
-use Rattle.run_machine.specs.Requests.{Request, Reply, TakeBio, TakeVec, TakeSlip, GiveBio, GiveVec, GiveSlip, Resize, HadBio, HadVec, HadSlip, Missed, Did, OutIs, Spent, Punt, Pop, Popped, Push, Complete, Completed, LeftOver, Nothing, Done, NextRound, LookRound, LookLeft, Present}
+use Rattle.run_machine.specs.Requests.{Request, Reply, TakeBio, TakeVec, TakeSlip, GiveBio, GiveVec, GiveSlip, Resize, HadBio, HadVec, HadSlip, Missed, Did, OutIs, NoTicket, Punt, Pop, Popped, Push, Complete, Completed, LeftOver, Nothing, Done, NextRound, LookRound, LookLeft, Present}
 use Rattle.run_machine.specs.Objects.{TallyState}
 use Rattle.bio_records.specs.Rescue.{Rescue}
 use Rattle.model_disks.specs.Disks.{DiskState}
@@ -97,13 +97,13 @@ pool_looked : (old : ThingState LedgerPool) (asked : Request) (reply : Reply) (n
 pool_looked old (TakeBio set waits) (Missed used) new l = moved [] l.2
 pool_looked old TakeVec (Missed used) new l = moved [] l.2
 pool_looked old (TakeSlip dev) (Missed used) new l = moved [] l.2
-pool_looked old (TakeBio set waits) Spent new l = undone waits old.object new.object l.0
-pool_looked old TakeVec Spent new l = undone true old.object new.object l.0
-pool_looked old (TakeSlip dev) Spent new l = undone true old.object new.object l.0
-pool_looked old (GiveBio bio) Spent new l = same_pool l.0
-pool_looked old (GiveVec vector) Spent new l = same_pool l.0
-pool_looked old (GiveSlip slip) Spent new l = same_pool l.0
-pool_looked old (Resize pool min) Spent new l = same_pool l.0
+pool_looked old (TakeBio set waits) NoTicket new l = undone waits old.object new.object l.0
+pool_looked old TakeVec NoTicket new l = undone true old.object new.object l.0
+pool_looked old (TakeSlip dev) NoTicket new l = undone true old.object new.object l.0
+pool_looked old (GiveBio bio) NoTicket new l = same_pool l.0
+pool_looked old (GiveVec vector) NoTicket new l = same_pool l.0
+pool_looked old (GiveSlip slip) NoTicket new l = same_pool l.0
+pool_looked old (Resize pool min) NoTicket new l = same_pool l.0
 pool_looked old asked reply new l = absurd l
 
 pub pool_none : (pool : LedgerPool) → PoolAddsUp pool [] pool
@@ -126,8 +126,8 @@ list_served old asked reply new s = absurd s
 list_looked : (old : ThingState Rescue) (asked : Request) (reply : Reply) (new : ThingState Rescue) → ListLooks old asked reply new
     → old.object.bios ++ punted_by_call asked reply ≡ popped_by_call asked reply ++ new.object.bios
 list_looked old (Pop dev) Nothing new l = list_same old.object new.object l.1.0
-list_looked old (Punt dev handed) Spent new l = list_same old.object new.object l.0
-list_looked old (Pop dev) Spent new l = list_same old.object new.object l.1.0
+list_looked old (Punt dev handed) NoTicket new l = list_same old.object new.object l.0
+list_looked old (Pop dev) NoTicket new l = list_same old.object new.object l.1.0
 list_looked old asked reply new l = absurd l
 
 pub list_none : (list : Rescue) → ListAddsUp list [] list
@@ -162,8 +162,8 @@ disk_looked : (old : ThingState DiskState) (asked : Request) (reply : Reply) (ne
     → length old.object.pending + pushes asked reply ≡ completions asked reply + length new.object.pending
 disk_looked old (Complete disk) (LeftOver count) new l = disk_same old.object new.object l.1.0
 disk_looked old (Complete disk) Nothing new l = disk_same old.object new.object l.1.0
-disk_looked old (Push bio) Spent new l = disk_same old.object new.object l.0
-disk_looked old (Complete disk) Spent new l = disk_same old.object new.object l.1.0
+disk_looked old (Push bio) NoTicket new l = disk_same old.object new.object l.0
+disk_looked old (Complete disk) NoTicket new l = disk_same old.object new.object l.1.0
 disk_looked old asked reply new l = absurd l
 
 pub disk_none : (disk : DiskState) → DiskAddsUp disk [] disk
@@ -216,8 +216,8 @@ tally_served old asked reply new s = absurd s
 tally_looked : (old : ThingState TallyState) (asked : Request) (reply : Reply) (new : ThingState TallyState) → TallyLooks old asked reply new → Counts old.object (dones asked reply) new.object
 tally_looked old LookRound (Present round) new l = tally_same old.object new.object 0 l.1.0
 tally_looked old LookLeft (LeftOver count) new l = tally_same old.object new.object 0 l.1.0
-tally_looked old (Done write status) Spent new l = tally_same old.object new.object 0 l.0
-tally_looked old (NextRound round) Spent new l = tally_same old.object new.object 0 l.0
+tally_looked old (Done write status) NoTicket new l = tally_same old.object new.object 0 l.0
+tally_looked old (NextRound round) NoTicket new l = tally_same old.object new.object 0 l.0
 tally_looked old asked reply new l = absurd l
 
 pub tally_none : (tally : TallyState) → TallyAddsUp tally [] tally

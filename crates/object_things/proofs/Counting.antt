@@ -13,7 +13,7 @@ use Rattle.bio_books.specs.Books.{BookState, Node, SlipItem, node_at, top_node, 
 use Rattle.bio_books.specs.Links.{Linked, Made, NoRoom, Stray, ChainsAt, MastersAt, LegsAt}
 use Rattle.bio_books.specs.Drops.{DropOutcome, DropsAt}
 use Rattle.bio_books.specs.Drops as end
-use Rattle.run_machine.specs.Requests.{Request, Reply, Opening, Write, Chain, Master, Leg, Link, Drop, LinkedTo, DroppedTo, Spent}
+use Rattle.run_machine.specs.Requests.{Request, Reply, Opening, Write, Chain, Master, Leg, Link, Drop, LinkedTo, DroppedTo, NoTicket}
 use Rattle.run_machine.specs.Objects.{Opened}
 use Rattle.object_things.specs.Stamps.{ThingState, StepOf}
 use Rattle.object_things.specs.Histories.{Call}
@@ -146,8 +146,8 @@ served old asked reply new s = absurd s
 
 looked : (old : ThingState BookState) (asked : Request) (reply : Reply) (new : ThingState BookState) → BookLooks old asked reply new
     → Counts old.object (openings asked reply) (closings asked reply) new.object
-looked old (Link writer opening) Spent new l = same old.object new.object l.0
-looked old (Drop writer node status part) Spent new l = same old.object new.object l.0
+looked old (Link writer opening) NoTicket new l = same old.object new.object l.0
+looked old (Drop writer node status part) NoTicket new l = same old.object new.object l.0
 looked old asked reply new l = absurd l
 
 pub book_none : (book : BookState) → BookAddsUp book [] book

@@ -8,7 +8,7 @@ use Rattle.mempool_core.specs.Pool.{LedgerPool, PoolMoves}
 use Rattle.mempool_core.specs.Position.{next_pos}
 use Rattle.model_disks.specs.Disks.{DiskState}
 use Rattle.run_machine.specs.declared.event.What.{What}
-use Rattle.run_machine.specs.Requests.{Request, Reply, TakeBio, TakeVec, TakeSlip, GiveBio, GiveVec, GiveSlip, Resize, Punt, Pop, Push, Complete, Link, Drop, Done, NextRound, LookRound, LookLeft, Missed, Present, LeftOver, Nothing, Spent}
+use Rattle.run_machine.specs.Requests.{Request, Reply, TakeBio, TakeVec, TakeSlip, GiveBio, GiveVec, GiveSlip, Resize, Punt, Pop, Push, Complete, Link, Drop, Done, NextRound, LookRound, LookLeft, Missed, Present, LeftOver, Nothing, NoTicket}
 use Rattle.run_machine.specs.Objects.{TallyState}
 use Rattle.run_machine.specs.Events.{what_of, miss_of}
 use Rattle.object_things.specs.Stamps.{ThingState, FindsNone, OnlyLooks}
@@ -27,28 +27,28 @@ module _ {O : Type 0} (old new : ThingState O) {reply : Reply} where
   quiet_look told is only = record { keeps = inl only.0; spent = λ h. only.1 ∙ h; told = is }
 
 pub book_quiet : (old new : ThingState BookState) (asked : Request) (reply : Reply) → BookLooks old asked reply new → IsQuiet old reply (what_of asked reply) new
-book_quiet old new (Link writer opening) Spent looks = quiet_none old new _ refl looks
-book_quiet old new (Drop writer node status part) Spent looks = quiet_none old new _ refl looks
+book_quiet old new (Link writer opening) NoTicket looks = quiet_none old new _ refl looks
+book_quiet old new (Drop writer node status part) NoTicket looks = quiet_none old new _ refl looks
 book_quiet old new asked reply looks = absurd looks
 
 pub tally_quiet : (old new : ThingState TallyState) (asked : Request) (reply : Reply) → TallyLooks old asked reply new → IsQuiet old reply (what_of asked reply) new
 tally_quiet old new LookRound (Present round) looks = quiet_look old new _ refl looks.1
 tally_quiet old new LookLeft (LeftOver count) looks = quiet_look old new _ refl looks.1
-tally_quiet old new (Done write status) Spent looks = quiet_none old new _ refl looks
-tally_quiet old new (NextRound round) Spent looks = quiet_none old new _ refl looks
+tally_quiet old new (Done write status) NoTicket looks = quiet_none old new _ refl looks
+tally_quiet old new (NextRound round) NoTicket looks = quiet_none old new _ refl looks
 tally_quiet old new asked reply looks = absurd looks
 
 pub disk_quiet : (old new : ThingState DiskState) (asked : Request) (reply : Reply) → DiskLooks old asked reply new → IsQuiet old reply (what_of asked reply) new
 disk_quiet old new (Complete disk) (LeftOver count) looks = quiet_look old new _ refl looks.1
 disk_quiet old new (Complete disk) Nothing looks = quiet_look old new _ refl looks.1
-disk_quiet old new (Push bio) Spent looks = quiet_none old new _ refl looks
-disk_quiet old new (Complete disk) Spent looks = quiet_none old new _ refl looks.1
+disk_quiet old new (Push bio) NoTicket looks = quiet_none old new _ refl looks
+disk_quiet old new (Complete disk) NoTicket looks = quiet_none old new _ refl looks.1
 disk_quiet old new asked reply looks = absurd looks
 
 pub list_quiet : (old new : ThingState Rescue) (asked : Request) (reply : Reply) → ListLooks old asked reply new → IsQuiet old reply (what_of asked reply) new
 list_quiet old new (Pop dev) Nothing looks = quiet_look old new _ refl looks.1
-list_quiet old new (Punt dev moved) Spent looks = quiet_none old new _ refl looks
-list_quiet old new (Pop dev) Spent looks = quiet_none old new _ refl looks.1
+list_quiet old new (Punt dev moved) NoTicket looks = quiet_none old new _ refl looks
+list_quiet old new (Pop dev) NoTicket looks = quiet_none old new _ refl looks.1
 list_quiet old new asked reply looks = absurd looks
 
 -- a miss that used up no entry leaves a pool as it is
@@ -66,18 +66,18 @@ miss_quiet old new true false pool looks = quiet_look old new _ refl (same_pool 
 miss_quiet old new true true pool looks = absurd (cc looks.1)
 miss_quiet old new false used pool looks = absurd (cc looks.0)
 
-take_quiet : (waits : Bool) (old new : ThingState LedgerPool) (told : Option What) → told ≡ None → TakeFindsNone waits old new → IsQuiet old Spent told new
+take_quiet : (waits : Bool) (old new : ThingState LedgerPool) (told : Option What) → told ≡ None → TakeFindsNone waits old new → IsQuiet old NoTicket told new
 take_quiet waits old new told is none = record { keeps = inr (refl, none.1); spent = λ h. none.1; told = is }
 
 pub pool_quiet : (old new : ThingState LedgerPool) (asked : Request) (reply : Reply) → PoolLooks old asked reply new → IsQuiet old reply (what_of asked reply) new
 pool_quiet old new (TakeBio set waits) (Missed used) looks = miss_quiet old new waits used _ looks
 pool_quiet old new TakeVec (Missed used) looks = miss_quiet old new true used _ looks
 pool_quiet old new (TakeSlip dev) (Missed used) looks = miss_quiet old new true used _ looks
-pool_quiet old new (TakeBio set waits) Spent looks = take_quiet waits old new _ refl looks
-pool_quiet old new TakeVec Spent looks = take_quiet true old new _ refl looks
-pool_quiet old new (TakeSlip dev) Spent looks = take_quiet true old new _ refl looks
-pool_quiet old new (GiveBio bio) Spent looks = quiet_none old new _ refl looks
-pool_quiet old new (GiveVec vector) Spent looks = quiet_none old new _ refl looks
-pool_quiet old new (GiveSlip slip) Spent looks = quiet_none old new _ refl looks
-pool_quiet old new (Resize pool min) Spent looks = quiet_none old new _ refl looks
+pool_quiet old new (TakeBio set waits) NoTicket looks = take_quiet waits old new _ refl looks
+pool_quiet old new TakeVec NoTicket looks = take_quiet true old new _ refl looks
+pool_quiet old new (TakeSlip dev) NoTicket looks = take_quiet true old new _ refl looks
+pool_quiet old new (GiveBio bio) NoTicket looks = quiet_none old new _ refl looks
+pool_quiet old new (GiveVec vector) NoTicket looks = quiet_none old new _ refl looks
+pool_quiet old new (GiveSlip slip) NoTicket looks = quiet_none old new _ refl looks
+pool_quiet old new (Resize pool min) NoTicket looks = quiet_none old new _ refl looks
 pool_quiet old new asked reply looks = absurd looks

@@ -8,7 +8,7 @@ use Rattle.mempool_core.specs.Pool.{LedgerPool, PoolMoves}
 use Rattle.mempool_core.specs.Taken.{TakeOf}
 use Rattle.mempool_core.specs.declared.Taken.{Taken}
 use Rattle.mempool_core.specs.declared.Taken.TheVariants.{Ordinary, Spare, Miss}
-use Rattle.run_machine.specs.Requests.{Did, Missed, Spent}
+use Rattle.run_machine.specs.Requests.{Did, Missed, NoTicket}
 use Rattle.run_machine.specs.Objects.{clear_bio, clear_vector, clear_slip}
 use Rattle.run_machine.specs.declared.event.Got.TheVariants as got
 use Rattle.object_things.specs.Stamps.{StampState, ThingState, FindsNone, thing_state}
@@ -73,7 +73,7 @@ module _ {P : Type 0} (is_clear : P → Type 0) where
   take_stays old new (Miss used) takes = (takes.ledger, takes.most)
 
 pub take_spent : (name : PoolId) (waits : Bool) (old new : ThingState LedgerPool) → WaitsAt name waits → TakeFindsNone waits old new
-    → PoolLooks old (take_request name waits) Spent new
+    → PoolLooks old (take_request name waits) NoTicket new
 take_spent FsBios waits old new w none = none
 take_spent (Bios dev) waits old new w none = none
 take_spent FsVecs waits old new w none = subst (λ b. TakeFindsNone b old new) w none
@@ -85,7 +85,7 @@ give_served (Bios dev) share old new moves own = (moves, own)
 give_served FsVecs share old new moves own = (moves, own)
 give_served (Records dev) share old new moves own = (moves, own)
 
-pub give_spent : (name : PoolId) (share : LedgerId) (old new : ThingState LedgerPool) → FindsNone old new → PoolLooks old (give_of name share) Spent new
+pub give_spent : (name : PoolId) (share : LedgerId) (old new : ThingState LedgerPool) → FindsNone old new → PoolLooks old (give_of name share) NoTicket new
 give_spent FsBios share old new none = none
 give_spent (Bios dev) share old new none = none
 give_spent FsVecs share old new none = none

@@ -7,7 +7,7 @@ use Rattle.std.proofs.lemmas.List.Elements.{All-nil, All-cons, All-head, All-tai
 use Rattle.seat_lock.specs.History.{Leads}
 use Rattle.run_machine.specs.declared.event.What.{What}
 use Rattle.run_machine.specs.Events.{what_of}
-use Rattle.run_machine.specs.Requests.{Request, Reply, Spent}
+use Rattle.run_machine.specs.Requests.{Request, Reply, NoTicket}
 use Rattle.task_steps.specs.Service.{Service}
 use Rattle.object_things.specs.Stamps.{ThingState, StepOf, ThingAnswers, carried, is_spent}
 use Rattle.object_things.specs.Histories.{Call, FoundNone, IsNextTicket, or_last, TicketsRise, CarriedRise, drawn_in, ticketed_in, CarriesItsOwn, IsQuiet, LeadDrawn, DrawnRun, KeepsHistory, StaysSpent}
@@ -123,16 +123,16 @@ module _ {O : Type 0} (serves : Service O) (looks : Service (ThingState O))
   pub keeps_history : KeepsHistory serves looks chooses
   keeps_history = record { rises = rises; runs = runs; quiet = quiet; refused = refused; carry = carry; entries = entries }
 
-  module _ (unserved : (old : O) (asked : Request) (new : O) → serves old asked Spent new → ⊥)
-      (found : (old new : ThingState O) (asked : Request) → looks old asked Spent new → new.spent ≡ true)
+  module _ (unserved : (old : O) (asked : Request) (new : O) → serves old asked NoTicket new → ⊥)
+      (found : (old new : ThingState O) (asked : Request) → looks old asked NoTicket new → new.spent ≡ true)
       (keeps : (old new : ThingState O) (asked : Request) (reply : Reply) → looks old asked reply new → is_spent reply ≡ false → new.spent ≡ old.spent) where
     -- a call that is told that there was none has no ticket, and leaves the thing marked
-    told_none : (old new : ThingState O) (asked : Request) (reply : Reply) (ticket : Option ℕ) → reply ≡ Spent → StepOf serves looks old asked reply ticket new
+    told_none : (old new : ThingState O) (asked : Request) (reply : Reply) (ticket : Option ℕ) → reply ≡ NoTicket → StepOf serves looks old asked reply ticket new
         → (is_some ticket ≡ false) × (new.spent ≡ true)
     told_none old new asked reply None is s = (refl, found old new asked (subst (λ r. looks old asked r new) is s.0))
     told_none old new asked reply (Some n) is s = absurd (unserved old.object asked new.object (subst (λ r. serves old.object asked r new.object) is s.0))
 
-    follows : (old new : ThingState O) (call : Call) (rest : List Call) → Leads (ThingAnswers serves looks chooses) old (call ∷ rest) new → call.told.reply ≡ Spent
+    follows : (old new : ThingState O) (call : Call) (rest : List Call) → Leads (ThingAnswers serves looks chooses) old (call ∷ rest) new → call.told.reply ≡ NoTicket
         → (drawn_in (call ∷ rest) ≡ []) × (ticketed_in (call ∷ rest) ≡ []) × (new.spent ≡ true)
     follows old new call rest l is =
         let here = told_none old l.0 call.asked call.told.reply call.told.drawn is l.1.step in

@@ -7,7 +7,7 @@ use Rattle.bio_books.specs.Links.{Linked}
 use Rattle.bio_books.specs.Views.{bio_of, IsAlonePart}
 use Rattle.task_steps.specs.declared.objects.Unmade.TheVariants as unmade
 use Rattle.run_machine.specs.Events.{drop_of, link_of}
-use Rattle.run_machine.specs.Requests.{Request, Reply, Opening, Link, Drop, LinkedTo, DroppedTo, Spent}
+use Rattle.run_machine.specs.Requests.{Request, Reply, Opening, Link, Drop, LinkedTo, DroppedTo, NoTicket}
 use Rattle.run_machine.specs.Objects.{Opened}
 use Rattle.run_machine.specs.Laws.{OfBook, object_of}
 use Rattle.task_steps.specs.Stage.{RequestFits, Owes}
@@ -38,8 +38,8 @@ BookServes old (Drop writer node status part) (DroppedTo ended) new = (writer �
 BookServes old request reply new = ⊥
 
 abbrev pub BookLooks : ThingState BookState → Request → Reply → ThingState BookState → Type 0
-BookLooks old (Link writer opening) Spent new = FindsNone old new
-BookLooks old (Drop writer node status part) Spent new = FindsNone old new
+BookLooks old (Link writer opening) NoTicket new = FindsNone old new
+BookLooks old (Drop writer node status part) NoTicket new = FindsNone old new
 BookLooks old request reply new = ⊥
 
 abbrev pub BookAnswers : ThingState BookState → Request → Told → ThingState BookState → Type 0

@@ -9,7 +9,7 @@ use Rattle.model_disks.specs.Moves.{pushed, Completes}
 use Rattle.model_disks.specs.declared.disk.Done.{Done as DoneBio}
 use Rattle.task_steps.specs.declared.objects.Unmade.{Unmade}
 use Rattle.task_steps.specs.declared.objects.Unmade.TheVariants as unmade
-use Rattle.run_machine.specs.Requests.{Request, Reply, Push, Complete, Did, Completed, LeftOver, Nothing, Spent}
+use Rattle.run_machine.specs.Requests.{Request, Reply, Push, Complete, Did, Completed, LeftOver, Nothing, NoTicket}
 use Rattle.run_machine.specs.Laws.{OfDisk, object_of}
 use Rattle.task_steps.specs.Stage.{Stage, RequestFits, Owes}
 use Rattle.task_steps.specs.Views.{did, completed_reply, CompletedAlone}
@@ -49,8 +49,8 @@ DiskServes old request reply new = ⊥
 abbrev pub DiskLooks : ThingState DiskState → Request → Reply → ThingState DiskState → Type 0
 DiskLooks old (Complete disk) (LeftOver count) new = (count ≡ waiting_count old.object) × OnlyLooks old new
 DiskLooks old (Complete disk) Nothing new = (waiting_count old.object ≡ 0) × OnlyLooks old new
-DiskLooks old (Push bio) Spent new = FindsNone old new
-DiskLooks old (Complete disk) Spent new = (waiting_count old.object ≢ 0) × FindsNone old new
+DiskLooks old (Push bio) NoTicket new = FindsNone old new
+DiskLooks old (Complete disk) NoTicket new = (waiting_count old.object ≢ 0) × FindsNone old new
 DiskLooks old request reply new = ⊥
 
 -- the bio at the index that was chosen is completed, or the last one where fewer wait

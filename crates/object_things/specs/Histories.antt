@@ -5,7 +5,7 @@ use Rattle.seat_lock.specs.declared.view.Entry.{Entry}
 use Rattle.seat_lock.specs.History.{Leads}
 use Rattle.run_machine.specs.declared.event.What.{What}
 use Rattle.run_machine.specs.Events.{what_of}
-use Rattle.run_machine.specs.Requests.{Request, Reply, Spent}
+use Rattle.run_machine.specs.Requests.{Request, Reply, NoTicket}
 use Rattle.task_steps.specs.Service.{Service}
 use Rattle.object_things.specs.Stamps.{ThingState, Told, ThingAnswers, carried, is_spent}
 
@@ -52,7 +52,7 @@ module _ {O : Type 0} where
   -- What a call that drew no ticket leaves: the object is as before, but where the call was told that no ticket was left for it. Once none was,
   -- none is later. It tells of no event.
   pub record IsQuiet (old : ThingState O) (reply : Reply) (what : Option What) (new : ThingState O) : Type 0 where
-    pub keeps : (new.object ≡ old.object) ⊎ ((reply ≡ Spent) × (new.spent ≡ true))
+    pub keeps : (new.object ≡ old.object) ⊎ ((reply ≡ NoTicket) × (new.spent ≡ true))
     pub spent : old.spent ≡ true → new.spent ≡ true
     pub told : what ≡ None
 
@@ -86,10 +86,10 @@ module _ {O : Type 0} (serves : Service O) (looks : Service (ThingState O))
   -- Once a draw at a thing found no ticket, none is drawn at it: a call that is told so leaves it marked, along each history it stays marked, and
   -- no call that drew a ticket follows, nor an entry that carries one. It is marked by such a call alone.
   pub record StaysSpent : Type 0 where
-    pub found : (old new : ThingState O) (asked : Request) → looks old asked Spent new → new.spent ≡ true
+    pub found : (old new : ThingState O) (asked : Request) → looks old asked NoTicket new → new.spent ≡ true
     pub stays : (old new : ThingState O) (history : List Call) → Leads (ThingAnswers serves looks chooses) old history new → old.spent ≡ true
         → (drawn_in history ≡ []) × (ticketed_in history ≡ []) × (new.spent ≡ true)
-    pub follows : (old new : ThingState O) (call : Call) (rest : List Call) → Leads (ThingAnswers serves looks chooses) old (call ∷ rest) new → call.told.reply ≡ Spent
+    pub follows : (old new : ThingState O) (call : Call) (rest : List Call) → Leads (ThingAnswers serves looks chooses) old (call ∷ rest) new → call.told.reply ≡ NoTicket
         → (drawn_in (call ∷ rest) ≡ []) × (ticketed_in (call ∷ rest) ≡ []) × (new.spent ≡ true)
     pub marks : (old new : ThingState O) (history : List Call) → Leads (ThingAnswers serves looks chooses) old history new → old.spent ≡ false → new.spent ≡ true
         → (call : Call) × Contains history call × FoundNone call

@@ -5,7 +5,7 @@ use Rattle.bio_records.specs.declared.bio.Pad.{Pad}
 use Rattle.bio_records.specs.Items.{Item}
 use Rattle.task_steps.specs.declared.objects.Unmade.{Unmade}
 use Rattle.task_steps.specs.declared.objects.Unmade.TheVariants as unmade
-use Rattle.run_machine.specs.Requests.{Request, Reply, Punt, Pop, Did, Popped, Nothing, Spent}
+use Rattle.run_machine.specs.Requests.{Request, Reply, Punt, Pop, Did, Popped, Nothing, NoTicket}
 use Rattle.run_machine.specs.Laws.{OfRescuer, object_of}
 use Rattle.task_steps.specs.Stage.{RequestFits, Owes}
 use Rattle.task_steps.specs.Views.{did, popped_reply, PoppedAlone}
@@ -41,8 +41,8 @@ ListServes old request reply new = ⊥
 -- where the list is empty, nothing needs a ticket
 abbrev pub ListLooks : ThingState Rescue → Request → Reply → ThingState Rescue → Type 0
 ListLooks old (Pop dev) Nothing new = (old.object.bios ≡ []) × OnlyLooks old new
-ListLooks old (Punt dev moved) Spent new = FindsNone old new
-ListLooks old (Pop dev) Spent new = (old.object.bios ≢ []) × FindsNone old new
+ListLooks old (Punt dev moved) NoTicket new = FindsNone old new
+ListLooks old (Pop dev) NoTicket new = (old.object.bios ≢ []) × FindsNone old new
 ListLooks old request reply new = ⊥
 
 abbrev pub ListAnswers : ThingState Rescue → Request → Told → ThingState Rescue → Type 0

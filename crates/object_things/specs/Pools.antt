@@ -15,7 +15,7 @@ use Rattle.run_machine.specs.declared.event.Got.{Got}
 use Rattle.run_machine.specs.declared.event.Got.TheVariants as got
 use Rattle.task_steps.specs.declared.objects.Unmade.{Unmade}
 use Rattle.task_steps.specs.declared.objects.Unmade.TheVariants as unmade
-use Rattle.run_machine.specs.Requests.{Request, Reply, TakeBio, TakeVec, TakeSlip, GiveBio, GiveVec, GiveSlip, Resize, HadBio, HadVec, HadSlip, Missed, Did, OutIs, Spent}
+use Rattle.run_machine.specs.Requests.{Request, Reply, TakeBio, TakeVec, TakeSlip, GiveBio, GiveVec, GiveSlip, Resize, HadBio, HadVec, HadSlip, Missed, Did, OutIs, NoTicket}
 use Rattle.run_machine.specs.Objects.{clear_bio, clear_vector, clear_slip}
 use Rattle.run_machine.specs.Laws.{Object, OfPool, object_of}
 use Rattle.task_core.specs.Resizing.{Resizes}
@@ -63,11 +63,11 @@ module _ {P : Type 0} where
   took pool (Ok (taken.Ordinary el)) = had_of pool got.Ordinary el.share
   took pool (Ok (taken.Spare el)) = had_of pool got.Spare el.share
   took pool (Ok (taken.Miss used)) = Missed used
-  took pool (Err back) = Spent
+  took pool (Err back) = NoTicket
 
   abbrev pub gave : Result (Unit {0}) (Element P) → Reply
   gave (Ok done) = Did
-  gave (Err back) = Spent
+  gave (Err back) = NoTicket
 
   abbrev pub pool_replied : PoolSaid P → Reply
   pool_replied (said.Took pool result) = took pool (or_unmade result)
@@ -121,13 +121,13 @@ abbrev pub PoolLooks : ThingState LedgerPool → Request → Reply → ThingStat
 PoolLooks old (TakeBio set waits) (Missed used) new = MissLooks waits old used new
 PoolLooks old TakeVec (Missed used) new = MissLooks true old used new
 PoolLooks old (TakeSlip dev) (Missed used) new = MissLooks true old used new
-PoolLooks old (TakeBio set waits) Spent new = TakeFindsNone waits old new
-PoolLooks old TakeVec Spent new = TakeFindsNone true old new
-PoolLooks old (TakeSlip dev) Spent new = TakeFindsNone true old new
-PoolLooks old (GiveBio bio) Spent new = FindsNone old new
-PoolLooks old (GiveVec vector) Spent new = FindsNone old new
-PoolLooks old (GiveSlip slip) Spent new = FindsNone old new
-PoolLooks old (Resize pool min) Spent new = FindsNone old new
+PoolLooks old (TakeBio set waits) NoTicket new = TakeFindsNone waits old new
+PoolLooks old TakeVec NoTicket new = TakeFindsNone true old new
+PoolLooks old (TakeSlip dev) NoTicket new = TakeFindsNone true old new
+PoolLooks old (GiveBio bio) NoTicket new = FindsNone old new
+PoolLooks old (GiveVec vector) NoTicket new = FindsNone old new
+PoolLooks old (GiveSlip slip) NoTicket new = FindsNone old new
+PoolLooks old (Resize pool min) NoTicket new = FindsNone old new
 PoolLooks old request reply new = ⊥
 
 abbrev pub PoolAnswers : ThingState LedgerPool → Request → Told → ThingState LedgerPool → Type 0

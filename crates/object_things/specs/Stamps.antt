@@ -5,7 +5,8 @@ use Rattle.std.specs.declared.snapshot.Snapshot.{Snapshot}
 use Rattle.tick_clock.specs.Tickets.{PassState, IsEnd, drawn_with}
 use Rattle.run_machine.specs.declared.event.What.{What}
 use Rattle.run_machine.specs.Events.{what_of}
-use Rattle.run_machine.specs.Requests.{Request, Reply, Spent}
+use Rattle.run_machine.specs.Requests.{Request, Reply}
+use Rattle.run_machine.specs.Requests as requests
 use Rattle.run_machine.specs.Objects.{TallyState}
 use Rattle.run_machine.specs.Laws.{Object}
 use Rattle.task_steps.specs.Service.{Service}
@@ -57,7 +58,7 @@ or_unmade (Ok got) = Ok got
 or_unmade (Err none) = Err unmade.Nothing
 
 abbrev pub is_spent : Reply → Bool
-is_spent Spent = true
+is_spent requests.NoTicket = true
 is_spent reply = false
 
 -- what becomes of a pass in a call: it draws a ticket, meets the note, or finds no ticket

@@ -1,7 +1,7 @@
 -- The tally as a thing.
 use Rattle.std.specs.Prelude.{◌≡◌, ◌<◌, ℕ, length, sum, slice_index_or, IfErr}
 use Rattle.task_steps.specs.declared.objects.Unmade.TheVariants as unmade
-use Rattle.run_machine.specs.Requests.{Request, Reply, Done, NextRound, LookRound, LookLeft, Did, Present, LeftOver, Spent}
+use Rattle.run_machine.specs.Requests.{Request, Reply, Done, NextRound, LookRound, LookLeft, Did, Present, LeftOver, NoTicket}
 use Rattle.run_machine.specs.Objects.{TallyState, done_one}
 use Rattle.task_core.specs.ObjectsOf.{IsTallyOf}
 use Rattle.task_core.specs.Plains.{Advances}
@@ -48,8 +48,8 @@ TallyServes old request reply new = ⊥
 abbrev pub TallyLooks : ThingState TallyState → Request → Reply → ThingState TallyState → Type 0
 TallyLooks old LookRound (Present round) new = (round ≡ old.object.round) × OnlyLooks old new
 TallyLooks old LookLeft (LeftOver count) new = (count ≡ sum old.object.left) × OnlyLooks old new
-TallyLooks old (Done write status) Spent new = FindsNone old new
-TallyLooks old (NextRound round) Spent new = FindsNone old new
+TallyLooks old (Done write status) NoTicket new = FindsNone old new
+TallyLooks old (NextRound round) NoTicket new = FindsNone old new
 TallyLooks old request reply new = ⊥
 
 abbrev pub TallyAnswers : ThingState TallyState → Request → Told → ThingState TallyState → Type 0

@@ -75,11 +75,11 @@ pub struct Told;
 impl Model for Told {
     ghost use Rattle.std.specs.Prelude.{false, None};
     ghost use Rattle.object_things.specs.Stamps.{Told as State};
-    ghost use Rattle.run_machine.specs.Requests.{Spent};
+    ghost use Rattle.run_machine.specs.Requests.{NoTicket};
 
     ghost Value = { State };
 
-    ghost view = { λ _. record { reply = Spent; note = 0; drew = false; drawn = None; chosen = None; ticket = None } };
+    ghost view = { λ _. record { reply = NoTicket; note = 0; drew = false; drawn = None; chosen = None; ticket = None } };
 }
 
 /// What is asked of a thing, with the pass of the task that asks. Of a kind that has several objects it names the one, since what the history

@@ -9,7 +9,7 @@ use Rattle.run_machine.specs.Maps.{upd}
 use Rattle.run_machine.specs.Scene.{Scene, Setup}
 use Rattle.run_machine.specs.Submissions.{Doing, Rests, Submission}
 use Rattle.run_machine.specs.Tasks.{TaskState, Writer, Rescuer, Completer, Keeper, Todo, Gathered, NoBio, HasBio, HasBoth, request, begins, write_answered, writer_answered, rescuer_answered, answered}
-use Rattle.run_machine.specs.Requests.{Reply, HadBio, HadVec, Popped, LinkedTo, Spent}
+use Rattle.run_machine.specs.Requests.{Reply, HadBio, HadVec, Popped, LinkedTo, NoTicket}
 use Rattle.run_machine.specs.Objects.{Serves}
 use Rattle.run_machine.specs.Events.{id_of}
 use Rattle.run_machine.specs.declared.event.TaskId.TheVariants as id
@@ -28,7 +28,7 @@ begins_id setup writer later bio taken todo submission (Stray back) = refl
 
 write_id : (setup : Setup) (writer : ℕ) (todos : List Todo) (taken : Gathered) (submission : Submission) (reply : Reply)
     → id_of (write_answered setup writer todos taken submission reply) ≡ id.Writer writer
-write_id setup writer todos taken submission Spent = refl
+write_id setup writer todos taken submission NoTicket = refl
 write_id setup writer (todo ∷ later) NoBio submission (HadBio from bio) = refl
 write_id setup writer (todo ∷ later) (HasBio bio) submission (HadVec from vector) = refl
 write_id setup writer (todo ∷ later) (HasBio bio) submission (LinkedTo answer) = begins_id setup writer later _ (HasBio bio) todo submission answer
@@ -42,7 +42,7 @@ writer_id setup writer todos taken doing submission reply = refl
 
 rescuer_id : (setup : Setup) (dev : DevId) (doing : Doing) (submission : Submission) (reply : Reply) → id_of (rescuer_answered setup dev doing submission reply) ≡ id.Rescuer dev
 rescuer_id setup dev Rests submission (Popped bio) = refl
-rescuer_id setup dev Rests submission Spent = refl
+rescuer_id setup dev Rests submission NoTicket = refl
 rescuer_id setup dev Rests submission _ = refl
 rescuer_id setup dev doing submission reply = refl
 

@@ -63,4 +63,4 @@ pub data Reply : Type 0 where
   -- a look that found nothing
   Nothing : Reply
   -- there was no ticket for the call
-  Spent : Reply
+  NoTicket : Reply

@@ -22,7 +22,7 @@ use Rattle.run_machine.specs.declared.event.Breach.{Breach}
 use Rattle.run_machine.specs.declared.event.Breach.TheVariants as breach
 use Rattle.run_machine.specs.Scene.{Setup, tree_at, tree_number}
 use Rattle.run_machine.specs.Kept.{Kept, KeptBio, KeptSlip, holding_kept}
-use Rattle.run_machine.specs.Requests.{Request, Reply, TakeBio, TakeSlip, Punt, Push, Link, Rest, Chain, Master, Leg, HadBio, HadSlip, Missed, Did, LinkedTo, Spent}
+use Rattle.run_machine.specs.Requests.{Request, Reply, TakeBio, TakeSlip, Punt, Push, Link, Rest, Chain, Master, Leg, HadBio, HadSlip, Missed, Did, LinkedTo, NoTicket}
 
 -- what a driver does for a bio of its device's set: it takes one, waiting or not; where an attempt that did not wait missed, it punts; and
 -- with the bio that it had it links a node. A type of its own, for a cut and for a leg alike, so that a copy can ask for nothing else
@@ -224,7 +224,7 @@ after_miss false = Punts
 
 -- how a submission goes on with a reply; one that is no answer to what it asked for leaves it as it is
 abbrev pub submission_answered : Setup → Doing → TaskLists → Reply → Submission
-submission_answered setup doing lists Spent = spent (at_hand doing) lists (punts_of doing)
+submission_answered setup doing lists NoTicket = spent (at_hand doing) lists (punts_of doing)
 submission_answered setup (Drives bio ToPush) lists Did = goes_on setup bio.bio.dev lists
 submission_answered setup (Drives bio (ToCut (Takes waits))) lists (HadBio got hand) = record { doing = Drives bio (ToCut (Links hand)); lists = lists }
 submission_answered setup (Drives bio (ToCut (Takes waits))) lists (Missed used) = record { doing = Drives bio (ToCut (after_miss waits)); lists = lists }

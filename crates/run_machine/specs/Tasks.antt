@@ -19,7 +19,7 @@ use Rattle.run_machine.specs.declared.event.Breach.TheVariants as breach
 use Rattle.run_machine.specs.Scene.{Setup}
 use Rattle.run_machine.specs.Kept.{Kept, KeptBio, KeptVec, bio_kept, holding_kept}
 use Rattle.run_machine.specs.Submissions.{Doing, Rests, Breaks, Submission, settled, link_refused, submission_request, submission_answered, doing_breach}
-use Rattle.run_machine.specs.Requests.{Request, Reply, TakeBio, TakeVec, GiveBio, GiveVec, GiveSlip, Pop, Complete, Link, Drop, Done, Resize, NextRound, LookRound, LookLeft, Rest, Write, HadBio, HadVec, Did, Popped, Completed, LinkedTo, DroppedTo, OutIs, Present, LeftOver, Spent}
+use Rattle.run_machine.specs.Requests.{Request, Reply, TakeBio, TakeVec, GiveBio, GiveVec, GiveSlip, Pop, Complete, Link, Drop, Done, Resize, NextRound, LookRound, LookLeft, Rest, Write, HadBio, HadVec, Did, Popped, Completed, LinkedTo, DroppedTo, OutIs, Present, LeftOver, NoTicket}
 
 -- a write that a writer has still to begin, by its number, with its round
 pub record Todo : Type 0 where
@@ -216,7 +216,7 @@ begins setup writer later bio taken todo submission (Stray back) =
 
 -- how a writer goes on outside of a submission
 abbrev pub write_answered : Setup → ℕ → List Todo → Gathered → Submission → Reply → TaskState
-write_answered setup writer todo taken submission Spent =
+write_answered setup writer todo taken submission NoTicket =
     Writer writer todo (besides taken) (record submission { doing = Breaks breach.Spent (handed_vector todo taken) })
 write_answered setup writer (todo ∷ later) NoBio submission (HadBio got bio) = Writer writer (todo ∷ later) (HasBio bio) submission
 write_answered setup writer (todo ∷ later) (HasBio bio) submission (HadVec got vector) = Writer writer (todo ∷ later) (HasBoth bio vector) submission
@@ -232,7 +232,7 @@ writer_answered setup writer todo taken doing submission reply = Writer writer t
 
 abbrev pub rescuer_answered : Setup → DevId → Doing → Submission → Reply → TaskState
 rescuer_answered setup dev Rests submission (Popped bio) = Rescuer dev (settled setup (bio ∷ []))
-rescuer_answered setup dev Rests submission Spent = Rescuer dev (record submission { doing = Breaks breach.Spent [] })
+rescuer_answered setup dev Rests submission NoTicket = Rescuer dev (record submission { doing = Breaks breach.Spent [] })
 rescuer_answered setup dev Rests submission _ = Rescuer dev submission
 rescuer_answered setup dev doing submission reply = Rescuer dev (submission_answered setup doing submission.lists reply)
 
@@ -262,7 +262,7 @@ carried_kept (Carries writer closed) = holding_kept closed.held
 carried_kept (Fails breach kept) = kept
 
 abbrev pub carried_answered : Carried → Reply → Carried
-carried_answered carried Spent = Fails breach.Spent (carried_kept carried)
+carried_answered carried NoTicket = Fails breach.Spent (carried_kept carried)
 carried_answered Empty (Completed index bio status) = Brings bio status
 carried_answered (Brings bio status) (DroppedTo ended) = after_drop bio.bio.writer bio.bio.node ended
 carried_answered (Carries writer closed) (DroppedTo ended) = after_drop writer (parent_or closed.parent) ended
@@ -277,7 +277,7 @@ after_resize false pool out duties = Stops (breach.Out pool out)
 abbrev pub keeper_answered : Keeping → Reply → Keeping
 keeper_answered (Keeps (Resizes pool min later ∷ duties)) (OutIs out) = after_resize (out == 0) pool out duties
 keeper_answered (Keeps (Starts round later ∷ duties)) Did = Keeps duties
-keeper_answered (Keeps (duty ∷ duties)) Spent = Stops breach.Spent
+keeper_answered (Keeps (duty ∷ duties)) NoTicket = Stops breach.Spent
 keeper_answered keeping _ = keeping
 
 -- how a task goes on with a reply

@@ -8,7 +8,7 @@ use Rattle.run_machine.specs.declared.event.Breach.TheVariants as breach
 use Rattle.run_machine.specs.declared.event.TaskId.{TaskId}
 use Rattle.task_steps.specs.declared.step.Step.TheVariants.{Broken}
 use Rattle.run_machine.specs.Scene.{Setup}
-use Rattle.run_machine.specs.Requests.{TakeBio, Spent}
+use Rattle.run_machine.specs.Requests.{TakeBio, NoTicket}
 use Rattle.bio_records.specs.declared.bio.Bio.{Bio}
 use Rattle.bio_records.specs.declared.bio.Pad.{Pad}
 use Rattle.bio_records.specs.Items.{Item}
@@ -39,9 +39,9 @@ module _ {S : Type 0} (serves : Service S) (owes : Owing) (setup : Setup) (task 
   attempt_spent (Drives bio (ToCut (Takes waiting))) lists dev waits old new attempts spent =
       let same = same_Some (bio.bio.dev, waiting) (dev, waits) attempts in
       record {
-        reply = Spent;
-        replied = subst (λ (p : DevId × Bool). serves old (TakeBio (Of p.0) p.1) Spent new) (sym same) spent.0;
-        owed = subst (λ (p : DevId × Bool). owes (TakeBio (Of p.0) p.1) Spent) (sym same) spent.1;
+        reply = NoTicket;
+        replied = subst (λ (p : DevId × Bool). serves old (TakeBio (Of p.0) p.1) NoTicket new) (sym same) spent.0;
+        owed = subst (λ (p : DevId × Bool). owes (TakeBio (Of p.0) p.1) NoTicket) (sym same) spent.1;
         found = refl;
         goes_on = refl;
         tells = refl;
@@ -49,9 +49,9 @@ module _ {S : Type 0} (serves : Service S) (owes : Owing) (setup : Setup) (task 
   attempt_spent (Copies bio master leg (Takes waiting)) lists dev waits old new attempts spent =
       let same = same_Some (bio.dev, waiting) (dev, waits) attempts in
       record {
-        reply = Spent;
-        replied = subst (λ (p : DevId × Bool). serves old (TakeBio (Of p.0) p.1) Spent new) (sym same) spent.0;
-        owed = subst (λ (p : DevId × Bool). owes (TakeBio (Of p.0) p.1) Spent) (sym same) spent.1;
+        reply = NoTicket;
+        replied = subst (λ (p : DevId × Bool). serves old (TakeBio (Of p.0) p.1) NoTicket new) (sym same) spent.0;
+        owed = subst (λ (p : DevId × Bool). owes (TakeBio (Of p.0) p.1) NoTicket) (sym same) spent.1;
         found = refl;
         goes_on = refl;
         tells = refl;

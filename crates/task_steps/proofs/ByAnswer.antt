@@ -16,7 +16,7 @@ use Rattle.run_machine.specs.declared.event.Breach.TheVariants as breach
 use Rattle.run_machine.specs.declared.event.What.{What}
 use Rattle.run_machine.specs.declared.event.What.TheVariants as what
 use Rattle.run_machine.specs.Scene.{Setup}
-use Rattle.run_machine.specs.Requests.{Request, Reply, TakeBio, Resize, HadBio, HadVec, HadSlip, Missed, Did, Popped, Completed, LinkedTo, DroppedTo, OutIs, Nothing, Spent, LookLeft, LeftOver, Rest}
+use Rattle.run_machine.specs.Requests.{Request, Reply, TakeBio, Resize, HadBio, HadVec, HadSlip, Missed, Did, Popped, Completed, LinkedTo, DroppedTo, OutIs, Nothing, NoTicket, LookLeft, LeftOver, Rest}
 use Rattle.run_machine.specs.Submissions.{Takes, Punts, Links, ToPush, ToCut, ToRecord, ToMaster, Doing, Rests, Drives, Copies, Breaks, Submission, submission_request, submission_answered, doing_breach}
 use Rattle.run_machine.specs.Tasks.{Todo, Gathered, NoBio, HasBio, HasBoth, Carried, Empty, Brings, Carries, Fails, Duty, Resizes, Starts, Keeping, Keeps, Stops, TaskState, Writer, Rescuer, Completer, Keeper, needs_vector, with_bio, write_request, writer_request, rescuer_request, closed_request, carried_request, keeper_request, write_answered, writer_answered, rescuer_answered, parent_or, carried_answered, after_resize, keeper_answered, carried_breach, keeping_breach, request, look_of, lets, answered, breach_of}
 use Rattle.run_machine.specs.Events.{what_of, resize_of, id_of}
@@ -56,51 +56,51 @@ module _ (stage : Stage) (setup : Setup) where
   submission_comes (Breaks b kept) lists reply any owed = absurd (true≢false (sym any))
   -- a push
   submission_comes (Drives bio ToPush) lists Did any owed = Tells _ refl
-  submission_comes (Drives bio ToPush) lists Spent any owed = Refuses breach.Spent refl refl refl
+  submission_comes (Drives bio ToPush) lists NoTicket any owed = Refuses breach.Spent refl refl refl
   submission_comes (Drives bio ToPush) lists reply any owed = absurd owed
   -- a take for a cut: where it waits, and the miss used up no entry, all is the same
   submission_comes (Drives bio (ToCut (Takes waits))) lists (HadBio got hand) any owed = Tells _ refl
   submission_comes (Drives bio (ToCut (Takes true))) lists (Missed true) any owed = Tells _ refl
   submission_comes (Drives bio (ToCut (Takes true))) lists (Missed false) any owed = Misses _ refl refl refl refl refl
   submission_comes (Drives bio (ToCut (Takes false))) lists (Missed used) any owed = Tells _ refl
-  submission_comes (Drives bio (ToCut (Takes waits))) lists Spent any owed = Refuses breach.Spent refl refl refl
+  submission_comes (Drives bio (ToCut (Takes waits))) lists NoTicket any owed = Refuses breach.Spent refl refl refl
   submission_comes (Drives bio (ToCut (Takes waits))) lists reply any owed = absurd owed
   -- a punt
   submission_comes (Drives bio (ToCut Punts)) lists Did any owed = Tells _ refl
-  submission_comes (Drives bio (ToCut Punts)) lists Spent any owed = Refuses breach.Spent refl refl refl
+  submission_comes (Drives bio (ToCut Punts)) lists NoTicket any owed = Refuses breach.Spent refl refl refl
   submission_comes (Drives bio (ToCut Punts)) lists reply any owed = absurd owed
   -- a node for the cut, which the book may refuse
   submission_comes (Drives bio (ToCut (Links hand))) lists (LinkedTo (Made node)) any owed = Tells _ refl
   submission_comes (Drives bio (ToCut (Links hand))) lists (LinkedTo (NoRoom back)) any owed = Refuses _ refl refl refl
   submission_comes (Drives bio (ToCut (Links hand))) lists (LinkedTo (Stray back)) any owed = Refuses _ refl refl refl
-  submission_comes (Drives bio (ToCut (Links hand))) lists Spent any owed = Refuses breach.Spent refl refl refl
+  submission_comes (Drives bio (ToCut (Links hand))) lists NoTicket any owed = Refuses breach.Spent refl refl refl
   submission_comes (Drives bio (ToCut (Links hand))) lists reply any owed = absurd owed
   -- a take of a record for a mirror
   submission_comes (Drives bio ToRecord) lists (HadSlip got slip) any owed = Tells _ refl
   submission_comes (Drives bio ToRecord) lists (Missed true) any owed = Tells _ refl
   submission_comes (Drives bio ToRecord) lists (Missed false) any owed = Misses _ refl refl refl refl refl
-  submission_comes (Drives bio ToRecord) lists Spent any owed = Refuses breach.Spent refl refl refl
+  submission_comes (Drives bio ToRecord) lists NoTicket any owed = Refuses breach.Spent refl refl refl
   submission_comes (Drives bio ToRecord) lists reply any owed = absurd owed
   -- a node for its master
   submission_comes (Drives bio (ToMaster slip)) lists (LinkedTo (Made node)) any owed = Tells _ refl
   submission_comes (Drives bio (ToMaster slip)) lists (LinkedTo (NoRoom back)) any owed = Refuses _ refl refl refl
   submission_comes (Drives bio (ToMaster slip)) lists (LinkedTo (Stray back)) any owed = Refuses _ refl refl refl
-  submission_comes (Drives bio (ToMaster slip)) lists Spent any owed = Refuses breach.Spent refl refl refl
+  submission_comes (Drives bio (ToMaster slip)) lists NoTicket any owed = Refuses breach.Spent refl refl refl
   submission_comes (Drives bio (ToMaster slip)) lists reply any owed = absurd owed
   -- takes, punts and nodes for a leg of it, as for a cut
   submission_comes (Copies bio master leg (Takes waits)) lists (HadBio got hand) any owed = Tells _ refl
   submission_comes (Copies bio master leg (Takes true)) lists (Missed true) any owed = Tells _ refl
   submission_comes (Copies bio master leg (Takes true)) lists (Missed false) any owed = Misses _ refl refl refl refl refl
   submission_comes (Copies bio master leg (Takes false)) lists (Missed used) any owed = Tells _ refl
-  submission_comes (Copies bio master leg (Takes waits)) lists Spent any owed = Refuses breach.Spent refl refl refl
+  submission_comes (Copies bio master leg (Takes waits)) lists NoTicket any owed = Refuses breach.Spent refl refl refl
   submission_comes (Copies bio master leg (Takes waits)) lists reply any owed = absurd owed
   submission_comes (Copies bio master leg Punts) lists Did any owed = Tells _ refl
-  submission_comes (Copies bio master leg Punts) lists Spent any owed = Refuses breach.Spent refl refl refl
+  submission_comes (Copies bio master leg Punts) lists NoTicket any owed = Refuses breach.Spent refl refl refl
   submission_comes (Copies bio master leg Punts) lists reply any owed = absurd owed
   submission_comes (Copies bio master leg (Links hand)) lists (LinkedTo (Made node)) any owed = Tells _ refl
   submission_comes (Copies bio master leg (Links hand)) lists (LinkedTo (NoRoom back)) any owed = Refuses _ refl refl refl
   submission_comes (Copies bio master leg (Links hand)) lists (LinkedTo (Stray back)) any owed = Refuses _ refl refl refl
-  submission_comes (Copies bio master leg (Links hand)) lists Spent any owed = Refuses breach.Spent refl refl refl
+  submission_comes (Copies bio master leg (Links hand)) lists NoTicket any owed = Refuses breach.Spent refl refl refl
   submission_comes (Copies bio master leg (Links hand)) lists reply any owed = absurd owed
 
   -- a submission is what it is at, with its lists
@@ -116,13 +116,13 @@ module _ (stage : Stage) (setup : Setup) where
   with_bio_comes true number todo later bio submission (HadVec got vector) owed = Tells _ refl
   with_bio_comes true number todo later bio submission (Missed true) owed = Tells _ refl
   with_bio_comes true number todo later bio submission (Missed false) owed = Misses _ refl refl refl refl refl
-  with_bio_comes true number todo later bio submission Spent owed = Refuses breach.Spent refl refl refl
+  with_bio_comes true number todo later bio submission NoTicket owed = Refuses breach.Spent refl refl refl
   with_bio_comes true number todo later bio submission reply owed = absurd owed
   -- and else its node
   with_bio_comes false number todo later bio submission (LinkedTo (Made node)) owed = Tells _ refl
   with_bio_comes false number todo later bio submission (LinkedTo (NoRoom back)) owed = Refuses _ refl refl refl
   with_bio_comes false number todo later bio submission (LinkedTo (Stray back)) owed = Refuses _ refl refl refl
-  with_bio_comes false number todo later bio submission Spent owed = Refuses breach.Spent refl refl refl
+  with_bio_comes false number todo later bio submission NoTicket owed = Refuses breach.Spent refl refl refl
   with_bio_comes false number todo later bio submission reply owed = absurd owed
 
   write_comes : (number : ℕ) (todos : List Todo) (taken : Gathered) (submission : Submission) (reply : Reply) → asks_any (write_request number todos taken) ≡ true
@@ -134,7 +134,7 @@ module _ (stage : Stage) (setup : Setup) where
   write_comes number (todo ∷ later) NoBio submission (HadBio got bio) any owed = Tells _ refl
   write_comes number (todo ∷ later) NoBio submission (Missed true) any owed = Tells _ refl
   write_comes number (todo ∷ later) NoBio submission (Missed false) any owed = Misses _ refl refl refl refl refl
-  write_comes number (todo ∷ later) NoBio submission Spent any owed = Refuses breach.Spent refl refl refl
+  write_comes number (todo ∷ later) NoBio submission NoTicket any owed = Refuses breach.Spent refl refl refl
   write_comes number (todo ∷ later) NoBio submission reply any owed = absurd owed
   -- what the bio wants
   write_comes number (todo ∷ later) (HasBio bio) submission reply any owed =
@@ -143,7 +143,7 @@ module _ (stage : Stage) (setup : Setup) where
   write_comes number (todo ∷ later) (HasBoth bio vector) submission (LinkedTo (Made node)) any owed = Tells _ refl
   write_comes number (todo ∷ later) (HasBoth bio vector) submission (LinkedTo (NoRoom back)) any owed = Refuses _ refl refl refl
   write_comes number (todo ∷ later) (HasBoth bio vector) submission (LinkedTo (Stray back)) any owed = Refuses _ refl refl refl
-  write_comes number (todo ∷ later) (HasBoth bio vector) submission Spent any owed = Refuses breach.Spent refl refl refl
+  write_comes number (todo ∷ later) (HasBoth bio vector) submission NoTicket any owed = Refuses breach.Spent refl refl refl
   write_comes number (todo ∷ later) (HasBoth bio vector) submission reply any owed = absurd owed
 
   writer_comes : (number : ℕ) (todos : List Todo) (taken : Gathered) (submission : Submission) (doing : Doing) → submission.doing ≡ doing → (reply : Reply)
@@ -161,7 +161,7 @@ module _ (stage : Stage) (setup : Setup) where
       (rescuer_answered setup dev doing submission reply ≡ Rescuer dev submission)
   rescuer_comes dev submission Rests is (Popped bio) any owed = Tells _ refl
   rescuer_comes dev submission Rests is Nothing any owed = Finds refl refl
-  rescuer_comes dev submission Rests is Spent any owed = Refuses breach.Spent refl refl refl
+  rescuer_comes dev submission Rests is NoTicket any owed = Refuses breach.Spent refl refl refl
   rescuer_comes dev submission Rests is reply any owed = absurd owed
   rescuer_comes dev submission doing is reply any owed =
       carry (λ same. ap (λ (l : Submission). Rescuer dev l) (same ∙ whole submission doing is)) (submission_comes doing submission.lists reply any owed)
@@ -173,13 +173,13 @@ module _ (stage : Stage) (setup : Setup) where
       (carried_answered (Carries writer closed) reply ≡ Carries writer closed)
   -- what the node held is given back: the vector, the bio, the record
   closed_comes writer closed (Some vector) bio slip parent is Did owed = Tells _ refl
-  closed_comes writer closed (Some vector) bio slip parent is Spent owed = Refuses breach.Spent refl refl refl
+  closed_comes writer closed (Some vector) bio slip parent is NoTicket owed = Refuses breach.Spent refl refl refl
   closed_comes writer closed (Some vector) bio slip parent is reply owed = absurd owed
   closed_comes writer closed None (Some bio) slip parent is Did owed = Tells _ refl
-  closed_comes writer closed None (Some bio) slip parent is Spent owed = Refuses breach.Spent refl refl refl
+  closed_comes writer closed None (Some bio) slip parent is NoTicket owed = Refuses breach.Spent refl refl refl
   closed_comes writer closed None (Some bio) slip parent is reply owed = absurd owed
   closed_comes writer closed None None (Some slip) parent is Did owed = Tells _ refl
-  closed_comes writer closed None None (Some slip) parent is Spent owed = Refuses breach.Spent refl refl refl
+  closed_comes writer closed None None (Some slip) parent is NoTicket owed = Refuses breach.Spent refl refl refl
   closed_comes writer closed None None (Some slip) parent is reply owed = absurd owed
   -- then it is dropped at its parent, which the book may refuse
   closed_comes writer closed None None None (Some parent) is (DroppedTo end.Left) owed = Tells _ refl
@@ -187,11 +187,11 @@ module _ (stage : Stage) (setup : Setup) where
   closed_comes writer closed None None None (Some parent) is (DroppedTo (end.Top above)) owed = Tells _ refl
   closed_comes writer closed None None None (Some parent) is (DroppedTo (end.Stray part)) owed =
       Refuses (breach.Stray writer parent) refl refl (ap (λ (p : Option ℕ). Some (breach.Stray writer (parent_or p))) is)
-  closed_comes writer closed None None None (Some parent) is Spent owed = Refuses breach.Spent refl refl refl
+  closed_comes writer closed None None None (Some parent) is NoTicket owed = Refuses breach.Spent refl refl refl
   closed_comes writer closed None None None (Some parent) is reply owed = absurd owed
   -- and without a parent its write is done
   closed_comes writer closed None None None None is Did owed = Tells _ refl
-  closed_comes writer closed None None None None is Spent owed = Refuses breach.Spent refl refl refl
+  closed_comes writer closed None None None None is NoTicket owed = Refuses breach.Spent refl refl refl
   closed_comes writer closed None None None None is reply owed = absurd owed
 
   carried_comes : (disk : DevId) (carried : Carried) (reply : Reply) → asks_any (carried_request disk carried) ≡ true → Owes stage (carried_request disk carried) reply
@@ -199,14 +199,14 @@ module _ (stage : Stage) (setup : Setup) where
   -- a completion, or there is none
   carried_comes disk Empty (Completed index bio status) any owed = Tells _ refl
   carried_comes disk Empty Nothing any owed = Finds refl refl
-  carried_comes disk Empty Spent any owed = Refuses breach.Spent refl refl refl
+  carried_comes disk Empty NoTicket any owed = Refuses breach.Spent refl refl refl
   carried_comes disk Empty reply any owed = absurd owed
   -- what completed is dropped at its node, which the book may refuse
   carried_comes disk (Brings bio status) (DroppedTo end.Left) any owed = Tells _ refl
   carried_comes disk (Brings bio status) (DroppedTo (end.Up closed)) any owed = Tells _ refl
   carried_comes disk (Brings bio status) (DroppedTo (end.Top closed)) any owed = Tells _ refl
   carried_comes disk (Brings bio status) (DroppedTo (end.Stray part)) any owed = Refuses _ refl refl refl
-  carried_comes disk (Brings bio status) Spent any owed = Refuses breach.Spent refl refl refl
+  carried_comes disk (Brings bio status) NoTicket any owed = Refuses breach.Spent refl refl refl
   carried_comes disk (Brings bio status) reply any owed = absurd owed
   -- what a closed node held
   carried_comes disk (Carries writer closed) reply any owed =
@@ -226,10 +226,10 @@ module _ (stage : Stage) (setup : Setup) where
       → Comes setup (keeper_request keeping) reply (keeping_breach (keeper_answered keeping reply)) (keeper_answered keeping reply ≡ keeping)
   keeper_comes (Keeps []) reply any owed = absurd (true≢false (sym any))
   keeper_comes (Keeps (Resizes pool min later ∷ duties)) (OutIs out) any owed = resize_comes pool min later out duties (out == 0) refl
-  keeper_comes (Keeps (Resizes pool min later ∷ duties)) Spent any owed = Refuses breach.Spent refl refl refl
+  keeper_comes (Keeps (Resizes pool min later ∷ duties)) NoTicket any owed = Refuses breach.Spent refl refl refl
   keeper_comes (Keeps (Resizes pool min later ∷ duties)) reply any owed = absurd owed
   keeper_comes (Keeps (Starts round later ∷ duties)) Did any owed = Tells _ refl
-  keeper_comes (Keeps (Starts round later ∷ duties)) Spent any owed = Refuses breach.Spent refl refl refl
+  keeper_comes (Keeps (Starts round later ∷ duties)) NoTicket any owed = Refuses breach.Spent refl refl refl
   keeper_comes (Keeps (Starts round later ∷ duties)) reply any owed = absurd owed
   keeper_comes (Stops b) reply any owed = absurd (true≢false (sym any))
 

@@ -18,7 +18,7 @@ use Rattle.task_steps.specs.declared.routes.Cut.{Cut}
 use Rattle.run_machine.specs.Scene.{Setup, setup_of, keeps_data, is_mirror}
 use Rattle.run_machine.specs.Kept.{Kept}
 use Rattle.run_machine.specs.Submissions.{Takes, Punts, Links, ToPush, ToCut, ToRecord, ToMaster, Doing, Rests, Drives, Copies, Breaks, Submission, landed, asks_at, settled, goes_on, cut_at, legs_of, leg_at, copies, submission_request, after_chain, after_master, after_leg, at_hand, punts_of, spent, submission_answered, is_cut}
-use Rattle.run_machine.specs.Requests.{Reply, HadBio, HadSlip, Missed, Did, LinkedTo, Spent}
+use Rattle.run_machine.specs.Requests.{Reply, HadBio, HadSlip, Missed, Did, LinkedTo, NoTicket}
 use Rattle.task_steps.specs.Within.{IsWithinDevice, IsItemWithin, AreWithin, ListsAreWithin, is_handed_on, DoingFits, SubmissionFits, AskedFits, SubmissionsStayWithin}
 use Rattle.task_steps.specs.Routed.{sent, IsLanded, IsCutAt}
 use Rattle.task_steps.proofs.Landing.{first_at, lands_within}
@@ -129,7 +129,7 @@ module _ (stack : Stack) (good : IsStack stack) (places : ℕ → ℕ) where
   pub submission_fits : (doing : Doing) (lists : TaskLists) (reply : Reply) → DoingFits stack doing → ListsAreWithin stack lists
       → SubmissionFits stack (submission_answered (setup_of stack places) doing lists reply)
   -- without a ticket
-  submission_fits doing lists Spent fits all = spent_fits (at_hand doing) lists (punts_of doing) all
+  submission_fits doing lists NoTicket fits all = spent_fits (at_hand doing) lists (punts_of doing) all
   -- a push
   submission_fits (Drives bio ToPush) lists Did fits all = goes_on_fits bio.bio.dev lists all
   -- a cut: it takes, misses, punts, and has its node

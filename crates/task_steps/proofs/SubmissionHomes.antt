@@ -24,7 +24,7 @@ use Rattle.bio_lists.specs.Submission.{submitted, order}
 use Rattle.bio_split.specs.Split.{split_front, split_rest}
 use Rattle.bio_books.specs.Links.{Linked, Made, NoRoom, Stray}
 use Rattle.run_machine.specs.Scene.{is_device, has_set, keeps_data, is_mirror}
-use Rattle.run_machine.specs.Requests.{Reply, HadBio, HadSlip, Missed, Did, LinkedTo, Spent}
+use Rattle.run_machine.specs.Requests.{Reply, HadBio, HadSlip, Missed, Did, LinkedTo, NoTicket}
 use Rattle.run_machine.specs.Kept.{Kept}
 use Rattle.bioset_pools.specs.Sets.{is_empty, waits_first}
 use Rattle.run_machine.specs.Submissions.{Takes, Punts, Links, ToPush, ToCut, ToRecord, ToMaster, Doing, Rests, Drives, Copies, Breaks, first_length, mapped, landed, asks_at, landed_doing, settled, goes_on, cut_at, legs_of, leg_at, copies, submission_request, after_chain, after_master, after_leg, at_hand, punts_of, spent, submission_answered, is_cut}
@@ -275,7 +275,7 @@ module _ (stage : Stage) (good : IsStack stage.routing.stack) where
       → ListsAreWithin stage.routing.stack lists → BothHave (IsOwned stage) lists → Owes stage (submission_request (routing_setup stage.routing) doing lists) reply
       → IsSubmissionOf stage (submission_answered (routing_setup stage.routing) doing lists reply)
   -- without a ticket
-  submission_home doing lists Spent fits home within owned owes = spent_home (at_hand doing) lists (punts_of doing) within owned
+  submission_home doing lists NoTicket fits home within owned owes = spent_home (at_hand doing) lists (punts_of doing) within owned
   -- a push
   submission_home (Drives bio ToPush) lists Did fits home within owned owes = goes_on_home bio.bio.dev lists within owned
   -- a cut: it takes, misses, punts, and has its node

@@ -13,7 +13,7 @@ use Rattle.bio_books.specs.Links.{Linked, Made, NoRoom, Stray}
 use Rattle.run_machine.specs.declared.event.Breach.{Breach}
 use Rattle.run_machine.specs.declared.event.Breach.TheVariants as breach
 use Rattle.run_machine.specs.Kept.{Kept}
-use Rattle.run_machine.specs.Requests.{Reply, HadBio, HadVec, Popped, Completed, LinkedTo, DroppedTo, OutIs, Did, Spent}
+use Rattle.run_machine.specs.Requests.{Reply, HadBio, HadVec, Popped, Completed, LinkedTo, DroppedTo, OutIs, Did, NoTicket}
 use Rattle.run_machine.specs.Submissions.{Doing, Rests, Breaks, Submission, settled, submission_request, submission_answered}
 use Rattle.run_machine.specs.Tasks.{Todo, Gathered, NoBio, HasBio, HasBoth, besides, Carried, Empty, Brings, Carries, Fails, Duty, Resizes, Starts, Keeping, Keeps, Stops, TaskState, Writer, Rescuer, Completer, Keeper, needs_vector, filled, filled_short, with_bio, write_request, writer_request, rescuer_request, closed_request, carried_request, keeper_request, duty_request, request, begins, write_answered, writer_answered, rescuer_answered, given, after_drop, parent_or, carried_answered, after_resize, keeper_answered, answered}
 use Rattle.task_steps.specs.Routed.{routing_setup}
@@ -115,7 +115,7 @@ module _ (stage : Stage) (good : IsStack stage.routing.stack) where
   write_home : (writer : ℕ) (todos : List Todo) (taken : Gathered) (submission : Submission) (reply : Reply) → IsTrue (has_book stage writer)
       → All (TodoFits stage) todos → GatheredIsHome stage taken → IsSubmissionOf stage submission → Owes stage (write_request writer todos taken) reply
       → IsTaskOf stage (write_answered (routing_setup stage.routing) writer todos taken submission reply)
-  write_home writer todos taken submission Spent book all home is owes = (book, all, besides_home taken home, broken submission breach.Spent _ is)
+  write_home writer todos taken submission NoTicket book all home is owes = (book, all, besides_home taken home, broken submission breach.Spent _ is)
   write_home writer (todo ∷ later) NoBio submission (HadBio got bio) book all home is owes = (book, all, owes.home, is)
   write_home writer (todo ∷ later) (HasBio bio) submission (HadVec got vector) book all home is owes =
       (book, all, (home, vec_home (needs_vector todo.write) owes), is)
@@ -149,7 +149,7 @@ module _ (stage : Stage) (good : IsStack stage.routing.stack) where
       → IsTaskOf stage (rescuer_answered (routing_setup stage.routing) dev doing submission reply)
   rescuer_home dev Rests submission (Popped bio) rescuer is on owes =
       (rescuer, one bio owes.within (record { writer = owes.writer; home = owes.home }))
-  rescuer_home dev Rests submission Spent rescuer is on owes = (rescuer, broken submission breach.Spent [] is)
+  rescuer_home dev Rests submission NoTicket rescuer is on owes = (rescuer, broken submission breach.Spent [] is)
   rescuer_home dev Rests submission _ rescuer is on owes = (rescuer, is)
   rescuer_home dev doing submission reply rescuer is on owes = (rescuer, on owes)
 
@@ -179,7 +179,7 @@ module _ (stage : Stage) (good : IsStack stage.routing.stack) where
 
   carried_home : (disk : DevId) (carried : Carried) (reply : Reply) → CarriedFits stage carried → Owes stage (carried_request disk carried) reply
       → CarriedFits stage (carried_answered carried reply)
-  carried_home disk carried Spent fits owes = tt
+  carried_home disk carried NoTicket fits owes = tt
   carried_home disk Empty (Completed index bio status) fits owes = record { writer = owes.0.writer; home = owes.0.home }
   carried_home disk (Brings bio status) (DroppedTo ended) fits owes = dropped_home bio.bio.writer bio.bio.node ended fits.writer owes
   carried_home disk (Carries writer closed) (DroppedTo ended) fits owes =
@@ -196,7 +196,7 @@ module _ (stage : Stage) (good : IsStack stage.routing.stack) where
   keeper_home (Keeps (Resizes pool min later ∷ duties)) (OutIs out) fits =
       resized_home (out == 0) pool out duties (All-tail (DutyFits stage) (Resizes pool min later) duties fits)
   keeper_home (Keeps (Starts round later ∷ duties)) Did fits = All-tail (DutyFits stage) (Starts round later) duties fits
-  keeper_home (Keeps (duty ∷ duties)) Spent fits = tt
+  keeper_home (Keeps (duty ∷ duties)) NoTicket fits = tt
   keeper_home keeping _ fits = fits
 
   task_home : (task : TaskState) (reply : Reply) → IsTaskOf stage task → Owes stage (request (routing_setup stage.routing) task) reply

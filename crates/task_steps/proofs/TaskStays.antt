@@ -13,7 +13,7 @@ use Rattle.bio_books.specs.Links.{Linked, Made, NoRoom, Stray}
 use Rattle.run_machine.specs.Scene.{setup_of}
 use Rattle.run_machine.specs.Submissions.{Doing, Rests, Submission}
 use Rattle.run_machine.specs.Tasks.{Todo, Gathered, NoBio, HasBio, HasBoth, Carried, Empty, Brings, Carries, Fails, Duty, Resizes, Starts, Keeping, Keeps, Stops, TaskState, Writer, Rescuer, Completer, Keeper, needs_vector, filled, filled_short, with_bio, write_request, writer_request, rescuer_request, closed_request, carried_request, keeper_request, duty_request, request, begins, write_answered, writer_answered, rescuer_answered, answered}
-use Rattle.run_machine.specs.Requests.{Reply, HadBio, HadVec, Popped, LinkedTo, Spent}
+use Rattle.run_machine.specs.Requests.{Reply, HadBio, HadVec, Popped, LinkedTo, NoTicket}
 use Rattle.task_steps.specs.Within.{IsWithinDevice, IsItemWithin, SubmissionFits, DoingFits, TaskFits, AskedFits, ReplyFits, TasksStayWithin}
 use Rattle.task_steps.proofs.Fits.{settled_fits, submission_fits, submission_asks}
 
@@ -35,7 +35,7 @@ module _ (stack : Stack) (good : IsStack stack) (places : ℕ → ℕ) where
 
   write_fits : (writer : ℕ) (todos : List Todo) (taken : Gathered) (submission : Submission) (reply : Reply) → All (IsTodo stack) todos → SubmissionFits stack submission
       → TaskFits stack (write_answered (setup_of stack places) writer todos taken submission reply)
-  write_fits writer todos taken submission Spent all fits = (all, record { doing = tt; lists = fits.lists })
+  write_fits writer todos taken submission NoTicket all fits = (all, record { doing = tt; lists = fits.lists })
   write_fits writer (todo ∷ later) NoBio submission (HadBio got bio) all fits = (all, fits)
   write_fits writer (todo ∷ later) (HasBio bio) submission (HadVec got vector) all fits = (all, fits)
   write_fits writer (todo ∷ later) (HasBio bio) submission (LinkedTo answer) all fits =
@@ -59,7 +59,7 @@ module _ (stack : Stack) (good : IsStack stack) (places : ℕ → ℕ) where
       → TaskFits stack (rescuer_answered (setup_of stack places) dev doing submission reply)
   rescuer_fits dev Rests submission (Popped bio) doing_fits fits within =
       settled_fits stack good places (bio ∷ []) (All-cons (IsItemWithin stack) bio [] within (All-nil (IsItemWithin stack)))
-  rescuer_fits dev Rests submission Spent doing_fits fits within = record { doing = tt; lists = fits.lists }
+  rescuer_fits dev Rests submission NoTicket doing_fits fits within = record { doing = tt; lists = fits.lists }
   rescuer_fits dev Rests submission _ doing_fits fits within = fits
   rescuer_fits dev doing submission reply doing_fits fits within = submission_fits stack good places doing submission.lists reply doing_fits fits.lists
 

@@ -20,7 +20,7 @@ use Rattle.task_steps.specs.declared.objects.Unmade.TheVariants as unmade
 use Rattle.task_steps.specs.declared.step.Step.{Step}
 use Rattle.task_steps.specs.declared.step.Step.TheVariants.{Stepped}
 use Rattle.run_machine.specs.Scene.{Setup}
-use Rattle.run_machine.specs.Requests.{Request, Reply, Opening, TakeBio, Punt, Link, HadBio, Missed, Did, LinkedTo, Nothing, Spent}
+use Rattle.run_machine.specs.Requests.{Request, Reply, Opening, TakeBio, Punt, Link, HadBio, Missed, Did, LinkedTo, Nothing, NoTicket}
 use Rattle.run_machine.specs.Submissions.{Want, Links, Driving, Doing, Drives, Submission, asks_at, submission_request, after_miss, submission_answered}
 use Rattle.task_steps.specs.Service.{Service, Owing}
 use Rattle.task_steps.specs.Turns.{named_node, step_of}
@@ -93,7 +93,7 @@ pub record Attempts {S : Type 0} (serves : Service S) (owes : Owing) (task : Tas
 
 -- there was no ticket for a call
 abbrev pub IsSpent : {S : Type 0} → Service S → Owing → Request → S → S → Type 0
-IsSpent serves owes asked old new = serves old asked Spent new × owes asked Spent
+IsSpent serves owes asked old new = serves old asked NoTicket new × owes asked NoTicket
 
 -- what came of an attempt at a bio of a device's set
 abbrev pub Attempted : {S : Type 0} → Ghosts S → TaskId → DevId → Bool → S → S → Result (RealWant × Step) Unmade → Type 0
@@ -123,7 +123,7 @@ PuntDoes words task dev lists old done after new = ComesTo words old (PuntedAll 
 
 -- why no node was opened, where none was
 abbrev pub link_breach : Setup → ℕ → Opening → Reply → Option Breach
-link_breach setup writer opening Spent = Some breach.Spent
+link_breach setup writer opening NoTicket = Some breach.Spent
 link_breach setup writer opening (LinkedTo (NoRoom back)) = Some (breach.NoRoom writer (setup.places writer))
 link_breach setup writer opening (LinkedTo (Stray back)) = Some (breach.Stray writer (named_node opening))
 link_breach setup writer opening reply = None

@@ -15,7 +15,7 @@ use Rattle.bio_books.specs.Drops.{Closed, DropOutcome}
 use Rattle.bio_books.specs.Drops as end
 use Rattle.bio_books.specs.Links.{Linked, Made, NoRoom, Stray}
 use Rattle.run_machine.specs.Scene.{is_device, is_disk, has_set, is_mirror}
-use Rattle.run_machine.specs.Requests.{Request, Reply, Opening, Write, Chain, Master, Leg, TakeBio, TakeVec, TakeSlip, GiveBio, GiveVec, GiveSlip, Punt, Pop, Push, Complete, Link, Drop, Done, Resize, NextRound, LookRound, LookLeft, HadBio, HadVec, HadSlip, Missed, Did, Popped, Completed, LinkedTo, DroppedTo, OutIs, Present, LeftOver, Nothing, Spent}
+use Rattle.run_machine.specs.Requests.{Request, Reply, Opening, Write, Chain, Master, Leg, TakeBio, TakeVec, TakeSlip, GiveBio, GiveVec, GiveSlip, Punt, Pop, Push, Complete, Link, Drop, Done, Resize, NextRound, LookRound, LookLeft, HadBio, HadVec, HadSlip, Missed, Did, Popped, Completed, LinkedTo, DroppedTo, OutIs, Present, LeftOver, Nothing, NoTicket}
 use Rattle.task_steps.specs.Within.{IsWithinDevice}
 use Rattle.task_steps.specs.Routed.{Routing, places_at, routing_setup}
 
@@ -159,7 +159,7 @@ DropFits stage (end.Stray part) = IsBioHome stage part
 -- What they owe for it: a reply that answers it, and that nothing could be done for want of a ticket is one. What they hand out is at home in
 -- them too, and what was taken is of the pool that was named.
 abbrev pub Owes : Stage → Request → Reply → Type 0
-Owes stage request Spent = Unit {0}
+Owes stage request NoTicket = Unit {0}
 Owes stage (TakeBio set waits) (HadBio got bio) = IsHomeInPool stage is_bios (pool_number (bios_of set)) bio.share
 Owes stage (TakeBio set waits) (Missed used) = Unit {0}
 Owes stage TakeVec (HadVec got vector) = IsHomeInPool stage is_vecs (pool_number FsVecs) vector.share

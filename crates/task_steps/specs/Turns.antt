@@ -15,7 +15,7 @@ use Rattle.stack_base.specs.declared.ids.DevId.{DevId}
 use Rattle.run_machine.specs.Scene.{Setup}
 use Rattle.task_steps.specs.Service.{Service, Owing}
 use Rattle.task_steps.specs.Choosing.{IsAsked}
-use Rattle.run_machine.specs.Requests.{Request, Reply, Opening, Write, Chain, Master, Leg, TakeBio, TakeVec, TakeSlip, Link, Drop, Resize, LookLeft, Rest, Missed, LinkedTo, DroppedTo, OutIs, LeftOver, Nothing, Spent}
+use Rattle.run_machine.specs.Requests.{Request, Reply, Opening, Write, Chain, Master, Leg, TakeBio, TakeVec, TakeSlip, Link, Drop, Resize, LookLeft, Rest, Missed, LinkedTo, DroppedTo, OutIs, LeftOver, Nothing, NoTicket}
 use Rattle.run_machine.specs.Tasks.{TaskState, request, look_of, lets, answered, breach_of}
 use Rattle.run_machine.specs.Events.{id_of, what_of}
 
@@ -28,7 +28,7 @@ named_node (Leg master) = master
 
 -- what a step comes to that is no event: it waits at the pool that missed, or its object has refused, or had no ticket
 abbrev pub silent_step : Setup → Request → Reply → Step
-silent_step setup request Spent = Broken breach.Spent
+silent_step setup request NoTicket = Broken breach.Spent
 silent_step setup (TakeBio set waits) (Missed used) = Blocked (bios_of set)
 silent_step setup TakeVec (Missed used) = Blocked FsVecs
 silent_step setup (TakeSlip dev) (Missed used) = Blocked (Records dev)

@@ -19,7 +19,7 @@ use Rattle.task_steps.specs.declared.objects.Ask.TheVariants as ask
 use Rattle.task_steps.specs.declared.objects.Unmade.{Unmade}
 use Rattle.task_steps.specs.declared.objects.Unmade.TheVariants as unmade
 use Rattle.task_steps.specs.Choosing.{IsAskedOf}
-use Rattle.run_machine.specs.Requests.{Reply, Opening, Write, Chain, Master, Leg, HadBio, HadVec, HadSlip, Missed, Did, Popped, Completed, LinkedTo, DroppedTo, OutIs, Nothing, Spent}
+use Rattle.run_machine.specs.Requests.{Reply, Opening, Write, Chain, Master, Leg, HadBio, HadVec, HadSlip, Missed, Did, Popped, Completed, LinkedTo, DroppedTo, OutIs, Nothing, NoTicket}
 
 abbrev pub vec_item : Element Vector → VectorItem
 vec_item element = record { segments = element.body.value.segments.items; share = element.share }
@@ -41,19 +41,19 @@ abbrev pub took_bio : Result (Taken (BioBody Pad)) Unmade → Reply
 took_bio (Ok (taken.Ordinary element)) = HadBio got.Ordinary (item_of element)
 took_bio (Ok (taken.Spare element)) = HadBio got.Spare (item_of element)
 took_bio (Ok (taken.Miss used)) = Missed used
-took_bio (Err back) = Spent
+took_bio (Err back) = NoTicket
 
 abbrev pub took_vec : Result (Taken Vector) Unmade → Reply
 took_vec (Ok (taken.Ordinary element)) = HadVec got.Ordinary (vec_item element)
 took_vec (Ok (taken.Spare element)) = HadVec got.Spare (vec_item element)
 took_vec (Ok (taken.Miss used)) = Missed used
-took_vec (Err back) = Spent
+took_vec (Err back) = NoTicket
 
 abbrev pub took_slip : Result (Taken Slip) Unmade → Reply
 took_slip (Ok (taken.Ordinary element)) = HadSlip got.Ordinary (slip_item element)
 took_slip (Ok (taken.Spare element)) = HadSlip got.Spare (slip_item element)
 took_slip (Ok (taken.Miss used)) = Missed used
-took_slip (Err back) = Spent
+took_slip (Err back) = NoTicket
 
 -- an element that was had has a body like this
 abbrev pub TookClear : {P : Type 0} → (P → Type 0) → Result (Taken P) Unmade → Type 0
@@ -64,12 +64,12 @@ TookClear is_clear (Err back) = Unit {0}
 
 abbrev pub did : Result (Unit {0}) Unmade → Reply
 did (Ok done) = Did
-did (Err back) = Spent
+did (Err back) = NoTicket
 
 abbrev pub popped_reply : Result (Option (Element (BioBody Pad))) Unmade → Reply
 popped_reply (Ok None) = Nothing
 popped_reply (Ok (Some element)) = Popped (item_of element)
-popped_reply (Err back) = Spent
+popped_reply (Err back) = NoTicket
 
 abbrev pub PoppedAlone : Result (Option (Element (BioBody Pad))) Unmade → Type 0
 PoppedAlone (Ok part) = IsAlonePart part
@@ -78,7 +78,7 @@ PoppedAlone (Err back) = Unit {0}
 abbrev pub completed_reply : Result (Option (ℕ × DoneBio)) Unmade → Reply
 completed_reply (Ok None) = Nothing
 completed_reply (Ok (Some done)) = Completed done.0 (item_of done.1.el) done.1.status
-completed_reply (Err back) = Spent
+completed_reply (Err back) = NoTicket
 
 abbrev pub CompletedAlone : Result (Option (ℕ × DoneBio)) Unmade → Type 0
 CompletedAlone (Ok None) = Unit {0}
@@ -98,7 +98,7 @@ Choice chooses finds picks old reply new =
 
 abbrev pub linked_reply : Result Link Unmade → Reply
 linked_reply (Ok answer) = LinkedTo (linked_of answer)
-linked_reply (Err back) = Spent
+linked_reply (Err back) = NoTicket
 
 abbrev pub LinkedAlone : Result Link Unmade → Type 0
 LinkedAlone (Ok answer) = IsLinkAlone answer
@@ -106,7 +106,7 @@ LinkedAlone (Err back) = Unit {0}
 
 abbrev pub dropped_reply : Result Dropped Unmade → Reply
 dropped_reply (Ok answer) = DroppedTo (drop_outcome_of answer)
-dropped_reply (Err back) = Spent
+dropped_reply (Err back) = NoTicket
 
 abbrev pub DroppedAlone : Result Dropped Unmade → Type 0
 DroppedAlone (Ok answer) = IsDroppedAlone answer
@@ -119,4 +119,4 @@ unmade_part (Some element) = unmade.Bio element
 
 abbrev pub resized_reply : Result ℕ Unmade → Reply
 resized_reply (Ok out) = OutIs out
-resized_reply (Err back) = Spent
+resized_reply (Err back) = NoTicket

@@ -16,7 +16,7 @@ use Rattle.task_steps.specs.declared.writer.begin.Attempt.TheVariants as attempt
 use Rattle.task_steps.specs.declared.writer.begin.Next.{Next}
 use Rattle.task_steps.specs.declared.writer.begin.Next.TheVariants as next
 use Rattle.run_machine.specs.Scene.{Setup}
-use Rattle.run_machine.specs.Requests.{Request, Reply, Opening, Write, TakeBio, TakeVec, Link, LinkedTo, Spent}
+use Rattle.run_machine.specs.Requests.{Request, Reply, Opening, Write, TakeBio, TakeVec, Link, LinkedTo, NoTicket}
 use Rattle.run_machine.specs.Kept.{opening_kept}
 use Rattle.run_machine.specs.Submissions.{Breaks, Submission, link_refused}
 use Rattle.run_machine.specs.Tasks.{Todo, Gathered, NoBio, HasBio, HasBoth, TaskState, Writer, filled_vector, write_answered, write_request}
@@ -57,12 +57,12 @@ IsGatheredAlone (taken.HasBoth bio vector) = IsAlone bio
 abbrev pub tried : Attempt → ℕ → List Todo → Submission → TaskState
 tried (attempt.Had bio) number todo submission = Writer number todo (HasBio (item_of bio)) submission
 tried attempt.Missed number todo submission = Writer number todo NoBio submission
-tried attempt.Spent number todo submission = Writer number todo NoBio (record submission { doing = Breaks breach.Spent [] })
+tried attempt.NoTicket number todo submission = Writer number todo NoBio (record submission { doing = Breaks breach.Spent [] })
 
 abbrev pub IsAttemptAtBioAlone : Attempt → Type 0
 IsAttemptAtBioAlone (attempt.Had bio) = IsAlone bio
 IsAttemptAtBioAlone attempt.Missed = Unit {0}
-IsAttemptAtBioAlone attempt.Spent = Unit {0}
+IsAttemptAtBioAlone attempt.NoTicket = Unit {0}
 
 -- what a step makes of a writer that was to begin a write
 abbrev pub next_of : Next → ℕ → Todo → List Todo → Submission → TaskState
@@ -89,7 +89,7 @@ pub record WriteAnswers {S : Type 0} (serves : Service S) (owes : Owing) (setup 
 
 -- the submission of a writer that was refused the node of a write, for which this was handed over
 abbrev pub refused_submission : Setup → ℕ → Opening → Submission → Reply → Option Submission
-refused_submission setup number opening submission Spent = Some (record submission { doing = Breaks breach.Spent (opening_kept opening) })
+refused_submission setup number opening submission NoTicket = Some (record submission { doing = Breaks breach.Spent (opening_kept opening) })
 refused_submission setup number opening submission (LinkedTo (NoRoom back)) = Some (record submission { doing = link_refused setup number 0 [] (NoRoom back) })
 refused_submission setup number opening submission (LinkedTo (Stray back)) = Some (record submission { doing = link_refused setup number 0 [] (Stray back) })
 refused_submission setup number opening submission reply = None

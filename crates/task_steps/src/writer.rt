@@ -115,7 +115,7 @@ impl Writer {
         match attempt {
             Attempt::Had(bio) => self.taken = Gathered::HasBio(bio),
             Attempt::Missed => {}
-            Attempt::Spent => self.submission.breaks(Breach::Spent, Kept::nothing()),
+            Attempt::NoTicket => self.submission.breaks(Breach::Spent, Kept::nothing()),
         }
     }
 

@@ -68,7 +68,7 @@ not_full book (place, vacant) full =
 
 -- and its answer is no refusal
 module _ (ledger : ℕ → LedgerId) (old : Objects) (new : Objects) where
-  no_spent : (request : Request) → Serves ledger old request requests.Spent new → ⊥
+  no_spent : (request : Request) → Serves ledger old request requests.NoTicket new → ⊥
   no_spent (requests.TakeBio set waits) h = h
   no_spent requests.TakeVec h = h
   no_spent (requests.TakeSlip dev) h = h
@@ -148,7 +148,7 @@ module _ (ledger : ℕ → LedgerId) (old : Objects) (new : Objects) where
   -- replies that may refuse
   not_refused request (requests.LinkedTo answer) ready h = linked request answer ready h
   not_refused request (requests.DroppedTo ended) ready h = dropped request ended ready h
-  not_refused request requests.Spent ready h = absurd (no_spent request h)
+  not_refused request requests.NoTicket ready h = absurd (no_spent request h)
   -- all others never do
   not_refused request _ ready h = refl
 

@@ -8,7 +8,7 @@ use Rattle.stack_base.specs.Stack.{IsStack}
 use Rattle.run_machine.specs.declared.event.Event.{Event}
 use Rattle.run_machine.specs.declared.event.What.{What}
 use Rattle.run_machine.specs.Maps.{upd}
-use Rattle.run_machine.specs.Requests.{Request, Reply, HadBio, HadVec, HadSlip, Missed, Did, Popped, Completed, LinkedTo, DroppedTo, OutIs, Present, LeftOver, Nothing, Spent, Pop, Done, NextRound, LookRound, LookLeft}
+use Rattle.run_machine.specs.Requests.{Request, Reply, HadBio, HadVec, HadSlip, Missed, Did, Popped, Completed, LinkedTo, DroppedTo, OutIs, Present, LeftOver, Nothing, NoTicket, Pop, Done, NextRound, LookRound, LookLeft}
 use Rattle.run_machine.specs.Tasks as task
 use Rattle.run_machine.specs.Objects.{Objects, Serves}
 use Rattle.run_machine.specs.Events.{id_of, what_of}
@@ -49,7 +49,7 @@ reply_fits stack old request (OutIs out) new within serves = tt
 reply_fits stack old request (Present round) new within serves = tt
 reply_fits stack old request (LeftOver count) new within serves = tt
 reply_fits stack old request Nothing new within serves = tt
-reply_fits stack old request Spent new within serves = tt
+reply_fits stack old request NoTicket new within serves = tt
 
 -- lists of tasks
 at_mapped : {X Y : Type 0} (f : X → Y) (xs : List X) (i : ℕ) (x : X) (d : Y) → slice_get xs i ≡ Some x → slice_index_or (map f xs) i d ≡ f x

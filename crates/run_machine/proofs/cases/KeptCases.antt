@@ -12,23 +12,23 @@ use Rattle.bio_books.specs.Drops as end
 use Rattle.bio_books.specs.Links.{NoRoom, Stray}
 use Rattle.run_machine.specs.declared.event.Breach.TheVariants as breach
 use Rattle.run_machine.specs.Scene.{Setup}
-use Rattle.run_machine.specs.Requests.{LinkedTo, DroppedTo, Spent}
+use Rattle.run_machine.specs.Requests.{LinkedTo, DroppedTo, NoTicket}
 use Rattle.run_machine.specs.Kept.{KeptBio, KeptVec, KeptSlip}
 use Rattle.run_machine.specs.Submissions.{Punts, Links, ToPush, ToCut, ToMaster, Drives, Copies, Breaks, Submission, submission_answered}
 use Rattle.run_machine.specs.Tasks.{Todo, HasBio, HasBoth, Writer, Brings, Carries, Fails, filled_vector, write_answered, carried_answered}
 
 module _ (setup : Setup) (lists : TaskLists) where
   -- a disk had no ticket for a bio: the bio
-  a_push : (bio : Item Pad) → submission_answered setup (Drives bio ToPush) lists Spent ≡ record { doing = Breaks breach.Spent (KeptBio bio ∷ []); lists = lists }
+  a_push : (bio : Item Pad) → submission_answered setup (Drives bio ToPush) lists NoTicket ≡ record { doing = Breaks breach.Spent (KeptBio bio ∷ []); lists = lists }
   a_push bio = refl
 
   -- a rescuer's list had none: the bio at the driver, and those that were handed over, which are in no list any more
-  a_punt : (bio : Item Pad) → submission_answered setup (Drives bio (ToCut Punts)) lists Spent
+  a_punt : (bio : Item Pad) → submission_answered setup (Drives bio (ToCut Punts)) lists NoTicket
       ≡ record { doing = Breaks breach.Spent (KeptBio bio ∷ map KeptBio (punted (Of bio.bio.dev) lists)); lists = unpunted (Of bio.bio.dev) lists }
   a_punt bio = refl
 
   -- a mirror's: the parent has the bio that is copied
-  a_punt_for_a_leg : (bio : Bio) (master leg : ℕ) → submission_answered setup (Copies bio master leg Punts) lists Spent
+  a_punt_for_a_leg : (bio : Bio) (master leg : ℕ) → submission_answered setup (Copies bio master leg Punts) lists NoTicket
       ≡ record { doing = Breaks breach.Spent (map KeptBio (punted (Of bio.dev) lists)); lists = unpunted (Of bio.dev) lists }
   a_punt_for_a_leg bio master leg = refl
 
@@ -42,7 +42,7 @@ module _ (setup : Setup) (lists : TaskLists) where
       ≡ record { doing = Breaks (breach.Stray bio.bio.writer bio.bio.node) (KeptBio bio ∷ KeptSlip slip ∷ []); lists = lists }
   a_master bio slip = refl
 
-  a_leg : (bio : Bio) (hand : Item Pad) (master leg : ℕ) → submission_answered setup (Copies bio master leg (Links hand)) lists Spent
+  a_leg : (bio : Bio) (hand : Item Pad) (master leg : ℕ) → submission_answered setup (Copies bio master leg (Links hand)) lists NoTicket
       ≡ record { doing = Breaks breach.Spent (KeptBio hand ∷ []); lists = lists }
   a_leg bio hand master leg = refl
 
@@ -54,7 +54,7 @@ a_write : (setup : Setup) (writer : ℕ) (todo : Todo) (later : List Todo) (bio 
 a_write setup writer todo later bio vector submission = refl
 
 a_write_without_a_ticket : (setup : Setup) (writer : ℕ) (todo : Todo) (later : List Todo) (bio : Item Pad) (vector : VectorItem) (submission : Submission)
-    → write_answered setup writer (todo ∷ later) (HasBoth bio vector) submission Spent
+    → write_answered setup writer (todo ∷ later) (HasBoth bio vector) submission NoTicket
     ≡ Writer writer (todo ∷ later) (HasBio bio) (record submission { doing = Breaks breach.Spent (KeptVec (filled_vector todo vector) ∷ []) })
 a_write_without_a_ticket setup writer todo later bio vector submission = refl
 
@@ -64,6 +64,6 @@ an_end : (bio : Item Pad) (status : Status) → carried_answered (Brings bio sta
 an_end bio status = refl
 
 a_give : (writer write : ℕ) (parent : Option ℕ) (status : Status) (vector : VectorItem) (bio : Item Pad) (slip : SlipItem)
-    → carried_answered (Carries writer (record { held = record { bio = Some bio; vector = Some vector; slip = Some slip }; parent = parent; write = write; status = status })) Spent
+    → carried_answered (Carries writer (record { held = record { bio = Some bio; vector = Some vector; slip = Some slip }; parent = parent; write = write; status = status })) NoTicket
     ≡ Fails breach.Spent (KeptVec vector ∷ KeptBio bio ∷ KeptSlip slip ∷ [])
 a_give writer write parent status vector bio slip = refl

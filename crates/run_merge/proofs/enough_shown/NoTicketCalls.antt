@@ -10,7 +10,7 @@ use Rattle.run_machine.specs.Objects.{TallyState}
 use Rattle.mempool_core.specs.Pool.{LedgerPool}
 use Rattle.seat_lock.specs.History.{Leads}
 use Rattle.run_machine.specs.Laws.{Object, OfPool, OfRescuer, OfDisk, OfBook, OfTally, OfNone}
-use Rattle.run_machine.specs.Requests.{Request, Reply, TakeBio, TakeVec, TakeSlip, GiveBio, GiveVec, GiveSlip, Punt, Pop, Push, Complete, Link, Drop, Done, Resize, NextRound, LookRound, LookLeft, Missed, Present, LeftOver, Nothing, Spent}
+use Rattle.run_machine.specs.Requests.{Request, Reply, TakeBio, TakeVec, TakeSlip, GiveBio, GiveVec, GiveSlip, Punt, Pop, Push, Complete, Link, Drop, Done, Resize, NextRound, LookRound, LookLeft, Missed, Present, LeftOver, Nothing, NoTicket}
 use Rattle.object_things.specs.Books.{BookLooks}
 use Rattle.object_things.specs.Disks.{DiskLooks}
 use Rattle.object_things.specs.Histories.{Call, FoundNone}
@@ -42,7 +42,7 @@ looks_spent name old new asked reply looks had none = by_test (is_spent reply) r
     by_test false is = absurd (true≢false (sym none ∙ look_keeps name old new asked reply looks is ∙ had))
 
 -- nothing that was served said so
-pub none_served : {X : Type 0} (name : Object) (old new : ThingAt name) (asked : Request) → serves_at name old asked Spent new → X
+pub none_served : {X : Type 0} (name : Object) (old new : ThingAt name) (asked : Request) → serves_at name old asked NoTicket new → X
 none_served (OfPool number) old new asked serves = absurd (pool_unserved old asked new serves)
 none_served (OfRescuer dev) old new asked serves = absurd (list_unserved old asked new serves)
 none_served (OfDisk dev) old new asked serves = absurd (disk_unserved old asked new serves)
@@ -77,39 +77,39 @@ pool_goes old new (TakeBio set waits) (Missed used) looks not_none = refl
 pool_goes old new TakeVec (Missed used) looks not_none = refl
 pool_goes old new (TakeSlip dev) (Missed used) looks not_none = refl
 -- who is told that there was no ticket is left out
-pool_goes old new (TakeBio set waits) Spent looks not_none = absurd (true≢false not_none)
-pool_goes old new TakeVec Spent looks not_none = absurd (true≢false not_none)
-pool_goes old new (TakeSlip dev) Spent looks not_none = absurd (true≢false not_none)
-pool_goes old new (GiveBio bio) Spent looks not_none = absurd (true≢false not_none)
-pool_goes old new (GiveVec vector) Spent looks not_none = absurd (true≢false not_none)
-pool_goes old new (GiveSlip slip) Spent looks not_none = absurd (true≢false not_none)
-pool_goes old new (Resize pool min) Spent looks not_none = absurd (true≢false not_none)
+pool_goes old new (TakeBio set waits) NoTicket looks not_none = absurd (true≢false not_none)
+pool_goes old new TakeVec NoTicket looks not_none = absurd (true≢false not_none)
+pool_goes old new (TakeSlip dev) NoTicket looks not_none = absurd (true≢false not_none)
+pool_goes old new (GiveBio bio) NoTicket looks not_none = absurd (true≢false not_none)
+pool_goes old new (GiveVec vector) NoTicket looks not_none = absurd (true≢false not_none)
+pool_goes old new (GiveSlip slip) NoTicket looks not_none = absurd (true≢false not_none)
+pool_goes old new (Resize pool min) NoTicket looks not_none = absurd (true≢false not_none)
 -- a look at a pool is nothing else
 pool_goes old new asked reply looks not_none = absurd looks
 
 list_goes : (old new : ThingState Rescue) (asked : Request) (reply : Reply) → ListLooks old asked reply new → is_spent reply ≡ false → is_stop asked reply ≡ false
 list_goes old new (Pop dev) Nothing looks not_none = refl
-list_goes old new (Punt dev moved) Spent looks not_none = absurd (true≢false not_none)
-list_goes old new (Pop dev) Spent looks not_none = absurd (true≢false not_none)
+list_goes old new (Punt dev moved) NoTicket looks not_none = absurd (true≢false not_none)
+list_goes old new (Pop dev) NoTicket looks not_none = absurd (true≢false not_none)
 list_goes old new asked reply looks not_none = absurd looks
 
 disk_goes : (old new : ThingState DiskState) (asked : Request) (reply : Reply) → DiskLooks old asked reply new → is_spent reply ≡ false → is_stop asked reply ≡ false
 disk_goes old new (Complete disk) (LeftOver count) looks not_none = refl
 disk_goes old new (Complete disk) Nothing looks not_none = refl
-disk_goes old new (Push bio) Spent looks not_none = absurd (true≢false not_none)
-disk_goes old new (Complete disk) Spent looks not_none = absurd (true≢false not_none)
+disk_goes old new (Push bio) NoTicket looks not_none = absurd (true≢false not_none)
+disk_goes old new (Complete disk) NoTicket looks not_none = absurd (true≢false not_none)
 disk_goes old new asked reply looks not_none = absurd looks
 
 book_goes : (old new : ThingState BookState) (asked : Request) (reply : Reply) → BookLooks old asked reply new → is_spent reply ≡ false → is_stop asked reply ≡ false
-book_goes old new (Link writer opening) Spent looks not_none = absurd (true≢false not_none)
-book_goes old new (Drop writer node status part) Spent looks not_none = absurd (true≢false not_none)
+book_goes old new (Link writer opening) NoTicket looks not_none = absurd (true≢false not_none)
+book_goes old new (Drop writer node status part) NoTicket looks not_none = absurd (true≢false not_none)
 book_goes old new asked reply looks not_none = absurd looks
 
 tally_goes : (old new : ThingState TallyState) (asked : Request) (reply : Reply) → TallyLooks old asked reply new → is_spent reply ≡ false → is_stop asked reply ≡ false
 tally_goes old new LookRound (Present round) looks not_none = refl
 tally_goes old new LookLeft (LeftOver count) looks not_none = refl
-tally_goes old new (Done write status) Spent looks not_none = absurd (true≢false not_none)
-tally_goes old new (NextRound round) Spent looks not_none = absurd (true≢false not_none)
+tally_goes old new (Done write status) NoTicket looks not_none = absurd (true≢false not_none)
+tally_goes old new (NextRound round) NoTicket looks not_none = absurd (true≢false not_none)
 tally_goes old new asked reply looks not_none = absurd looks
 
 look_goes : (name : Object) (old new : ThingState (ThingAt name)) (asked : Request) (reply : Reply) → looks_at name old asked reply new → is_spent reply ≡ false → is_stop asked reply ≡ false

@@ -9,7 +9,7 @@ use Rattle.elem_ledger.specs.Ledger.{LedgerId}
 use Rattle.seat_lock.specs.History.{Leads}
 use Rattle.run_machine.specs.Laws.{Object, OfPool, OfRescuer, OfDisk, OfBook, OfTally, OfNone}
 use Rattle.run_machine.specs.Objects.{TallyState}
-use Rattle.run_machine.specs.Requests.{Request, Reply, Done, NextRound, LookRound, LookLeft, Did, Present, LeftOver, Spent}
+use Rattle.run_machine.specs.Requests.{Request, Reply, Done, NextRound, LookRound, LookLeft, Did, Present, LeftOver, NoTicket}
 use Rattle.object_things.specs.Tallies.{TallyServes, TallyLooks}
 use Rattle.object_things.specs.Histories.{Call, CarriesItsOwn, drawn_in, LeadDrawn}
 use Rattle.object_things.specs.Stamps.{ThingState, StepOf}
@@ -155,8 +155,8 @@ module _ (ledger : ℕ → LedgerId) where
 tally_stays_so : (old new : ThingState TallyState) (asked : Request) (reply : Reply) → TallyLooks old asked reply new → new.object ≡ old.object
 tally_stays_so old new LookRound (Present round) looks = looks.1.0
 tally_stays_so old new LookLeft (LeftOver count) looks = looks.1.0
-tally_stays_so old new (Done write status) Spent looks = looks.0
-tally_stays_so old new (NextRound round) Spent looks = looks.0
+tally_stays_so old new (Done write status) NoTicket looks = looks.0
+tally_stays_so old new (NextRound round) NoTicket looks = looks.0
 tally_stays_so old new asked reply looks = absurd looks
 
 pub tally_drawn : (calls : List Call) (old new : ThingState TallyState) → Leads (answers_at OfTally) old calls new → LeadDrawn TallyServes old.object (drawn_in calls) new.object

@@ -9,7 +9,7 @@ use Rattle.elem_ledger.specs.Ledger.{LedgerId}
 use Rattle.tick_clock.specs.Tickets.{PassState, ticket_numbers}
 use Rattle.run_machine.specs.Laws.{Object, object_of}
 use Rattle.run_machine.specs.Opened.{Scenario, setup, start}
-use Rattle.run_machine.specs.Requests.{Reply, LookLeft, Spent}
+use Rattle.run_machine.specs.Requests.{Reply, LookLeft, NoTicket}
 use Rattle.run_machine.specs.Tasks.{TaskState, look_of}
 use Rattle.task_core.specs.declared.plain.Plain.{Plain}
 use Rattle.object_things.specs.Histories.{Call, drawn_in, LeadDrawn, DrawnRun, IsNextTicket, TicketsRise}
@@ -45,8 +45,8 @@ module _ (s : Scenario) (plain : Plain) (names : List Object) (history : Object 
       p : IsInPlace (setup s) plain names history left tasks pass c name call
       p = in_place (setup s) plain names history left tasks pass c name call there
 
-      spent_is : (reply : Reply) → is_spent reply ≡ true → reply ≡ Spent
-      spent_is Spent is = refl
+      spent_is : (reply : Reply) → is_spent reply ≡ true → reply ≡ NoTicket
+      spent_is NoTicket is = refl
       spent_is reply is = absurd (true≢false (sym is))
 
       by_object : (b : Bool) → p.here.spent ≡ b → call.told.drawn ≡ None → HasLast (ticket_numbers pass.drawn)

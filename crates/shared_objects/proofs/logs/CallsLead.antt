@@ -10,7 +10,7 @@ use Rattle.bio_books.specs.Drops as end
 use Rattle.bio_books.specs.Links.{Made, NoRoom, Stray}
 use Rattle.run_machine.specs.Events.{what_of, resize_of}
 use Rattle.run_machine.specs.Laws.{Object, OfNone, object_of}
-use Rattle.run_machine.specs.Requests.{Request, Reply, TakeBio, TakeVec, TakeSlip, GiveBio, GiveVec, GiveSlip, Punt, Pop, Push, Complete, Link, Drop, Done, Resize, NextRound, LookRound, LookLeft, Rest, LinkedTo, DroppedTo, OutIs, Spent}
+use Rattle.run_machine.specs.Requests.{Request, Reply, TakeBio, TakeVec, TakeSlip, GiveBio, GiveVec, GiveSlip, Punt, Pop, Push, Complete, Link, Drop, Done, Resize, NextRound, LookRound, LookLeft, Rest, LinkedTo, DroppedTo, OutIs, NoTicket}
 use Rattle.run_machine.specs.Scene.{Setup}
 use Rattle.run_machine.specs.Tasks.{TaskState, request, look_of, lets, answered, is_broken}
 use Rattle.object_things.specs.Histories.{Call}
@@ -22,7 +22,7 @@ use Rattle.shared_objects.specs.Led.{CallsLead, task_after, BrokeOff, IsLed, Log
 use Rattle.shared_objects.proofs.steps.BrokenRests.{broken_rests, stop_breaks}
 use Rattle.shared_objects.proofs.steps.GlanceStays.{glance_kinds, stop_struck}
 
-spent_none : (asked : Request) → what_of asked Spent ≡ None
+spent_none : (asked : Request) → what_of asked NoTicket ≡ None
 -- calls of pools, but for resizes
 spent_none (TakeBio set waits) = refl
 spent_none TakeVec = refl
@@ -62,7 +62,7 @@ event_goes (Drop writer node status part) (DroppedTo (end.Stray back)) is = absu
 -- resizes: one that was refused is no event
 event_goes (Resize pool min) (OutIs out) is = resize_goes (out == 0) pool min is
 -- no ticket: no event
-event_goes asked Spent is = absurd (cc (sym (ap is_some (spent_none asked)) ∙ is))
+event_goes asked NoTicket is = absurd (cc (sym (ap is_some (spent_none asked)) ∙ is))
 -- nothing else stops a task
 event_goes asked reply is = refl
 

@@ -15,7 +15,7 @@ use Rattle.tick_clock.specs.Tickets.{PassState}
 use Rattle.task_steps.specs.declared.step.Step.{Step}
 use Rattle.stack_base.specs.declared.ids.DevId.{DevId}
 use Rattle.run_machine.specs.Submissions.{Doing, Rests}
-use Rattle.run_machine.specs.Requests.{Request, Reply, TakeBio, TakeVec, TakeSlip, GiveBio, GiveVec, GiveSlip, Punt, Pop, Push, Complete, Link, Drop, Done, Resize, NextRound, LookRound, LookLeft, Rest, Missed, LinkedTo, DroppedTo, OutIs, LeftOver, Nothing, Spent}
+use Rattle.run_machine.specs.Requests.{Request, Reply, TakeBio, TakeVec, TakeSlip, GiveBio, GiveVec, GiveSlip, Punt, Pop, Push, Complete, Link, Drop, Done, Resize, NextRound, LookRound, LookLeft, Rest, Missed, LinkedTo, DroppedTo, OutIs, LeftOver, Nothing, NoTicket}
 use Rattle.run_machine.specs.declared.event.TaskId.{TaskId}
 use Rattle.run_machine.specs.Events.{id_of, what_of, resize_of}
 use Rattle.run_machine.specs.Laws.{Object, OfNone, object_of}
@@ -92,10 +92,10 @@ resize_stops true pool min is = absurd (cc is)
 resize_stops false pool min is = refl
 
 silent_shows : (setup : Setup) (task next : TaskState) (seen : ℕ) (calls : List Call) (asked : Request) (reply : Reply) → what_of asked reply ≡ None → events_in calls ≡ []
-    → (reply ≡ Spent → request setup next ≡ Rest) → (is_stop asked reply ≡ true → request setup next ≡ Rest)
+    → (reply ≡ NoTicket → request setup next ≡ Rest) → (is_stop asked reply ≡ true → request setup next ≡ Rest)
     → ShowsStep setup task next seen calls (silent_step setup asked reply)
 -- no ticket: the task broke off
-silent_shows setup task next seen calls asked Spent none quiet spent stop = (quiet, spent refl)
+silent_shows setup task next seen calls asked NoTicket none quiet spent stop = (quiet, spent refl)
 -- links, drops and resizes that were refused: the task broke off
 silent_shows setup task next seen calls (Link writer opening) (LinkedTo (NoRoom back)) none quiet spent stop = (quiet, stop refl)
 silent_shows setup task next seen calls (Link writer opening) (LinkedTo (Stray back)) none quiet spent stop = (quiet, stop refl)
@@ -109,7 +109,7 @@ silent_shows setup task next seen calls (TakeSlip dev) (Missed used) none quiet 
 silent_shows setup task next seen calls asked reply none quiet spent stop = quiet
 
 pub shows_step : (setup : Setup) (task next : TaskState) (seen : ℕ) (calls : List Call) (told : Option What) (asked : Request) (reply : Reply) → asked ≡ request setup task
-    → what_of asked reply ≡ told → ShowsEvent told asked reply seen calls → (reply ≡ Spent → request setup next ≡ Rest) → (is_stop asked reply ≡ true → request setup next ≡ Rest)
+    → what_of asked reply ≡ told → ShowsEvent told asked reply seen calls → (reply ≡ NoTicket → request setup next ≡ Rest) → (is_stop asked reply ≡ true → request setup next ≡ Rest)
     → ShowsStep setup task next seen calls (step_by (id_of task) told (silent_step setup asked reply))
 shows_step setup task next seen calls None asked reply same is tells spent stop = silent_shows setup task next seen calls asked reply is tells spent stop
 shows_step setup task next seen calls (Some what) asked reply same is tells spent stop =

@@ -102,7 +102,7 @@ is_event (Stepped event) = true
 is_event step = false
 
 silent_is_none : (setup : Setup) (request : Request) (reply : Reply) → is_event (silent_step setup request reply) ≡ false
-silent_is_none setup request requests.Spent = refl
+silent_is_none setup request requests.NoTicket = refl
 silent_is_none setup (requests.TakeBio set waits) (requests.Missed used) = refl
 silent_is_none setup requests.TakeVec (requests.Missed used) = refl
 silent_is_none setup (requests.TakeSlip dev) (requests.Missed used) = refl

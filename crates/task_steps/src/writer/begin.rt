@@ -54,7 +54,7 @@ pub(crate) enum Attempt {
     // There is none yet.
     Missed,
     // There was no ticket for the call, which was handed nothing.
-    Spent,
+    NoTicket,
 }
 
 // Takes the bio of a write, and waits for it (`bio_alloc_bioset`, `block/bio.c`).
@@ -71,7 +71,7 @@ pub(crate) fn take_bio<O: Objects>(objects: &mut O, number: u32) -> (Attempt, St
         Ok(Taken::Miss { used }) => (Attempt::Missed, missed(task, true, used, pool)),
         Err(nothing) => {
             drop(nothing);
-            (Attempt::Spent, Step::Broken(Breach::Spent))
+            (Attempt::NoTicket, Step::Broken(Breach::Spent))
         }
     }
 }

@@ -1,5 +1,5 @@
 use Rattle.std.proofs.Common.{rules, refl}
-use Rattle.run_machine.specs.Requests.{Did, Spent}
+use Rattle.run_machine.specs.Requests.{Did, NoTicket}
 use Rattle.run_machine.specs.Tasks.{Starts}
 use Rattle.task_steps.specs.Stage.{Owes}
 use Rattle.task_steps.proofs.Asking.{duty_once}
@@ -20,7 +20,7 @@ pub returns-in-Err : goal.returns-in-Err
 returns-in-Err g c = record {
   does = λ later duties. record {
     came = λ setup. duty_once g.O.Objects.serves (Owes (g.O.Objects.stage c.args.objects.now)) setup (Starts c.args.round later) duties _ c.args.objects.now
-        c.next_round.new.self _ Spent (c.in-Err.ensures.serves c.args.round) tt refl (search rules) (search rules);
+        c.next_round.new.self _ NoTicket (c.in-Err.ensures.serves c.args.round) tt refl (search rules) (search rules);
     held = search rules;
     same = search rules;
   };
