@@ -9,7 +9,7 @@ use Rattle.run_machine.specs.Events.{id_of}
 use Rattle.run_machine.specs.Runs.{State, Happens, IsEnabled}
 use Rattle.run_machine.specs.Opened.{most_writers, no_task}
 use Rattle.task_steps.specs.Routed.{Routing, routing_setup}
-use Rattle.task_steps.specs.Within.{TaskFits}
+use Rattle.task_steps.specs.Within.{TaskIsWithin}
 use Rattle.run_machine.specs.declared.event.What.{What}
 use Rattle.plain_core.specs.declared.steps.task.Task.{Task}
 use Rattle.plain_core.specs.steps.Moves.{Submits, PlainTaskMoves}
@@ -58,7 +58,7 @@ AreFound places tasks = (place : ℕ) → place < length tasks → slice_get pla
 -- the tasks are those of the objects' stack, each within it, and each is found
 pub record IsCore (routing : Routing) (objects : CoreObjects) (tasks : List TaskState) (places : List ℕ) : Type 0 where
   pub stack : objects.stack ≡ routing.stack
-  pub fits : All (TaskFits routing.stack) tasks
+  pub fits : All (TaskIsWithin routing.stack) tasks
   pub found : AreFound places tasks
 
 -- the one task of this name

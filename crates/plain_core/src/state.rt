@@ -1,6 +1,6 @@
 //! A state of the machine of a run as a running value.
 ghost use Rattle.std.specs.Prelude.{◌≡◌, ◌<◌, map, length, MatchBool, MatchOption, IfOk};
-ghost use Rattle.task_steps.specs.Within.{TaskFits};
+ghost use Rattle.task_steps.specs.Within.{TaskIsWithin};
 ghost use Rattle.task_core.specs.opened.OfOne.{IsOpened, scenario_in};
 ghost use Rattle.plain_core.specs.steps.Views.{task_of_plain};
 ghost use Rattle.plain_core.specs.opening.Opening.{CanOpen, IsOpenedCore};
@@ -89,7 +89,7 @@ fn step_at(
 ) -> Result<(), CoreFault>
     requires stack { objects.old.stack ≡ routes.now.stack }
     requires place { place < length tasks.old.items }
-    requires fits { TaskFits routes.now.stack (task_at (map task_of_plain tasks.old.items) place) }
+    requires fits { TaskIsWithin routes.now.stack (task_at (map task_of_plain tasks.old.items) place) }
     ensures { StepsAt routes.now objects.old tasks.old.items place what.now result objects.new tasks.new.items }
 {
     let Some(task) = tasks.get_mut(place) else {

@@ -1,6 +1,6 @@
 //! Steps of tasks.
 ghost use Rattle.std.specs.Prelude.{◌≡◌, ◌<◌};
-ghost use Rattle.task_steps.specs.Within.{TaskFits};
+ghost use Rattle.task_steps.specs.Within.{TaskIsWithin};
 ghost use Rattle.plain_core.specs.steps.Views.{task_of_plain, rescuer_of};
 ghost use Rattle.plain_core.specs.steps.Moves.{PlainTaskMoves, RescuerMoves};
 
@@ -35,7 +35,7 @@ pub fn rescuer_step(
     what: &What,
 ) -> Result<(), CoreFault>
     requires stack { objects.old.stack ≡ routes.now.stack }
-    requires fits { TaskFits routes.now.stack (rescuer_of rescuer.old) }
+    requires fits { TaskIsWithin routes.now.stack (rescuer_of rescuer.old) }
     ensures { RescuerMoves routes.now objects.old rescuer.old what.now result objects.new rescuer.new }
 {
     if !rescuer.submission.rests() {
@@ -63,7 +63,7 @@ pub fn task_step(
     what: &What,
 ) -> Result<(), CoreFault>
     requires stack { objects.old.stack ≡ routes.now.stack }
-    requires fits { TaskFits routes.now.stack (task_of_plain task.old) }
+    requires fits { TaskIsWithin routes.now.stack (task_of_plain task.old) }
     ensures { PlainTaskMoves routes.now objects.old task.old what.now result objects.new task.new }
 {
     match task {

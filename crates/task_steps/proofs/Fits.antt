@@ -19,7 +19,7 @@ use Rattle.run_machine.specs.Scene.{Setup, setup_of, keeps_data, is_mirror}
 use Rattle.run_machine.specs.Kept.{Kept}
 use Rattle.run_machine.specs.Submissions.{Takes, Punts, Links, ToPush, ToCut, ToRecord, ToMaster, Doing, Rests, Drives, Copies, Breaks, Submission, landed, asks_at, settled, goes_on, cut_at, legs_of, leg_at, copies, submission_request, after_chain, after_master, after_leg, at_hand, punts_of, spent, submission_answered, is_cut}
 use Rattle.run_machine.specs.Requests.{Reply, HadBio, HadSlip, Missed, Did, LinkedTo, NoTicket}
-use Rattle.task_steps.specs.Within.{IsWithinDevice, IsItemWithin, AreWithin, ListsAreWithin, is_handed_on, DoingFits, SubmissionFits, AskedFits, SubmissionsStayWithin}
+use Rattle.task_steps.specs.Within.{IsWithinDevice, IsItemWithin, AreWithin, ListsAreWithin, is_handed_on, DoingFits, SubmissionIsWithin, AskedFits, SubmissionsStayWithin}
 use Rattle.task_steps.specs.Routed.{sent, IsLanded, IsCutAt}
 use Rattle.task_steps.proofs.Landing.{first_at, lands_within}
 use Rattle.task_steps.proofs.Devices.{cut_is, cut_not_none, leg_there}
@@ -35,7 +35,7 @@ asks_fit stack setup lists item within (Split number kind sizes members) e stays
 
 module _ (stack : Stack) (good : IsStack stack) (places : ℕ → ℕ) where
   -- bios that wait are served one by one
-  pub settled_fits : (items : List (Item Pad)) → AreWithin stack items → SubmissionFits stack (settled (setup_of stack places) items)
+  pub settled_fits : (items : List (Item Pad)) → AreWithin stack items → SubmissionIsWithin stack (settled (setup_of stack places) items)
   settled_fits [] all = record { doing = tt; lists = (All-nil (IsItemWithin stack), All-nil (IsItemWithin stack)) }
   settled_fits (item ∷ waiting) all =
       let first : IsWithinDevice stack item.bio = All-head (IsItemWithin stack) item waiting all in
@@ -47,7 +47,7 @@ module _ (stack : Stack) (good : IsStack stack) (places : ℕ → ℕ) where
         lists = (All-nil (IsItemWithin stack), All-tail (IsItemWithin stack) item waiting all);
       }
 
-  pub goes_on_fits : (dev : DevId) (lists : TaskLists) → ListsAreWithin stack lists → SubmissionFits stack (goes_on (setup_of stack places) dev lists)
+  pub goes_on_fits : (dev : DevId) (lists : TaskLists) → ListsAreWithin stack lists → SubmissionIsWithin stack (goes_on (setup_of stack places) dev lists)
   goes_on_fits dev lists all = settled_fits (order dev lists) (all_ordered (IsItemWithin stack) lists all dev)
 
   -- both parts of a bio that is cut are submitted
@@ -65,13 +65,13 @@ module _ (stack : Stack) (good : IsStack stack) (places : ℕ → ℕ) where
 
   pub cut_fits : (lists : TaskLists) (item hand : Item Pad) (node : ℕ) → ListsAreWithin stack lists → IsWithinDevice stack item.bio
       → is_cut (tree stack item.bio.dev.0) item.bio.range ≡ true
-      → SubmissionFits stack (cut_at (setup_of stack places) lists item hand node (tree stack item.bio.dev.0))
+      → SubmissionIsWithin stack (cut_at (setup_of stack places) lists item hand node (tree stack item.bio.dev.0))
   cut_fits lists item hand node all within more =
       elim (first_at stack good item.bio within) [
         | inl none ↦ absurd (cut_not_none stack item.bio none more)
         | inr first ↦
             let is = cut_is (setup_of stack places) stack good item.bio within first.0 first.1 more in
-            let P : Submission → Type 0 = SubmissionFits stack in
+            let P : Submission → Type 0 = SubmissionIsWithin stack in
             subst P (sym (is.made lists item hand node refl refl))
             (goes_on_fits item.bio.dev _ (parts_within lists item hand node first.0 all is))
       ]
@@ -86,12 +86,12 @@ module _ (stack : Stack) (good : IsStack stack) (places : ℕ → ℕ) where
       subst P (sym (made.1.made_is hand)) (record { device = w.device; some = w.some; within = w.within })
 
   pub copies_fit : (lists : TaskLists) (bio : Bio) (master leg : ℕ) → ListsAreWithin stack lists → IsWithinDevice stack bio
-      → leg ≤ legs_of (tree stack bio.dev.0) → SubmissionFits stack (copies (setup_of stack places) lists bio master leg)
+      → leg ≤ legs_of (tree stack bio.dev.0) → SubmissionIsWithin stack (copies (setup_of stack places) lists bio master leg)
   copies_fit lists bio master leg all within le = by_test (leg == legs_of (tree stack bio.dev.0)) refl
     where
-      by_test : (b : Bool) → (leg == legs_of (tree stack bio.dev.0)) ≡ b → SubmissionFits stack (copies (setup_of stack places) lists bio master leg)
+      by_test : (b : Bool) → (leg == legs_of (tree stack bio.dev.0)) ≡ b → SubmissionIsWithin stack (copies (setup_of stack places) lists bio master leg)
       by_test true e =
-          let P : Submission → Type 0 = SubmissionFits stack in
+          let P : Submission → Type 0 = SubmissionIsWithin stack in
           rw e (goes_on_fits bio.dev lists all)
       by_test false e =
           let other : leg ≢ legs_of (tree stack bio.dev.0) = λ same. absurd (search (e, same, arith)) in
@@ -99,20 +99,20 @@ module _ (stack : Stack) (good : IsStack stack) (places : ℕ → ℕ) where
 
   -- a node was made, or was not
   pub chain_fits : (lists : TaskLists) (item hand : Item Pad) (answer : Linked) → ListsAreWithin stack lists → IsWithinDevice stack item.bio
-      → is_cut (tree stack item.bio.dev.0) item.bio.range ≡ true → SubmissionFits stack (after_chain (setup_of stack places) lists item hand answer)
+      → is_cut (tree stack item.bio.dev.0) item.bio.range ≡ true → SubmissionIsWithin stack (after_chain (setup_of stack places) lists item hand answer)
   chain_fits lists item hand (Made node) all within more = cut_fits lists item hand node all within more
   chain_fits lists item hand (NoRoom back) all within more = record { doing = tt; lists = all }
   chain_fits lists item hand (Stray back) all within more = record { doing = tt; lists = all }
 
   pub master_fits : (lists : TaskLists) (bio : Bio) (answer : Linked) → ListsAreWithin stack lists → IsWithinDevice stack bio
-      → SubmissionFits stack (after_master (setup_of stack places) lists bio answer)
+      → SubmissionIsWithin stack (after_master (setup_of stack places) lists bio answer)
   master_fits lists bio (Made node) all within = copies_fit lists bio node 0 all within (omega arith)
   master_fits lists bio (NoRoom back) all within = record { doing = tt; lists = all }
   master_fits lists bio (Stray back) all within = record { doing = tt; lists = all }
 
   pub leg_fits : (lists : TaskLists) (bio : Bio) (master leg : ℕ) (hand : Item Pad) (answer : Linked) → ListsAreWithin stack lists
       → IsWithinDevice stack bio → leg < legs_of (tree stack bio.dev.0)
-      → SubmissionFits stack (after_leg (setup_of stack places) lists bio master leg hand answer)
+      → SubmissionIsWithin stack (after_leg (setup_of stack places) lists bio master leg hand answer)
   leg_fits lists bio master leg hand (Made node) all within lt =
       let made : Item Pad = leg_at bio hand leg node (tree stack bio.dev.0) in
       copies_fit (submitted made lists) bio master (leg + 1)
@@ -121,13 +121,13 @@ module _ (stack : Stack) (good : IsStack stack) (places : ℕ → ℕ) where
   leg_fits lists bio master leg hand (Stray back) all within lt = record { doing = tt; lists = all }
 
   -- where there was no ticket
-  spent_fits : (kept : List Kept) (lists : TaskLists) (punts : Option DevId) → ListsAreWithin stack lists → SubmissionFits stack (spent kept lists punts)
+  spent_fits : (kept : List Kept) (lists : TaskLists) (punts : Option DevId) → ListsAreWithin stack lists → SubmissionIsWithin stack (spent kept lists punts)
   spent_fits kept lists None all = record { doing = tt; lists = all }
   spent_fits kept lists (Some dev) all = record { doing = tt; lists = all_unpunted (IsItemWithin stack) lists all dev }
 
   -- so whatever is replied
   pub submission_fits : (doing : Doing) (lists : TaskLists) (reply : Reply) → DoingFits stack doing → ListsAreWithin stack lists
-      → SubmissionFits stack (submission_answered (setup_of stack places) doing lists reply)
+      → SubmissionIsWithin stack (submission_answered (setup_of stack places) doing lists reply)
   -- without a ticket
   submission_fits doing lists NoTicket fits all = spent_fits (at_hand doing) lists (punts_of doing) all
   -- a push

@@ -14,7 +14,7 @@ use Rattle.run_machine.specs.Scene.{setup_of}
 use Rattle.run_machine.specs.Submissions.{Doing, Rests, Submission}
 use Rattle.run_machine.specs.Tasks.{Todo, Gathered, NoBio, HasBio, HasBoth, Carried, Empty, Brings, Carries, Fails, Duty, Resizes, Starts, Keeping, Keeps, Stops, TaskState, Writer, Rescuer, Completer, Keeper, needs_vector, filled, filled_short, with_bio, write_request, writer_request, rescuer_request, closed_request, carried_request, keeper_request, duty_request, request, begins, write_answered, writer_answered, rescuer_answered, answered}
 use Rattle.run_machine.specs.Requests.{Reply, HadBio, HadVec, Popped, LinkedTo, NoTicket}
-use Rattle.task_steps.specs.Within.{IsWithinDevice, IsItemWithin, SubmissionFits, DoingFits, TaskFits, AskedFits, ReplyFits, TasksStayWithin}
+use Rattle.task_steps.specs.Within.{IsWithinDevice, IsItemWithin, SubmissionIsWithin, DoingFits, TaskIsWithin, AskedFits, ReplyFits, TasksStayWithin}
 use Rattle.task_steps.proofs.Fits.{settled_fits, submission_fits, submission_asks}
 
 -- the writes of a task
@@ -24,8 +24,8 @@ IsTodo stack todo = IsWrite stack todo.write
 module _ (stack : Stack) (good : IsStack stack) (places : ℕ → ℕ) where
   -- a write begins
   pub begins_fits : (writer : ℕ) (later : List Todo) (bio : ℕ → Item Pad) (taken : Gathered) (todo : Todo) (submission : Submission) (answer : Linked)
-      → ((node : ℕ) → IsWithinDevice stack (bio node).bio) → All (IsTodo stack) (todo ∷ later) → SubmissionFits stack submission
-      → TaskFits stack (begins (setup_of stack places) writer later bio taken todo submission answer)
+      → ((node : ℕ) → IsWithinDevice stack (bio node).bio) → All (IsTodo stack) (todo ∷ later) → SubmissionIsWithin stack submission
+      → TaskIsWithin stack (begins (setup_of stack places) writer later bio taken todo submission answer)
   begins_fits writer later bio taken todo submission (Made node) within all fits = (
     All-tail (IsTodo stack) todo later all,
     settled_fits stack good places (bio node ∷ []) (All-cons (IsItemWithin stack) (bio node) [] (within node) (All-nil (IsItemWithin stack))),
@@ -33,8 +33,8 @@ module _ (stack : Stack) (good : IsStack stack) (places : ℕ → ℕ) where
   begins_fits writer later bio taken todo submission (NoRoom back) within all fits = (all, record { doing = tt; lists = fits.lists })
   begins_fits writer later bio taken todo submission (Stray back) within all fits = (all, record { doing = tt; lists = fits.lists })
 
-  write_fits : (writer : ℕ) (todos : List Todo) (taken : Gathered) (submission : Submission) (reply : Reply) → All (IsTodo stack) todos → SubmissionFits stack submission
-      → TaskFits stack (write_answered (setup_of stack places) writer todos taken submission reply)
+  write_fits : (writer : ℕ) (todos : List Todo) (taken : Gathered) (submission : Submission) (reply : Reply) → All (IsTodo stack) todos → SubmissionIsWithin stack submission
+      → TaskIsWithin stack (write_answered (setup_of stack places) writer todos taken submission reply)
   write_fits writer todos taken submission NoTicket all fits = (all, record { doing = tt; lists = fits.lists })
   write_fits writer (todo ∷ later) NoBio submission (HadBio got bio) all fits = (all, fits)
   write_fits writer (todo ∷ later) (HasBio bio) submission (HadVec got vector) all fits = (all, fits)
@@ -49,22 +49,22 @@ module _ (stack : Stack) (good : IsStack stack) (places : ℕ → ℕ) where
   write_fits writer todos taken submission _ all fits = (all, fits)
 
   writer_fits : (writer : ℕ) (todos : List Todo) (taken : Gathered) (doing : Doing) (submission : Submission) (reply : Reply) → All (IsTodo stack) todos
-      → DoingFits stack doing → SubmissionFits stack submission
-      → TaskFits stack (writer_answered (setup_of stack places) writer todos taken doing submission reply)
+      → DoingFits stack doing → SubmissionIsWithin stack submission
+      → TaskIsWithin stack (writer_answered (setup_of stack places) writer todos taken doing submission reply)
   writer_fits writer todos taken Rests submission reply all doing_fits fits = write_fits writer todos taken submission reply all fits
   writer_fits writer todos taken doing submission reply all doing_fits fits =
       (all, submission_fits stack good places doing submission.lists reply doing_fits fits.lists)
 
-  rescuer_fits : (dev : DevId) (doing : Doing) (submission : Submission) (reply : Reply) → DoingFits stack doing → SubmissionFits stack submission → ReplyFits stack reply
-      → TaskFits stack (rescuer_answered (setup_of stack places) dev doing submission reply)
+  rescuer_fits : (dev : DevId) (doing : Doing) (submission : Submission) (reply : Reply) → DoingFits stack doing → SubmissionIsWithin stack submission → ReplyFits stack reply
+      → TaskIsWithin stack (rescuer_answered (setup_of stack places) dev doing submission reply)
   rescuer_fits dev Rests submission (Popped bio) doing_fits fits within =
       settled_fits stack good places (bio ∷ []) (All-cons (IsItemWithin stack) bio [] within (All-nil (IsItemWithin stack)))
   rescuer_fits dev Rests submission NoTicket doing_fits fits within = record { doing = tt; lists = fits.lists }
   rescuer_fits dev Rests submission _ doing_fits fits within = fits
   rescuer_fits dev doing submission reply doing_fits fits within = submission_fits stack good places doing submission.lists reply doing_fits fits.lists
 
-  task_fits : (task : TaskState) (reply : Reply) → TaskFits stack task → ReplyFits stack reply
-      → TaskFits stack (answered (setup_of stack places) task reply)
+  task_fits : (task : TaskState) (reply : Reply) → TaskIsWithin stack task → ReplyFits stack reply
+      → TaskIsWithin stack (answered (setup_of stack places) task reply)
   task_fits (Writer number todo taken submission) reply fits within = writer_fits number todo taken submission.doing submission reply fits.0 fits.1.doing fits.1
   task_fits (Rescuer dev submission) reply fits within = rescuer_fits dev submission.doing submission reply fits.doing fits within
   task_fits (Completer disk carried) reply fits within = tt
@@ -81,12 +81,12 @@ write_asks stack writer (todo ∷ later) NoBio = tt
 write_asks stack writer (todo ∷ later) (HasBio bio) = with_bio_asks stack writer (needs_vector todo.write) todo
 write_asks stack writer (todo ∷ later) (HasBoth bio vector) = tt
 
-writer_asks : (stack : Stack) (places : ℕ → ℕ) (writer : ℕ) (todos : List Todo) (taken : Gathered) (doing : Doing) (submission : Submission) → SubmissionFits stack submission
+writer_asks : (stack : Stack) (places : ℕ → ℕ) (writer : ℕ) (todos : List Todo) (taken : Gathered) (doing : Doing) (submission : Submission) → SubmissionIsWithin stack submission
     → AskedFits stack (writer_request (setup_of stack places) writer todos taken doing submission)
 writer_asks stack places writer todos taken Rests submission fits = write_asks stack writer todos taken
 writer_asks stack places writer todos taken doing submission fits = submission_asks stack places doing submission.lists fits.lists
 
-rescuer_asks : (stack : Stack) (places : ℕ → ℕ) (dev : DevId) (doing : Doing) (submission : Submission) → SubmissionFits stack submission
+rescuer_asks : (stack : Stack) (places : ℕ → ℕ) (dev : DevId) (doing : Doing) (submission : Submission) → SubmissionIsWithin stack submission
     → AskedFits stack (rescuer_request (setup_of stack places) dev doing submission)
 rescuer_asks stack places dev Rests submission fits = tt
 rescuer_asks stack places dev doing submission fits = submission_asks stack places doing submission.lists fits.lists
@@ -115,7 +115,7 @@ keeper_asks stack (Keeps []) = tt
 keeper_asks stack (Keeps (duty ∷ duties)) = duty_asks stack duty
 keeper_asks stack (Stops breach) = tt
 
-task_asks : (stack : Stack) (places : ℕ → ℕ) (task : TaskState) → TaskFits stack task → AskedFits stack (request (setup_of stack places) task)
+task_asks : (stack : Stack) (places : ℕ → ℕ) (task : TaskState) → TaskIsWithin stack task → AskedFits stack (request (setup_of stack places) task)
 task_asks stack places (Writer number todo taken submission) fits = writer_asks stack places number todo taken submission.doing submission fits.1
 task_asks stack places (Rescuer dev submission) fits = rescuer_asks stack places dev submission.doing submission fits
 task_asks stack places (Completer disk carried) fits = carried_asks stack disk carried

@@ -11,7 +11,7 @@ use Rattle.run_machine.specs.Submissions.{Want, Takes, Punts, Links, Driving, To
 use Rattle.run_machine.specs.Tasks.{Todo, Gathered, NoBio, HasBio, HasBoth, Carried, Empty, Brings, Carries, Fails, Duty, Resizes, Starts, Keeping, Keeps, Stops, TaskState, Writer, Rescuer, Completer, Keeper, request, answered}
 use Rattle.task_steps.specs.Routed.{routing_setup}
 use Rattle.task_steps.specs.Stage.{Stage, has_book, has_rescuer, has_disk, is_pool, is_bios, is_vecs, is_slips, IsHome, ClosedFits, RequestFits, Owes}
-use Rattle.task_steps.specs.Within.{SubmissionFits}
+use Rattle.task_steps.specs.Within.{SubmissionIsWithin}
 
 -- a bio of a writer with a book, in an element at home
 pub record IsOwned (stage : Stage) (item : Item Pad) : Type 0 where
@@ -39,7 +39,7 @@ DoingIsHome stage (Copies bio master leg want) = IsTrue (has_book stage bio.writ
 
 -- a submission whose bios can all be served
 pub record IsSubmissionOf (stage : Stage) (submission : Submission) : Type 0 where
-  pub fits : SubmissionFits stage.routing.stack submission
+  pub fits : SubmissionIsWithin stage.routing.stack submission
   pub doing : DoingIsHome stage submission.doing
   pub list0 : All (IsOwned stage) submission.lists.list0
   pub list1 : All (IsOwned stage) submission.lists.list1

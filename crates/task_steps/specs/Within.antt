@@ -60,16 +60,16 @@ DoingFits stack (Drives item ask) = IsWithinDevice stack item.bio × AskFits (tr
 DoingFits stack (Copies bio master leg want) = IsWithinDevice stack bio × (leg < legs_of (tree stack bio.dev.0))
 
 -- a submission whose bios are all within their devices
-pub record SubmissionFits (stack : Stack) (submission : Submission) : Type 0 where
+pub record SubmissionIsWithin (stack : Stack) (submission : Submission) : Type 0 where
   pub doing : DoingFits stack submission.doing
   pub lists : ListsAreWithin stack submission.lists
 
 -- a task whose bios are all within their devices, as its writes are
-abbrev pub TaskFits : Stack → TaskState → Type 0
-TaskFits stack (Writer number todo taken submission) = All (λ (todo : Todo). IsWrite stack todo.write) todo × SubmissionFits stack submission
-TaskFits stack (Rescuer dev submission) = SubmissionFits stack submission
-TaskFits stack (Completer disk carried) = Unit {0}
-TaskFits stack (Keeper keeping) = Unit {0}
+abbrev pub TaskIsWithin : Stack → TaskState → Type 0
+TaskIsWithin stack (Writer number todo taken submission) = All (λ (todo : Todo). IsWrite stack todo.write) todo × SubmissionIsWithin stack submission
+TaskIsWithin stack (Rescuer dev submission) = SubmissionIsWithin stack submission
+TaskIsWithin stack (Completer disk carried) = Unit {0}
+TaskIsWithin stack (Keeper keeping) = Unit {0}
 
 -- what a task hands to a rescuer, and what a rescuer takes
 abbrev pub AskedFits : Stack → Request → Type 0
@@ -83,15 +83,15 @@ ReplyFits stack reply = Unit {0}
 -- A submission of such bios stays one, whatever is replied: no element that is taken has a run of its own. What it punts is within too.
 pub record SubmissionsStayWithin : Type 0 where
   pub settles : (stack : Stack) (places : ℕ → ℕ) (items : List (Item Pad)) → IsStack stack → AreWithin stack items
-      → SubmissionFits stack (settled (setup_of stack places) items)
-  pub goes_on : (stack : Stack) (places : ℕ → ℕ) (submission : Submission) (reply : Reply) → IsStack stack → SubmissionFits stack submission
-      → SubmissionFits stack (submission_answered (setup_of stack places) submission.doing submission.lists reply)
-  pub asks : (stack : Stack) (places : ℕ → ℕ) (submission : Submission) → SubmissionFits stack submission
+      → SubmissionIsWithin stack (settled (setup_of stack places) items)
+  pub goes_on : (stack : Stack) (places : ℕ → ℕ) (submission : Submission) (reply : Reply) → IsStack stack → SubmissionIsWithin stack submission
+      → SubmissionIsWithin stack (submission_answered (setup_of stack places) submission.doing submission.lists reply)
+  pub asks : (stack : Stack) (places : ℕ → ℕ) (submission : Submission) → SubmissionIsWithin stack submission
       → AskedFits stack (submission_request (setup_of stack places) submission.doing submission.lists)
 
 -- so a task of such bios stays one, if a rescuer takes none but such, and what it punts is such
 pub record TasksStayWithin : Type 0 where
-  pub goes_on : (stack : Stack) (places : ℕ → ℕ) (task : TaskState) (reply : Reply) → IsStack stack → TaskFits stack task → ReplyFits stack reply
-      → TaskFits stack (answered (setup_of stack places) task reply)
-  pub asks : (stack : Stack) (places : ℕ → ℕ) (task : TaskState) → TaskFits stack task
+  pub goes_on : (stack : Stack) (places : ℕ → ℕ) (task : TaskState) (reply : Reply) → IsStack stack → TaskIsWithin stack task → ReplyFits stack reply
+      → TaskIsWithin stack (answered (setup_of stack places) task reply)
+  pub asks : (stack : Stack) (places : ℕ → ℕ) (task : TaskState) → TaskIsWithin stack task
       → AskedFits stack (request (setup_of stack places) task)

@@ -31,7 +31,7 @@ use Rattle.task_steps.specs.Routed.{Routing, places_at, routing_setup}
 use Rattle.run_machine.specs.Scene.{is_disk, keeps_data, setup_of}
 use Rattle.run_machine.specs.Tasks.{Duty, TaskState, Writer, Rescuer, Completer, Keeper, Keeps, NoBio, Empty}
 use Rattle.run_machine.specs.Scenario.{scenario_by}
-use Rattle.task_steps.specs.Within.{AreWithin, IsItemWithin, SubmissionFits, TaskFits}
+use Rattle.task_steps.specs.Within.{AreWithin, IsItemWithin, SubmissionIsWithin, TaskIsWithin}
 use Rattle.plain_core.specs.Cores.{CoreState, AreFound, IsCore}
 use Rattle.plain_core.specs.objects.Ledgers.{ledger_of}
 use Rattle.plain_core.specs.opening.Opening.{core_objects_of, CanOpen, IsOpenedCore, new_book, new_books, new_disk, new_disks, new_pool, new_pools}
@@ -113,12 +113,12 @@ module _ (stack : Stack) (scripts : List (PoolId × Answers)) where
 pub round_count : (rounds left : List ℕ) → left ≡ left_in rounds → length left ≡ rounds_in rounds
 round_count rounds left is = ap length is ∙ length-map-range_with_len (in_round rounds) 0 (rounds_in rounds)
 
-rest_fits : (stack : Stack) → SubmissionFits stack rests
+rest_fits : (stack : Stack) → SubmissionIsWithin stack rests
 rest_fits stack = record { doing = tt; lists = (All-nil (IsItemWithin stack), All-nil (IsItemWithin stack)) }
 
-keeper_fits : (stack : Stack) (duties : List Duty) → All (TaskFits stack) (keepers duties)
-keeper_fits stack [] = All-nil (TaskFits stack)
-keeper_fits stack (duty ∷ duties) = All-cons (TaskFits stack) (Keeper (Keeps (duty ∷ duties))) [] tt (All-nil (TaskFits stack))
+keeper_fits : (stack : Stack) (duties : List Duty) → All (TaskIsWithin stack) (keepers duties)
+keeper_fits stack [] = All-nil (TaskIsWithin stack)
+keeper_fits stack (duty ∷ duties) = All-cons (TaskIsWithin stack) (Keeper (Keeps (duty ∷ duties))) [] tt (All-nil (TaskIsWithin stack))
 
 module _ (stack : Stack) (scripts : List (PoolId × Answers)) (work : Work) (can : CanOpen stack scripts work) where
   abbrev s : Scenario
@@ -189,16 +189,16 @@ module _ (stack : Stack) (scripts : List (PoolId × Answers)) (work : Work) (can
         }
 
   -- all tasks are within the stack
-  tasks_fit : All (TaskFits stack) (tasks s)
+  tasks_fit : All (TaskIsWithin stack) (tasks s)
   tasks_fit =
       let devs = range_with_len 0 (setup s).count in
-      All-append (TaskFits stack) (map (λ writer. Writer writer (todos_of s writer) NoBio rests) (writers s)) _
-      (All-map (TaskFits stack) (λ writer. Writer writer (todos_of s writer) NoBio rests) (writers s)
+      All-append (TaskIsWithin stack) (map (λ writer. Writer writer (todos_of s writer) NoBio rests) (writers s)) _
+      (All-map (TaskIsWithin stack) (λ writer. Writer writer (todos_of s writer) NoBio rests) (writers s)
       (λ k d lt. (share_served stack work.rounds.items work.writes.items shared _, rest_fits stack)))
-      (All-append (TaskFits stack) (map (λ dev. Rescuer (at dev) rests) (filter (setup s).rescuer devs)) _
-      (All-map (TaskFits stack) (λ dev. Rescuer (at dev) rests) (filter (setup s).rescuer devs) (λ k d lt. rest_fits stack))
-      (All-append (TaskFits stack) (map (λ dev. Completer (at dev) Empty) (filter (is_disk (setup s)) devs)) (keepers (duties s))
-      (All-map (TaskFits stack) (λ dev. Completer (at dev) Empty) (filter (is_disk (setup s)) devs) (λ k d lt. tt))
+      (All-append (TaskIsWithin stack) (map (λ dev. Rescuer (at dev) rests) (filter (setup s).rescuer devs)) _
+      (All-map (TaskIsWithin stack) (λ dev. Rescuer (at dev) rests) (filter (setup s).rescuer devs) (λ k d lt. rest_fits stack))
+      (All-append (TaskIsWithin stack) (map (λ dev. Completer (at dev) Empty) (filter (is_disk (setup s)) devs)) (keepers (duties s))
+      (All-map (TaskIsWithin stack) (λ dev. Completer (at dev) Empty) (filter (is_disk (setup s)) devs) (λ k d lt. tt))
       (keeper_fits stack (duties s))))
 
   -- the core keeps what it stands on
@@ -206,6 +206,6 @@ module _ (stack : Stack) (scripts : List (PoolId × Answers)) (work : Work) (can
       → all ≡ tasks s → AreFound places all → IsCore routing plain all places
   is_core routing plain all places is_routing is_objects is_all found = record {
     stack = is_objects ∙ sym is_routing;
-    fits = subst (λ st. All (TaskFits st) all) (sym is_routing) (subst (All (TaskFits stack)) (sym is_all) tasks_fit);
+    fits = subst (λ st. All (TaskIsWithin st) all) (sym is_routing) (subst (All (TaskIsWithin stack)) (sym is_all) tasks_fit);
     found = found;
   }

@@ -18,7 +18,7 @@ use Rattle.elem_ledger.specs.Ledger.{LedgerId}
 use Rattle.run_machine.proofs.Frames.{one_object_changes}
 use Rattle.run_machine.proofs.OneState.{id_stays, steps_one}
 use Rattle.task_steps.specs.Routed.{Routing, routing_setup, places_at}
-use Rattle.task_steps.specs.Within.{AreWithin, TaskFits, ReplyFits, TasksStayWithin}
+use Rattle.task_steps.specs.Within.{AreWithin, TaskIsWithin, ReplyFits, TasksStayWithin}
 use Rattle.plain_core.specs.objects.Ledgers.{ledger_of}
 use Rattle.plain_core.specs.declared.steps.task.Task.{Task}
 use Rattle.plain_core.specs.declared.fault.CoreFault.{CoreFault}
@@ -95,12 +95,12 @@ after_id r old new before after what (Err fault.NotEnabled) m = ap id_of m.1
 after_id r old new before after what (Err fault.Memory) m = ap id_of m.1
 
 after_fits : (r : Routing) (old new : CoreObjects) (before after : task.TaskState) (what : What) (result : Result (Unit {0}) CoreFault) → TasksStayWithin → IsStack r.stack
-    → ((dev : ℕ) → AreWithin r.stack (core_rescue_at old dev)) → TaskFits r.stack before → TaskMoves r old before what result new after → TaskFits r.stack after
+    → ((dev : ℕ) → AreWithin r.stack (core_rescue_at old dev)) → TaskIsWithin r.stack before → TaskMoves r old before what result new after → TaskIsWithin r.stack after
 after_fits r old new before after what (Ok d) law stack within fits m =
-    subst (TaskFits r.stack) (sym m.3)
+    subst (TaskIsWithin r.stack) (sym m.3)
     (law.goes_on r.stack (places_at r.places) before m.0 stack fits (reply_fits r.stack old (task.request (routing_setup r) before) m.0 (objects_of_core new) within m.2.serves))
-after_fits r old new before after what (Err fault.NotEnabled) law stack within fits m = subst (TaskFits r.stack) (sym m.1) fits
-after_fits r old new before after what (Err fault.Memory) law stack within fits m = subst (TaskFits r.stack) (sym m.1) fits
+after_fits r old new before after what (Err fault.NotEnabled) law stack within fits m = subst (TaskIsWithin r.stack) (sym m.1) fits
+after_fits r old new before after what (Err fault.Memory) law stack within fits m = subst (TaskIsWithin r.stack) (sym m.1) fits
 
 after_stack : (r : Routing) (old new : CoreObjects) (before after : task.TaskState) (what : What) (result : Result (Unit {0}) CoreFault) → TaskMoves r old before what result new after → new.stack ≡ old.stack
 after_stack r old new before after what (Ok d) m = m.2.stack
@@ -113,14 +113,14 @@ pub core_kept : (r : Routing) (old new : CoreObjects) (tasks rest : List task.Ta
 core_kept r old new tasks rest places place what result law stack kept core here s =
     let one = task_at rest place in
     let within = subst (λ (k : Stack). (dev : ℕ) → AreWithin k (core_rescue_at old dev)) core.stack kept.within in
-    let fits : TaskFits r.stack one = after_fits r old new (task_at tasks place) one what result law stack within (core.fits place no_task here) s.moves in
+    let fits : TaskIsWithin r.stack one = after_fits r old new (task_at tasks place) one what result law stack within (core.fits place no_task here) s.moves in
     let same : id_of one ≡ id_of (task_at tasks place) = after_id r old new (task_at tasks place) one what result s.moves in
     let long : length rest ≡ length tasks = ap length s.others ∙ length-set tasks place one in
     record {
       stack = after_stack r old new (task_at tasks place) one what result s.moves ∙ core.stack;
-      fits = λ k d lt. subst (λ l. TaskFits r.stack (slice_index_or l k d)) (sym s.others) (elim (at_set tasks place k one d) [
-        | inl at ↦ subst (TaskFits r.stack) (sym at.1) fits
-        | inr other ↦ subst (TaskFits r.stack) (sym other) (core.fits k d (omega (arith, lt, long)))
+      fits = λ k d lt. subst (λ l. TaskIsWithin r.stack (slice_index_or l k d)) (sym s.others) (elim (at_set tasks place k one d) [
+        | inl at ↦ subst (TaskIsWithin r.stack) (sym at.1) fits
+        | inr other ↦ subst (TaskIsWithin r.stack) (sym other) (core.fits k d (omega (arith, lt, long)))
       ]);
       found = λ k lt. subst (λ l. slice_get places (slot_of (id_of (task_at l k))) ≡ Some k) (sym s.others) (elim (at_set tasks place k one no_task) [
         | inl at ↦ ap (λ t. slice_get places (slot_of (id_of t))) at.1 ∙ ap (λ i. slice_get places (slot_of i)) same ∙ core.found place here ∙ ap Some (sym at.0)

@@ -4,7 +4,7 @@ ghost use Rattle.run_machine.specs.Submissions.{goes_on};
 ghost use Rattle.task_steps.specs.Answers.{AsksFirst};
 ghost use Rattle.task_steps.specs.Routed.{routing_setup};
 ghost use Rattle.task_steps.specs.DriverSteps.{routed_landing};
-ghost use Rattle.task_steps.specs.Within.{IsWithinDevice, ListsAreWithin, DoingFits, SubmissionFits};
+ghost use Rattle.task_steps.specs.Within.{IsWithinDevice, ListsAreWithin, DoingFits, SubmissionIsWithin};
 ghost use Rattle.plain_core.specs.objects.Lists.{lists_of, ListsHaveCapacity};
 ghost use Rattle.plain_core.specs.steps.Views.{ask_of_plain, doing_of_plain, submission_of_plain, want_of_plain};
 ghost use Rattle.plain_core.specs.declared.steps.submission.Continuation.TheVariants as then;
@@ -166,7 +166,7 @@ pub fn submission_step(
     what: &What,
 ) -> Result<(), CoreFault>
     requires stack { objects.old.stack ≡ routes.now.stack }
-    requires fits { SubmissionFits routes.now.stack (submission_of_plain submission.old) }
+    requires fits { SubmissionIsWithin routes.now.stack (submission_of_plain submission.old) }
     ensures { PlainSubmissionMoves routes.now objects.old submission.old what.now result objects.new submission.new }
 {
     match answer(

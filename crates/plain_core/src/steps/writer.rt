@@ -4,7 +4,7 @@ ghost use Rattle.layout_model.specs.Writes.{IsWrite};
 ghost use Rattle.run_machine.specs.Submissions.{settled, Rests as AtRest};
 ghost use Rattle.task_steps.specs.Routed.{routing_setup};
 ghost use Rattle.run_machine.specs.Tasks.{needs_vector, NoBio, HasBio, HasBoth};
-ghost use Rattle.task_steps.specs.Within.{IsWithinDevice, TaskFits};
+ghost use Rattle.task_steps.specs.Within.{IsWithinDevice, TaskIsWithin};
 ghost use Rattle.plain_core.specs.steps.Views.{submission_of_plain, doing_of_plain, gathered_of_plain, writer_of};
 ghost use Rattle.plain_core.specs.steps.Moves.{NeedsVector, begun_with, WriterMoves, WriterMovesFor};
 ghost use Rattle.plain_core.specs.steps.Takes.{TakesVector};
@@ -169,7 +169,7 @@ fn write_step(
     what: &What,
 ) -> Result<(), CoreFault>
     requires rests { doing_of_plain writer.old.submission.doing ≡ AtRest }
-    requires fits { TaskFits routes.now.stack (writer_of writer.old) }
+    requires fits { TaskIsWithin routes.now.stack (writer_of writer.old) }
     ensures { WriterMoves routes.now objects.old writer.old what.now result objects.new writer.new }
 {
     let Some(next) = writer.todo.first() else {
@@ -202,7 +202,7 @@ pub fn writer_step(
     what: &What,
 ) -> Result<(), CoreFault>
     requires stack { objects.old.stack ≡ routes.now.stack }
-    requires fits { TaskFits routes.now.stack (writer_of writer.old) }
+    requires fits { TaskIsWithin routes.now.stack (writer_of writer.old) }
     ensures { WriterMoves routes.now objects.old writer.old what.now result objects.new writer.new }
 {
     if !writer.submission.rests() {

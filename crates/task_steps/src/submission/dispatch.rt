@@ -3,7 +3,7 @@ ghost use Rattle.std.specs.Prelude.{◌≡◌, ◌<◌, length, true, None};
 ghost use Rattle.bio_records.specs.Items.{item_of, IsAlone};
 ghost use Rattle.run_machine.specs.Submissions.{Rests, Drives, goes_on, is_cut};
 ghost use Rattle.task_steps.specs.declared.submission.Doing.TheVariants as doing';
-ghost use Rattle.task_steps.specs.Within.{IsWithinDevice, ListsAreWithin, DoingFits, SubmissionFits};
+ghost use Rattle.task_steps.specs.Within.{IsWithinDevice, ListsAreWithin, DoingFits, SubmissionIsWithin};
 ghost use Rattle.task_steps.specs.Routed.{routing_setup, routed_tree};
 ghost use Rattle.task_steps.specs.SubmissionViews.{asking, cutting, copying, attempt_of, ask_of, doing_of, submission_of, IsWantAlone, IsAskOfAlone, IsDoingAlone, is_asking};
 ghost use Rattle.task_steps.specs.Answers.{AsksFirst, SubmissionReady};
@@ -158,7 +158,7 @@ pub(crate) fn turn<O: Objects>(
     requires asks { is_asking (doing_of doing) ≡ true }
     requires rests { at.old ≡ doing'.Rests }
     requires no_attempt { attempt_of (doing_of doing) ≡ None }
-    requires within { SubmissionFits routes.now.stack (submission_of doing lists.old) }
+    requires within { SubmissionIsWithin routes.now.stack (submission_of doing lists.old) }
     ensures does { TurnDoes O.Objects routes.now task doing lists.old objects.old (at.new, result) lists.new objects.new }
     ensures alone { IsDoingAlone at.new }
 {
