@@ -14,7 +14,7 @@ use Rattle.bio_books.specs.Links.{Linked, Made, NoRoom, Stray, ChainsAt, Masters
 use Rattle.bio_books.specs.Drops.{DropOutcome, DropsAt}
 use Rattle.bio_books.specs.Drops as end
 use Rattle.run_machine.specs.Requests.{Request, Reply, Opening, Write, Chain, Master, Leg, Link, Drop, LinkedTo, DroppedTo, NoTicket}
-use Rattle.run_machine.specs.Objects.{Opened}
+use Rattle.run_machine.specs.Objects.{OpensNode}
 use Rattle.object_things.specs.Stamps.{ThingState, StepOf}
 use Rattle.object_things.specs.Histories.{Call}
 use Rattle.object_things.specs.Homes.{BookAddsUp, open_nodes, openings, closings}
@@ -105,7 +105,7 @@ legged writer opening old master None (Made place) new s = absurd s
 legged writer opening old master None (NoRoom back) new s = absurd s
 legged writer opening old master None (Stray back) new s = same old new s.1
 
-linked : (writer : ℕ) (old : BookState) (opening : Opening) (answer : Linked) (new : BookState) → Opened old opening answer new
+linked : (writer : ℕ) (old : BookState) (opening : Opening) (answer : Linked) (new : BookState) → OpensNode old opening answer new
     → Counts old (openings (Link writer opening) (LinkedTo answer)) 0 new
 linked writer old (Write write vector) (Made place) new s = opens old new place (top_node write vector) s.0 s.1
 linked writer old (Write write vector) (NoRoom back) new s = same old new s.2

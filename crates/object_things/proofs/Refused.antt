@@ -17,7 +17,7 @@ use Rattle.stack_base.specs.declared.ids.PoolId.{PoolId}
 use Rattle.stack_base.specs.declared.ids.Status.{Status}
 use Rattle.run_machine.specs.declared.event.What.{What}
 use Rattle.run_machine.specs.Events.{miss_of, resize_of, what_of}
-use Rattle.run_machine.specs.Objects.{TallyState, Opened}
+use Rattle.run_machine.specs.Objects.{TallyState, OpensNode}
 use Rattle.run_machine.specs.Requests.{Request, Reply, Opening, Write, Chain, Master, Leg, TakeBio, TakeVec, TakeSlip, GiveBio, GiveVec, GiveSlip, Punt, Pop, Push, Complete, Link, Drop, Done, Resize, NextRound, HadBio, HadVec, HadSlip, Missed, Did, Popped, Completed, LinkedTo, DroppedTo, OutIs}
 use Rattle.object_things.specs.Books.{BookServes}
 use Rattle.object_things.specs.Disks.{DiskServes}
@@ -101,7 +101,7 @@ leg_stays old new master (Some node) (Stray back) un h = absurd h
 leg_stays old new master None (NoRoom back) un h = absurd h
 leg_stays old new master node (Made place) un h = absurd un
 
-link_stays : (old new : BookState) (opening : Opening) (answer : Linked) → IsUnmade answer → Opened old opening answer new → new ≡ old
+link_stays : (old new : BookState) (opening : Opening) (answer : Linked) → IsUnmade answer → OpensNode old opening answer new → new ≡ old
 link_stays old new (Write write vector) (NoRoom back) un h = h.2
 link_stays old new (Write write vector) (Stray back) un h = absurd h
 link_stays old new (Write write vector) (Made place) un h = absurd un

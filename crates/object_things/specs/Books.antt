@@ -8,7 +8,7 @@ use Rattle.bio_books.specs.Views.{bio_of, IsAlonePart}
 use Rattle.task_steps.specs.declared.objects.Unmade.TheVariants as unmade
 use Rattle.run_machine.specs.Events.{drop_of, link_of}
 use Rattle.run_machine.specs.Requests.{Request, Reply, Opening, Link, Drop, LinkedTo, DroppedTo, NoTicket}
-use Rattle.run_machine.specs.Objects.{Opened}
+use Rattle.run_machine.specs.Objects.{OpensNode}
 use Rattle.run_machine.specs.Laws.{OfBook, object_of}
 use Rattle.task_steps.specs.Stage.{RequestFits, Owes}
 use Rattle.task_steps.specs.Views.{opening_of, linked_reply, dropped_reply, unmade_part, IsAskAlone, LinkedAlone, DroppedAlone}
@@ -33,7 +33,7 @@ book_told replied = record { reply = book_replied replied.said; note = replied.n
 
 -- what is served by the book of a writer
 abbrev pub BookServes : BookState → Request → Reply → BookState → Type 0
-BookServes old (Link writer opening) (LinkedTo answer) new = (writer ≡ old.writer) × Opened old opening answer new
+BookServes old (Link writer opening) (LinkedTo answer) new = (writer ≡ old.writer) × OpensNode old opening answer new
 BookServes old (Drop writer node status part) (DroppedTo ended) new = (writer ≡ old.writer) × Drops old node status part ended new
 BookServes old request reply new = ⊥
 

@@ -30,7 +30,7 @@ use Rattle.run_machine.specs.declared.event.What.TheVariants as what
 use Rattle.run_machine.specs.Scene.{Scene}
 use Rattle.run_machine.specs.Requests.{Request, Reply, Opening, TakeBio, TakeVec, TakeSlip, GiveBio, GiveVec, GiveSlip, Punt, Pop, Push, Complete, Link, Drop, Done, Resize, NextRound, LookRound, LookLeft, HadBio, HadVec, HadSlip, Missed, Did, Popped, Completed, LinkedTo, DroppedTo, OutIs, Present, LeftOver, Nothing}
 use Rattle.run_machine.specs.Tasks.{TaskState, request, look_of, lets}
-use Rattle.run_machine.specs.Objects.{Objects, Opened, TakesElement, Serves}
+use Rattle.run_machine.specs.Objects.{Objects, OpensNode, TakesElement, Serves}
 use Rattle.run_machine.specs.Events.{id_of, pool_of, how_of, resize_of, what_of}
 use Rattle.run_machine.specs.Runs.{State, IsLet, Steps, IsEnabled}
 
@@ -52,7 +52,7 @@ CanComplete disk index status =
 
 -- a node is opened at this place
 abbrev pub CanOpen : BookState → Opening → ℕ → Type 0
-CanOpen book opening place = (new : BookState) × Opened book opening (Made place) new
+CanOpen book opening place = (new : BookState) × OpensNode book opening (Made place) new
 
 -- an end leaves this of the node at a place
 abbrev pub CanEnd : BookState → ℕ → Status → Option (Item Pad) → End → Type 0

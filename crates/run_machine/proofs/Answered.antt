@@ -21,7 +21,7 @@ use Rattle.run_machine.specs.declared.event.Got.TheVariants.{Ordinary, Spare}
 use Rattle.run_machine.specs.declared.event.Got.TheVariants as got
 use Rattle.run_machine.specs.Maps.{upd}
 use Rattle.run_machine.specs.Requests.{Request, Reply, Opening, Write, Chain, Master, Leg, TakeBio, TakeVec, TakeSlip, GiveBio, GiveVec, GiveSlip, Punt, Pop, Push, Complete, Link, Drop, Done, Resize, NextRound, LookRound, LookLeft, HadBio, HadVec, HadSlip, Missed, Did, Popped, Completed, LinkedTo, DroppedTo, OutIs, Present, LeftOver, Nothing}
-use Rattle.run_machine.specs.Objects.{Objects, TakesElement, Opened, Serves}
+use Rattle.run_machine.specs.Objects.{Objects, TakesElement, OpensNode, Serves}
 use Rattle.run_machine.specs.Events.{take_of, miss_of, link_of, drop_of, what_of}
 
 -- what an event tells of a reply
@@ -152,7 +152,7 @@ one_legged old master None (Made place) new other a b = absurd a
 one_legged old master None (NoRoom back) new other a b = absurd a
 
 one_opened : (old : BookState) (opening : Opening) (answer : Linked) (new other : BookState)
-    → Opened old opening answer new → Opened old opening answer other → new ≡ other
+    → OpensNode old opening answer new → OpensNode old opening answer other → new ≡ other
 -- a write begins with a vacant place
 one_opened old (Write write vector) (Made place) new other a b = a.1 ∙ sym b.1
 one_opened old (Write write vector) (NoRoom back) new other a b = a.2 ∙ sym b.2

@@ -13,7 +13,7 @@ use Rattle.run_machine.specs.Maps.{upd}
 use Rattle.run_machine.specs.Scene.{Scene}
 use Rattle.run_machine.specs.Requests.{Request, Reply, TakeBio, TakeVec, TakeSlip, GiveBio, GiveVec, GiveSlip, Punt, Pop, Push, Complete, Link, Drop, Done, Resize, NextRound, LookRound, LookLeft, HadBio, HadVec, HadSlip, Missed, Did, Popped, Completed, LinkedTo, DroppedTo, OutIs, Present, LeftOver, Nothing}
 use Rattle.run_machine.specs.Tasks.{TaskState, request, look_of, answered}
-use Rattle.run_machine.specs.Objects.{Objects, TallyState, MovesPool, TakesElement, Opened, Serves, done_one}
+use Rattle.run_machine.specs.Objects.{Objects, TallyState, MovesPool, TakesElement, OpensNode, Serves, done_one}
 use Rattle.run_machine.specs.Events.{id_of, what_of}
 use Rattle.run_machine.specs.Runs.{State, IsLet, Steps}
 use Rattle.run_machine.specs.Laws.{Object, OfBook, OfNone, OfPool, OfRescuer, OfDisk, OfTally, with_object, object_of, AgreeAt, AgreeAtLook, OneObjectDecides, with_step}
@@ -92,9 +92,9 @@ serves_too ledger old new other (Complete disk) Nothing same serves =
 -- books: one that is alike opens the same node, or is told of the same end
 serves_too ledger old new other (Link writer opening) (LinkedTo answer) same serves =
     let at = upd_same other.book writer (new.book writer) in
-    let here : Opened (other.book writer) opening answer (new.book writer) =
-    subst (λ b. Opened b opening answer (new.book writer)) same serves.0 in
-    (subst (Opened (other.book writer) opening answer) (sym at) here, ap (λ b. record other { book = upd other.book writer b }) (sym at))
+    let here : OpensNode (other.book writer) opening answer (new.book writer) =
+    subst (λ b. OpensNode b opening answer (new.book writer)) same serves.0 in
+    (subst (OpensNode (other.book writer) opening answer) (sym at) here, ap (λ b. record other { book = upd other.book writer b }) (sym at))
 serves_too ledger old new other (Drop writer node status part) (DroppedTo ended) same serves =
     let at = upd_same other.book writer (new.book writer) in
     let here : Drops (other.book writer) node status part ended (new.book writer) =

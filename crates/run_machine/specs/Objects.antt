@@ -56,11 +56,11 @@ abbrev pub clear_slip : LedgerId → SlipItem
 clear_slip share = record { legs = 0; share = share }
 
 -- a node is opened, or is not, in the book of a writer
-abbrev pub Opened : BookState → Opening → Linked → BookState → Type 0
-Opened old (Write write vector) answer new = Opens old write vector answer new
-Opened old (Chain parent) answer new = Chains old parent answer new
-Opened old (Master parent part slip legs) answer new = Masters old parent part slip legs answer new
-Opened old (Leg master) answer new = Legs old master answer new
+abbrev pub OpensNode : BookState → Opening → Linked → BookState → Type 0
+OpensNode old (Write write vector) answer new = Opens old write vector answer new
+OpensNode old (Chain parent) answer new = Chains old parent answer new
+OpensNode old (Master parent part slip legs) answer new = Masters old parent part slip legs answer new
+OpensNode old (Leg master) answer new = Legs old master answer new
 
 -- a write of the present round is done
 abbrev pub done_one : ℕ → Status → TallyState → TallyState
@@ -96,7 +96,7 @@ Serves ledger old (Complete disk) (Completed index bio status) new =
 Serves ledger old (Complete disk) Nothing new = ((old.disk disk.0).pending ≡ []) × (new ≡ old)
 -- books (`bio_chain`, `bio_endio`, block/bio.c)
 Serves ledger old (Link writer opening) (LinkedTo answer) new =
-    Opened (old.book writer) opening answer (new.book writer) × (new ≡ record old { book = upd old.book writer (new.book writer) })
+    OpensNode (old.book writer) opening answer (new.book writer) × (new ≡ record old { book = upd old.book writer (new.book writer) })
 Serves ledger old (Drop writer node status part) (DroppedTo ended) new =
     Drops (old.book writer) node status part ended (new.book writer) × (new ≡ record old { book = upd old.book writer (new.book writer) })
 -- the tally

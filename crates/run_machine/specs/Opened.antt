@@ -52,11 +52,11 @@ abbrev pub is_by : ℕ → Todo → Bool
 is_by writer todo = todo.write.task == writer
 
 -- the writes of a writer, in the order of the text
-abbrev pub share_of : List ℕ → List Write → ℕ → List Todo
-share_of rounds writes writer = filter (is_by writer) (numbered rounds writes)
+abbrev pub todos_by : List ℕ → List Write → ℕ → List Todo
+todos_by rounds writes writer = filter (is_by writer) (numbered rounds writes)
 
 abbrev pub todos_of : Scenario → ℕ → List Todo
-todos_of s writer = share_of s.rounds s.writes writer
+todos_of s writer = todos_by s.rounds s.writes writer
 
 -- the numbers of writers are below this, and a writer is there for each number that a write names
 abbrev pub most_writers : ℕ
@@ -103,10 +103,11 @@ writes_from s round = from_round s.rounds round
 abbrev pub left_in : List ℕ → List ℕ
 left_in rounds = map (in_round rounds) (range_with_len 0 (rounds_in rounds))
 
--- the changes before a round, where so many writes are left when it starts
+-- whether a change is made before this round
 abbrev pub is_at : ℕ → Change → Bool
 is_at round change = change.round == round
 
+-- the changes before a round, where so many writes are left when it starts
 abbrev pub changes_at : ℕ → ℕ → List Change → List Duty
 changes_at round later changes = map (λ (change : Change). Resizes change.pool change.min later) (filter (is_at round) changes)
 
@@ -135,7 +136,7 @@ at dev = record { 0 = dev }
 -- the writers of these numbers that have a write, and the rescuers and completers of devices that have one
 abbrev pub writers_of : List ℕ → List Write → List ℕ → List TaskState
 writers_of rounds writes numbers =
-    map (λ writer. Writer writer (share_of rounds writes writer) NoBio rests) (filter (is_writer rounds writes) numbers)
+    map (λ writer. Writer writer (todos_by rounds writes writer) NoBio rests) (filter (is_writer rounds writes) numbers)
 
 abbrev pub rescuers_of : Setup → List ℕ → List TaskState
 rescuers_of setup numbers = map (λ dev. Rescuer (at dev) rests) (filter setup.rescuer numbers)
@@ -164,10 +165,11 @@ reserve_of stack FsVecs = stack.fs_vecs
 reserve_of stack (Bios dev) = option_map_or (λ (device : Device). device.reserve) (slice_get stack.devices.items dev.0) 0
 reserve_of stack (Records dev) = option_map_or (λ (device : Device). records_of device.kind) (slice_get stack.devices.items dev.0) 0
 
--- the script of a pool, which is told by its number
+-- whether a script is that of the pool with this number
 abbrev pub is_numbered : ℕ → PoolId × Answers → Bool
 is_numbered number script = pool_number script.0 == number
 
+-- the script of a pool, which is told by its number
 abbrev pub script_at : List (PoolId × Answers) → ℕ → Answers
 script_at scripts number = option_map_or (λ (script : PoolId × Answers). script.1) (find (is_numbered number) scripts) (only_tail true)
 

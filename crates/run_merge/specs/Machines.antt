@@ -12,7 +12,7 @@ use Rattle.run_machine.specs.declared.event.Got.{Got}
 use Rattle.run_machine.specs.declared.event.Got.TheVariants.{Ordinary, Spare}
 use Rattle.run_machine.specs.declared.event.Got.TheVariants as got
 use Rattle.run_machine.specs.Laws.{Object, OfPool, OfRescuer, OfDisk, OfBook, OfTally, OfNone, object_of}
-use Rattle.run_machine.specs.Objects.{TallyState, Opened, clear_bio, clear_vector, clear_slip, done_one}
+use Rattle.run_machine.specs.Objects.{TallyState, OpensNode, clear_bio, clear_vector, clear_slip, done_one}
 use Rattle.run_machine.specs.Requests.{Request, Reply, TakeBio, TakeVec, TakeSlip, GiveBio, GiveVec, GiveSlip, Punt, Pop, Push, Complete, Link, Drop, Done, Resize, NextRound, LookRound, LookLeft, HadBio, HadVec, HadSlip, Missed, Did, Popped, Completed, LinkedTo, DroppedTo, OutIs, Present, LeftOver, Nothing}
 use Rattle.shared_objects.specs.Calls.{is_same_object}
 use Rattle.run_merge.specs.Entries.{Entry}
@@ -57,7 +57,7 @@ DiskMachine old (Complete disk) Nothing new = (old.pending ≡ []) × (new ≡ o
 DiskMachine old request reply new = ⊥
 
 abbrev pub BookMachine : BookState → Request → Reply → BookState → Type 0
-BookMachine old (Link writer opening) (LinkedTo answer) new = Opened old opening answer new
+BookMachine old (Link writer opening) (LinkedTo answer) new = OpensNode old opening answer new
 BookMachine old (Drop writer node status part) (DroppedTo ended) new = Drops old node status part ended new
 BookMachine old request reply new = ⊥
 

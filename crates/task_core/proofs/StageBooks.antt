@@ -12,7 +12,7 @@ use Rattle.bio_books.specs.Links.{Linked, Made, NoRoom, Stray, Opens, ChainsAt, 
 use Rattle.bio_books.specs.Drops.{DropOutcome, DropsAt, closed_of, Left, Up, Top}
 use Rattle.bio_books.specs.Drops as end
 use Rattle.run_machine.specs.Requests.{Opening, Write, Chain, Master, Leg}
-use Rattle.run_machine.specs.Objects.{Opened}
+use Rattle.run_machine.specs.Objects.{OpensNode}
 use Rattle.task_steps.specs.Stage.{Stage, is_bios, is_slips, IsHome, IsBioHome, IsVecHome, HoldsHome, OpeningFits, LinkFits, TopFits, ClosedFits, DropFits}
 use Rattle.task_core.specs.ObjectsOf.{IsNodeOf, IsBookOf}
 
@@ -102,7 +102,7 @@ module _ (stage : Stage) where
   legs_is writer master (NoRoom back) old new is None here legs = absurd legs
 
   pub links_is : (writer : ℕ) (opening : Opening) (answer : Linked) (old new : BookState) → IsBookOf stage writer old → OpeningFits stage opening
-      → Opened old opening answer new → IsBookOf stage writer new × LinkFits stage answer
+      → OpensNode old opening answer new → IsBookOf stage writer new × LinkFits stage answer
   links_is writer (Write write vector) answer old new is fits opened = opens_is writer write vector answer old new is fits opened
   links_is writer (Chain parent) answer old new is fits opened = chains_is writer parent answer old new is _ (node_is writer parent old is) opened
   links_is writer (Master parent part slip legs) answer old new is fits opened =

@@ -20,7 +20,7 @@ use Rattle.run_machine.specs.declared.event.What.{What}
 use Rattle.run_machine.specs.declared.event.What.TheVariants as what
 use Rattle.run_machine.specs.Events.{what_of, resize_of, how_of}
 use Rattle.run_machine.specs.Maps.{upd}
-use Rattle.run_machine.specs.Objects.{Objects, Serves, Opened}
+use Rattle.run_machine.specs.Objects.{Objects, Serves, OpensNode}
 use Rattle.run_machine.specs.Requests as requests
 use Rattle.run_machine.specs.Requests.{Request, Reply, Opening}
 use Rattle.run_machine.specs.Scene.{Scene}
@@ -151,7 +151,7 @@ module _ (ledger : ℕ → LedgerId) (old new : Objects) (w k : ℕ) (ends : Lis
       let books : new.book ≡ upd old.book writer book = ap (λ (o : Objects). o.book) is ∙ ap (upd old.book writer) made in
       subst (λ (f : ℕ → BookState). KeepsAt (if writer == w && key == k then more else ends) (node_at (f w) k)) (sym books) (in_books old.book writer key book w k ends more here held)
 
-  links : (writer : ℕ) (opening : Opening) (key : ℕ) → Opened (old.book writer) opening (Made key) (new.book writer)
+  links : (writer : ℕ) (opening : Opening) (key : ℕ) → OpensNode (old.book writer) opening (Made key) (new.book writer)
       → new ≡ record old { book = upd old.book writer (new.book writer) } → Keeps (Some (what.Link writer (how_of opening) key))
   links writer (requests.Write write vector) key made is =
       by_book writer key _ [] is made.1 (at_made (old.book writer) key (top_node write vector) k ends made.0 keeps_none)

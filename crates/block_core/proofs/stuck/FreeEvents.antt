@@ -20,7 +20,7 @@ use Rattle.bio_books.specs.Drops.{DropOutcome, Drops}
 use Rattle.run_machine.specs.declared.event.What.{What}
 use Rattle.run_machine.specs.Requests as requests
 use Rattle.run_machine.specs.Requests.{Reply, Opening}
-use Rattle.run_machine.specs.Objects.{Serves, Opened}
+use Rattle.run_machine.specs.Objects.{Serves, OpensNode}
 use Rattle.run_machine.specs.Events.{what_of, is_free, id_of}
 use Rattle.run_machine.specs.Tasks.{request, look_of, answered, writer_look}
 use Rattle.run_machine.specs.Submissions.{submission_request}
@@ -79,11 +79,11 @@ module _ (scene : Scene) (s : State) where
       (subst (λ r. what_of r reply ≡ Some told) (sym asks) is) free objects (subst (λ r. Serves scene.ledger s.objects r reply objects) (sym asks) serves)
 
   -- a link that is answered
-  pub link_serves : (w : ℕ) (opening : Opening) (answer : Linked) (book : BookState) → Opened (s.objects.book w) opening answer book
+  pub link_serves : (w : ℕ) (opening : Opening) (answer : Linked) (book : BookState) → OpensNode (s.objects.book w) opening answer book
       → Serves scene.ledger s.objects (requests.Link w opening) (requests.LinkedTo answer) (with_book s.objects w book)
   link_serves w opening answer book opened =
       let same = upd-same s.objects.book w book in
-      (subst (Opened (s.objects.book w) opening answer) (sym same) opened, ap (with_book s.objects w) (sym same))
+      (subst (OpensNode (s.objects.book w) opening answer) (sym same) opened, ap (with_book s.objects w) (sym same))
 
   pub drop_serves : (w key : ℕ) (status : Status) (part : Option (Item Pad)) (ended : DropOutcome) (book : BookState) → Drops (s.objects.book w) key status part ended book
       → Serves scene.ledger s.objects (requests.Drop w key status part) (requests.DroppedTo ended) (with_book s.objects w book)

@@ -25,7 +25,7 @@ use Rattle.run_machine.specs.declared.event.What.TheVariants as told
 use Rattle.run_machine.specs.Requests.{Opening, GiveBio, GiveVec, GiveSlip, Punt, Pop, Push, Complete, Link, Drop, Done, Resize, NextRound, Did, Popped, Completed, LinkedTo, DroppedTo, OutIs, Nothing}
 use Rattle.run_machine.specs.Events.{pool_of, how_of, drop_of, resize_of}
 use Rattle.run_machine.specs.Maps.{upd}
-use Rattle.run_machine.specs.Objects.{Opened}
+use Rattle.run_machine.specs.Objects.{OpensNode}
 use Rattle.run_machine.proofs.Frames.{upd_same}
 use Rattle.plain_core.specs.objects.Books.{ended_of_plain, end_of, IsToldBy}
 use Rattle.plain_core.specs.declared.objects.book.NodeOutcome.{NodeOutcome}
@@ -208,7 +208,7 @@ complete old new disk what (Err fault.Memory) t = absurd t
 
 -- books
 not_linked : (old : CoreObjects) (writer : ℕ) (opening : Opening) (what : What)
-    → ((node : ℕ) (book : BookState) → what ≡ told.Link writer (how_of opening) node → Opened (core_book_at old writer) opening (Made node) book → ⊥)
+    → ((node : ℕ) (book : BookState) → what ≡ told.Link writer (how_of opening) node → OpensNode (core_book_at old writer) opening (Made node) book → ⊥)
     → Refuses old (Link writer opening) what
 not_linked old writer opening what never (LinkedTo (Made node)) new is serves = never node (new.book writer) (one is) serves.0
 not_linked old writer opening what never (LinkedTo (NoRoom back)) new is serves = absurd cc
@@ -230,14 +230,14 @@ pub joined : (old new : CoreObjects) (writer node : ℕ) (opening : Opening) (wh
 joined old new writer node opening what t = link old new writer opening what (Ok node) t
 
 can_link : (old : CoreObjects) (writer : ℕ) (opening : Opening) (what : What) (node : ℕ) (book : BookState) → what ≡ told.Link writer (how_of opening) node
-    → Opened (core_book_at old writer) opening (Made node) book → HasAnswer old (Link writer opening) what
+    → OpensNode (core_book_at old writer) opening (Made node) book → HasAnswer old (Link writer opening) what
 can_link old writer opening what node book is opened =
     let here = sym (upd_same (core_book_at old) writer book) in
     record {
       reply = LinkedTo (Made node);
       new = record (objects_of_core old) { book = upd (core_book_at old) writer book };
       told = ap Some (sym is);
-      serves = (subst (Opened (core_book_at old writer) opening (Made node)) here opened, ap (λ b. record (objects_of_core old) { book = upd (core_book_at old) writer b }) here);
+      serves = (subst (OpensNode (core_book_at old writer) opening (Made node)) here opened, ap (λ b. record (objects_of_core old) { book = upd (core_book_at old) writer b }) here);
     }
 
 pub join_failed : (old new : CoreObjects) (writer : ℕ) (opening : Opening) (what : What) (e : CoreFault) → LinksWithRoom old writer opening what (Err e) new

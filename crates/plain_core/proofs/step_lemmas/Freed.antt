@@ -26,7 +26,7 @@ use Rattle.run_machine.specs.declared.event.What.{What}
 use Rattle.run_machine.specs.declared.event.What.TheVariants as what
 use Rattle.run_machine.specs.Events.{is_free, what_of, take_of, miss_of, pool_of, how_of, link_of, drop_of, resize_of}
 use Rattle.run_machine.specs.Maps.{upd}
-use Rattle.run_machine.specs.Objects.{Objects, Opened, Serves, clear_bio, clear_vector, clear_slip}
+use Rattle.run_machine.specs.Objects.{Objects, OpensNode, Serves, clear_bio, clear_vector, clear_slip}
 use Rattle.run_machine.specs.Requests.{Request, Reply, Opening, Write, Chain, Master, Leg, TakeBio, TakeVec, TakeSlip, GiveBio, GiveVec, GiveSlip, Punt, Pop, Push, Complete, Link, Drop, Done, Resize, NextRound, LookRound, LookLeft, Rest, HadBio, HadVec, HadSlip, Missed, Did, Popped, Completed, LinkedTo, DroppedTo, OutIs, Nothing}
 use Rattle.run_machine.proofs.Frames.{upd_same}
 use Rattle.plain_core.specs.objects.Questions.{IsDecisionOf}
@@ -81,7 +81,7 @@ leg_at old writer parent place (Some node) new is c = (place, node, c.0, is)
 leg_at old writer parent place None new is c = absurd c
 
 link_met : (old : CoreObjects) (writer : ℕ) (opening : Opening) (answer : Linked) (new : BookState) (told : What) → link_of writer opening answer ≡ Some told
-    → Opened (core_book_at old writer) opening answer new → NeedIsMet old (link_need writer opening)
+    → OpensNode (core_book_at old writer) opening answer new → NeedIsMet old (link_need writer opening)
 link_met old writer (Write write vector) (Made place) new told is o = (place, o.0)
 link_met old writer (Chain parent) (Made place) new told is o = chain_at old writer parent place (node_at (core_book_at old writer) parent) new refl o
 link_met old writer (Master parent part slip legs) (Made place) new told is o = child_at old writer parent place part slip legs (node_at (core_book_at old writer) parent) new refl o
@@ -198,7 +198,7 @@ completed old disk (bio ∷ rest) is lt =
       free = refl;
     }
 
-linked : (old : CoreObjects) (writer place : ℕ) (opening : Opening) (after : BookState) → Opened (core_book_at old writer) opening (Made place) after → CanFree old (Link writer opening)
+linked : (old : CoreObjects) (writer place : ℕ) (opening : Opening) (after : BookState) → OpensNode (core_book_at old writer) opening (Made place) after → CanFree old (Link writer opening)
 linked old writer place opening after is =
     let kept : upd (core_book_at old) writer after writer ≡ after = upd_same (core_book_at old) writer after in
     record {
@@ -207,7 +207,7 @@ linked old writer place opening after is =
       new = record (objects_of_core old) { book = upd (core_book_at old) writer after };
       told = refl;
       serves = (
-        subst (Opened (core_book_at old writer) opening (Made place)) (sym kept) is,
+        subst (OpensNode (core_book_at old writer) opening (Made place)) (sym kept) is,
         ap (λ b. record (objects_of_core old) { book = upd (core_book_at old) writer b }) (sym kept),
       );
       free = refl;

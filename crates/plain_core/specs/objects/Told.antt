@@ -21,7 +21,7 @@ use Rattle.run_machine.specs.declared.event.What.{What}
 use Rattle.run_machine.specs.declared.event.What.TheVariants as told
 use Rattle.run_machine.specs.Events.{take_of, how_of}
 use Rattle.run_machine.specs.Requests.{Opening, Master}
-use Rattle.run_machine.specs.Objects.{Opened, done_one}
+use Rattle.run_machine.specs.Objects.{OpensNode, done_one}
 use Rattle.plain_core.specs.objects.Pools.{move_of, CanTake}
 use Rattle.plain_core.specs.declared.objects.book.NodeOutcome.{NodeOutcome}
 use Rattle.plain_core.specs.objects.Books.{ended_of_plain, end_of, IsToldBy}
@@ -114,9 +114,9 @@ abbrev pub Links : CoreObjects → ℕ → Opening → What → Result ℕ CoreF
 Links old writer opening what result new =
     AnswersIfEnabled old
     (λ node next. (what ≡ told.Link writer (how_of opening) node)
-    × Opened (core_book_at old writer) opening (Made node) (core_book_at next writer)
+    × OpensNode (core_book_at old writer) opening (Made node) (core_book_at next writer)
     × (next ≡ with_book old writer (core_book_at next writer)))
-    ((node : ℕ) (book : BookState) → what ≡ told.Link writer (how_of opening) node → Opened (core_book_at old writer) opening (Made node) book → ⊥)
+    ((node : ℕ) (book : BookState) → what ≡ told.Link writer (how_of opening) node → OpensNode (core_book_at old writer) opening (Made node) book → ⊥)
     result new
 
 -- the same where room is made for what comes of it: that can lack memory, and then a node could be opened else
@@ -128,7 +128,7 @@ LinksWithRoom old writer opening what (Err fault.Memory) new =
     × (node : ℕ)
     × (book : BookState)
     × (what ≡ told.Link writer (how_of opening) node)
-    × Opened (core_book_at old writer) opening (Made node) book
+    × OpensNode (core_book_at old writer) opening (Made node) book
 
 -- the same of a mirror's master for a bio
 abbrev pub JoinsMaster : CoreObjects → Item Pad → SlipItem → ℕ → What → Result ℕ CoreFault → CoreObjects → Type 0

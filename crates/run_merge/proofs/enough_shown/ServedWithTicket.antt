@@ -20,7 +20,7 @@ use Rattle.model_disks.specs.Disks.{DiskState}
 use Rattle.run_machine.specs.declared.event.Got.{Got}
 use Rattle.run_machine.specs.declared.event.Got.TheVariants as got
 use Rattle.run_machine.specs.Events.{miss_of}
-use Rattle.run_machine.specs.Objects.{TallyState, Opened, clear_bio, clear_vector, clear_slip}
+use Rattle.run_machine.specs.Objects.{TallyState, OpensNode, clear_bio, clear_vector, clear_slip}
 use Rattle.run_machine.specs.Requests.{Request, Reply, Opening, Write, Chain, Master, Leg, TakeBio, TakeVec, TakeSlip, GiveBio, GiveVec, GiveSlip, Punt, Pop, Push, Complete, Link, Drop, Done, Resize, NextRound, HadBio, HadVec, HadSlip, Missed, Did, Popped, Completed, LinkedTo, DroppedTo, OutIs}
 use Rattle.object_things.specs.Books as books
 use Rattle.object_things.specs.Disks as disks
@@ -204,7 +204,7 @@ module _ (old new : BookState) where
   leg_stays master None (NoRoom back) h not = absurd h
   leg_stays master None (Stray back) h not = h.1
 
-  link_stays : (opening : Opening) (answer : Linked) → Opened old opening answer new → ((place : ℕ) → answer ≡ Made place → ⊥) → new ≡ old
+  link_stays : (opening : Opening) (answer : Linked) → OpensNode old opening answer new → ((place : ℕ) → answer ≡ Made place → ⊥) → new ≡ old
   link_stays (Write write vector) (Made place) h not = absurd (not place refl)
   link_stays (Write write vector) (NoRoom back) h not = h.2
   link_stays (Write write vector) (Stray back) h not = absurd h

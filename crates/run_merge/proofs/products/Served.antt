@@ -15,7 +15,7 @@ use Rattle.run_machine.specs.declared.event.Got.TheVariants as got
 use Rattle.run_machine.specs.Laws.{Object, OfPool, OfRescuer, OfDisk, OfBook, OfTally, OfNone, object_of, with_object}
 use Rattle.run_machine.specs.Maps.{upd}
 use Rattle.run_machine.specs.Requests.{Request, Reply, TakeBio, TakeVec, TakeSlip, GiveBio, GiveVec, GiveSlip, Punt, Pop, Push, Complete, Link, Drop, Done, Resize, NextRound, LookRound, LookLeft, Rest, HadBio, HadVec, HadSlip, Missed, Did, Popped, Completed, LinkedTo, DroppedTo, OutIs, Present, LeftOver, Nothing}
-use Rattle.run_machine.specs.Objects.{Objects, Opened, MovesPool, TakesElement, Serves}
+use Rattle.run_machine.specs.Objects.{Objects, OpensNode, MovesPool, TakesElement, Serves}
 use Rattle.run_machine.proofs.Frames.{upd_same, one_object_changes}
 use Rattle.shared_objects.specs.Calls.{struck}
 use Rattle.run_merge.specs.Machines.{PoolGoes, PoolHas, ServesAt}
@@ -151,7 +151,7 @@ serves_all ledger o (Complete disk) Nothing v h = (h.0, put_same o (OfDisk disk.
 serves_all ledger o (Complete disk) reply v h = absurd h
 -- books: a node is linked, or drops an end
 serves_all ledger o (Link writer opening) (LinkedTo answer) v h =
-    let p = get_put o (OfBook writer) v in (subst (Opened (o.book writer) opening answer) (sym p) h, ap (put_object o (OfBook writer)) (sym p))
+    let p = get_put o (OfBook writer) v in (subst (OpensNode (o.book writer) opening answer) (sym p) h, ap (put_object o (OfBook writer)) (sym p))
 serves_all ledger o (Link writer opening) reply v h = absurd h
 serves_all ledger o (Drop writer node status part) (DroppedTo ended) v h =
     let p = get_put o (OfBook writer) v in (subst (Drops (o.book writer) node status part ended) (sym p) h, ap (put_object o (OfBook writer)) (sym p))

@@ -18,7 +18,7 @@ use Rattle.task_core.specs.declared.opening.tasks.DeviceTasks.{DeviceTasks}
 use Rattle.task_core.specs.declared.opening.tasks.DeviceTasks.TheVariants as of_devices
 use Rattle.task_core.specs.opened.NewTasks.{device_tasks, writer_with, shown_tasks, AddsTasks, AreServableWrites, ArePlaced}
 use Rattle.run_machine.specs.Scene.{Setup, is_disk}
-use Rattle.run_machine.specs.Opened.{at, is_by, numbered, numbered_from, share_of, nodes_of, is_writer, writers_of}
+use Rattle.run_machine.specs.Opened.{at, is_by, numbered, numbered_from, todos_by, nodes_of, is_writer, writers_of}
 use Rattle.run_machine.specs.Tasks.{Todo, TaskState, NoBio, Empty, Writer, Rescuer, Completer}
 use Rattle.run_machine.proofs.Passing.{filter_sum, none_passes}
 use Rattle.stack_base.proofs.NumberLemmas.{below_or_last}
@@ -68,7 +68,7 @@ share_more rounds writes writer i round write old new paired lt is also so grows
     ∙ ap (λ (t : Todo). filter p (take i (numbered rounds writes)) ++ filter p (t ∷ [])) (numbered_at rounds writes i round write paired lt is also))
 
 pub share_whole : (rounds : List ℕ) (writes : List Write) (writer i : ℕ) (todos : List Todo) → length rounds ≡ length writes → length writes ≤ i
-    → todos ≡ filter (is_by writer) (take i (numbered rounds writes)) → todos ≡ share_of rounds writes writer
+    → todos ≡ filter (is_by writer) (take i (numbered rounds writes)) → todos ≡ todos_by rounds writes writer
 share_whole rounds writes writer i todos paired le so =
     let long = numbered_long 0 rounds writes paired in
     so ∙ ap (filter (is_by writer)) (take_all i (numbered rounds writes) (omega (arith, le, long)))
@@ -110,14 +110,14 @@ writes_few stack (write ∷ writes) =
     let rest = writes_few stack writes in omega (arith, rest, sum_by-cons (λ write. nodes stack write) write writes)
 
 module _ (stack : Stack) (rounds : List ℕ) (writes : List Write) (shared : AreServableWrites stack rounds writes) where
-  pub share_few : (writer : ℕ) → nodes_of stack (share_of rounds writes writer) < 2 ^ 32
+  pub share_few : (writer : ℕ) → nodes_of stack (todos_by rounds writes writer) < 2 ^ 32
   share_few writer =
       let all = nodes_all stack 0 rounds writes shared.paired in
       let some = filter_sum (λ (t : Todo). nodes stack t.write) (is_by writer) (numbered rounds writes) in
       let few = shared.few in
       omega (arith, all, some, few)
 
-  pub share_served : (writer : ℕ) → All (λ (t : Todo). IsWrite stack t.write) (share_of rounds writes writer)
+  pub share_served : (writer : ℕ) → All (λ (t : Todo). IsWrite stack t.write) (todos_by rounds writes writer)
   share_served writer =
       All-filter (is_by writer) (λ (t : Todo). IsWrite stack t.write) (numbered rounds writes) (numbered_all (IsWrite stack) 0 rounds writes shared.paired shared.served)
 
@@ -129,16 +129,16 @@ module _ (stack : Stack) (rounds : List ℕ) (writes : List Write) (shared : Are
 
   -- one more book has its places
   pub placed_more : (bound : ℕ) (places new : List ℕ) → ArePlaced stack rounds writes bound places → bound < 8
-      → new ≡ set places bound (nodes_of stack (share_of rounds writes bound)) → ArePlaced stack rounds writes (bound + 1) new
+      → new ≡ set places bound (nodes_of stack (todos_by rounds writes bound)) → ArePlaced stack rounds writes (bound + 1) new
   placed_more bound places new placed lt is = subst (ArePlaced stack rounds writes (bound + 1)) (sym is) (record {
-    eight = length-set places bound (nodes_of stack (share_of rounds writes bound)) ∙ placed.eight;
+    eight = length-set places bound (nodes_of stack (todos_by rounds writes bound)) ∙ placed.eight;
     each = λ writer below. elim (below_or_last writer bound below) [
       | inl before ↦
-          get_or-set_other places bound writer (nodes_of stack (share_of rounds writes bound)) 0 (fill.not_itself writer bound before) ∙ placed.each writer before
+          get_or-set_other places bound writer (nodes_of stack (todos_by rounds writes bound)) 0 (fill.not_itself writer bound before) ∙ placed.each writer before
       | inr last ↦
           let eight = placed.eight in
-          subst (λ w. get_or (set places bound (nodes_of stack (share_of rounds writes bound))) w 0 ≡ nodes_of stack (share_of rounds writes w)) (sym last)
-          (get_or-set_same places bound (nodes_of stack (share_of rounds writes bound)) 0 (omega (arith, lt, eight)))
+          subst (λ w. get_or (set places bound (nodes_of stack (todos_by rounds writes bound))) w 0 ≡ nodes_of stack (todos_by rounds writes w)) (sym last)
+          (get_or-set_same places bound (nodes_of stack (todos_by rounds writes bound)) 0 (omega (arith, lt, eight)))
     ];
   })
 
@@ -176,10 +176,10 @@ any_some p (x ∷ xs) some = by_test (any_some p xs) (p x) refl some
         let passed : filter p (x ∷ xs) ≡ filter p xs = rw (q) refl in
         record { first = found.first; more = found.more; is = passed ∙ found.is }
 
-pub writer_there : (rounds : List ℕ) (writes : List Write) (writer : ℕ) → writer_with writer (share_of rounds writes writer) ≡ writers_of rounds writes (writer ∷ [])
+pub writer_there : (rounds : List ℕ) (writes : List Write) (writer : ℕ) → writer_with writer (todos_by rounds writes writer) ≡ writers_of rounds writes (writer ∷ [])
 writer_there rounds writes writer = by_test (is_writer rounds writes writer) refl
   where
-    by_test : (b : Bool) → is_writer rounds writes writer ≡ b → writer_with writer (share_of rounds writes writer) ≡ writers_of rounds writes (writer ∷ [])
+    by_test : (b : Bool) → is_writer rounds writes writer ≡ b → writer_with writer (todos_by rounds writes writer) ≡ writers_of rounds writes (writer ∷ [])
     by_test false q = rw (q) (ap (writer_with writer) (none_passes (is_by writer) (numbered rounds writes) q))
     by_test true q =
         let found = any_some (is_by writer) (numbered rounds writes) q in

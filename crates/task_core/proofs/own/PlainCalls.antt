@@ -17,7 +17,7 @@ use Rattle.model_disks.specs.Moves.{pushed, Completes}
 use Rattle.task_core.specs.declared.plain.Plain.{Plain}
 use Rattle.run_machine.specs.Maps.{upd}
 use Rattle.run_machine.specs.Requests.{Opening, Punt, Pop, Push, Complete, Link, Drop, Did, Completed, LinkedTo, DroppedTo, Nothing}
-use Rattle.run_machine.specs.Objects.{Opened, Serves}
+use Rattle.run_machine.specs.Objects.{OpensNode, Serves}
 use Rattle.task_steps.specs.Stage.{has_rescuer, has_disk, has_book, IsServed, AreServed, IsBioHome, OpeningFits, Owes}
 use Rattle.task_steps.specs.Views.{popped_reply}
 use Rattle.task_core.specs.Plains.{objects_of, stage_of, Holds}
@@ -145,10 +145,10 @@ module _ (plain : Plain) (holds : Holds plain) (writer : ℕ) (is : IsTrue (has_
       book_changes plain holds writer i is place entry value x
       ∙ ap (λ b. record (objects_of plain) { book = upd (objects_of plain).book writer b }) book_is
 
-  module _ (opening : Opening) (fits : OpeningFits (stage_of plain) opening) (answer : Linked) (opened : Opened entry.1 opening answer x) where
+  module _ (opening : Opening) (fits : OpeningFits (stage_of plain) opening) (answer : Linked) (opened : OpensNode entry.1 opening answer x) where
     pub link_served : Serves (stage_of plain).ledger (objects_of plain) (Link writer opening) (LinkedTo answer) (objects_of (with_books plain i entry.0 x))
     link_served = (
-      subst (λ b. Opened b opening answer ((objects_of (with_books plain i entry.0 x)).book writer)) book_was (subst (Opened entry.1 opening answer) book_is opened),
+      subst (λ b. OpensNode b opening answer ((objects_of (with_books plain i entry.0 x)).book writer)) book_was (subst (OpensNode entry.1 opening answer) book_is opened),
       book_alone,
     )
 

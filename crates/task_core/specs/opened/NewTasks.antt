@@ -19,7 +19,7 @@ use Rattle.task_steps.specs.Routed.{Routing, routing_setup}
 use Rattle.task_steps.specs.TaskViews.{TaskOf, task_of}
 use Rattle.run_machine.specs.Submissions.{rests}
 use Rattle.run_machine.specs.Tasks.{Todo, NoBio, Duty, Starts, TaskState, Writer}
-use Rattle.run_machine.specs.Opened.{share_of, nodes_of, writers_of, rescuers_of, completers_of, rounds_in, changes_at, duties_in, keepers}
+use Rattle.run_machine.specs.Opened.{todos_by, nodes_of, writers_of, rescuers_of, completers_of, rounds_in, changes_at, duties_in, keepers}
 use Rattle.run_machine.specs.Scenario.{change_of}
 
 -- Writes that a stack can serve, by writers of small numbers, each with its round, which open few nodes together.
@@ -32,7 +32,7 @@ pub record AreServableWrites (stack : Stack) (rounds : List ℕ) (writes : List 
 -- the books of the first writers have as many places
 pub record ArePlaced (stack : Stack) (rounds : List ℕ) (writes : List Write) (bound : ℕ) (places : List ℕ) : Type 0 where
   pub eight : length places ≡ 8
-  pub each : (writer : ℕ) → writer < bound → slice_index_or places writer 0 ≡ nodes_of stack (share_of rounds writes writer)
+  pub each : (writer : ℕ) → writer < bound → slice_index_or places writer 0 ≡ nodes_of stack (todos_by rounds writes writer)
 
 -- tasks that were added to others
 abbrev pub shown_tasks : List Kind → List TaskState
@@ -55,7 +55,7 @@ writers_in work = writers_among work (range_with_len 0 8)
 
 -- how many places the book of a writer of a work has: its writes open so many nodes
 abbrev pub book_places : Stack → Work → ℕ → ℕ
-book_places stack work writer = nodes_of stack (share_of work.rounds.items work.writes.items writer)
+book_places stack work writer = nodes_of stack (todos_by work.rounds.items work.writes.items writer)
 
 -- what tasks know of the devices of a stack, with the places of these books
 abbrev pub IsRoutingFor : Stack → Work → Routing → Type 0

@@ -2,7 +2,7 @@
 ghost use Rattle.std.specs.Prelude.{◌≡◌, ◌+◌, ◌<◌, ◌^◌, ◌++◌, [], ◌∷◌, All, IfOk, OnOk, filter, length, slice_set};
 ghost use Rattle.stack_base.specs.Stack.{IsStack};
 ghost use Rattle.layout_model.specs.Writes.{IsWrite};
-ghost use Rattle.run_machine.specs.Opened.{is_by, share_of, nodes_of};
+ghost use Rattle.run_machine.specs.Opened.{is_by, todos_by, nodes_of};
 ghost use Rattle.task_core.specs.opened.NewTasks.{book_places, writer_with, writers_among, writers_in, AddsTasks, AreServableWrites, ArePlaced};
 
 use layout_model::need;
@@ -22,10 +22,10 @@ fn keep(todos: &mut Vec<Todo>, todo: Todo, writer: u32) -> Result<(), AllocError
 }
 
 // The writes of a writer, in the order of the text.
-fn share_of(alloc: Global, work: &Work, writer: u32) -> Result<Vec<Todo>, AllocError>
+fn todos_by(alloc: Global, work: &Work, writer: u32) -> Result<Vec<Todo>, AllocError>
     requires paired { length work.now.rounds.items ≡ length work.now.writes.items }
     requires few { length work.now.writes.items < 2 ^ 32 }
-    ensures { IfOk result (λ todos. todos.items ≡ share_of work.now.rounds.items work.now.writes.items writer) }
+    ensures { IfOk result (λ todos. todos.items ≡ todos_by work.now.rounds.items work.now.writes.items writer) }
 {
     let mut todos = Vec::new(alloc);
     'sharing: for number in 0..work.writes.len() {
@@ -79,7 +79,7 @@ fn open_writer(
     ensures kinds { OnOk result (AddsTasks kinds.old.items (writers_among work.now (writer ∷ [])) kinds.new.items) }
     ensures places { OnOk result (places.new ≡ slice_set places.old writer (book_places stack.now work.now writer)) }
 {
-    let todos = share_of(alloc, work, writer)?;
+    let todos = todos_by(alloc, work, writer)?;
     places[writer as usize] = nodes_of(stack, &todos);
     add_writer(writer, todos, kinds)?;
     Ok(())

@@ -2,7 +2,7 @@
 ghost use Rattle.std.specs.Prelude.{◌≡◌, ◌≤◌};
 ghost use Rattle.bio_records.specs.Items.{item_of};
 ghost use Rattle.bio_books.specs.Views.{linked_of, IsLinkAlone};
-ghost use Rattle.run_machine.specs.Objects.{Opened};
+ghost use Rattle.run_machine.specs.Objects.{OpensNode};
 ghost use Rattle.task_steps.specs.Views.{opening_of, IsAskAlone};
 ghost use Rattle.task_core.specs.Resizing.{HasLegs, Resizes};
 
@@ -25,7 +25,7 @@ pub fn dev_of(el: &BioElement) -> DevId
 pub fn link_in(book: &mut Book, ask: Ask) -> Link
     requires alone { IsAskAlone ask }
     requires legs { HasLegs (opening_of ask) }
-    ensures opened { Opened book.old (opening_of ask) (linked_of result) book.new }
+    ensures opened { OpensNode book.old (opening_of ask) (linked_of result) book.new }
     ensures alone { IsLinkAlone result }
 {
     match ask {

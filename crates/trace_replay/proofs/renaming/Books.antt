@@ -13,7 +13,7 @@ use Rattle.bio_books.specs.Drops.{DropOutcome, DropsAt, Drops}
 use Rattle.bio_books.specs.Drops as end
 use Rattle.bio_books.specs.Links.{Made, IsVacant, ChainsAt, MastersAt, LegsAt}
 use Rattle.run_machine.specs.Maps.{upd}
-use Rattle.run_machine.specs.Objects.{Opened}
+use Rattle.run_machine.specs.Objects.{OpensNode}
 use Rattle.run_machine.specs.Requests.{Opening, Write, Chain, Master, Leg}
 use Rattle.block_core.proofs.moves.Sums.{upd-same, upd-other, same_or_not, within_book}
 use Rattle.block_core.proofs.moves.Deltas.{vacant_at}
@@ -302,7 +302,7 @@ module _ (to : Places) (writer : ℕ) (named : ℕ → Option ℕ) (opened : ℕ
   -- and to an opening
   module _ (key : ℕ) (next : here key ≡ opened) (room : opened < length one.nodes) where
     abbrev OpenedTo : Opening → BookState → Type 0
-    OpenedTo opening now = (like : BookState) × Opened other (opening_to to writer opening) (Made (here key)) like × BookAlike here (upd named key (Some opened)) (opened + 1) now like
+    OpenedTo opening now = (like : BookState) × OpensNode other (opening_to to writer opening) (Made (here key)) like × BookAlike here (upd named key (Some opened)) (opened + 1) now like
 
     -- the parent stands elsewhere
     parent_stays : (parent : ℕ) (node new : Node) → node_at one parent ≡ Some node → IsVacant one key → node_at (with_node one key (Some new)) parent ≡ Some node
@@ -356,7 +356,7 @@ module _ (to : Places) (writer : ℕ) (named : ℕ → Option ℕ) (opened : ℕ
               (opens here named opened one other alike key new 0 is.0 next room),
         )
 
-    pub opened_to : (opening : Opening) (now : BookState) → Opened one opening (Made key) now → OpenedTo opening now
+    pub opened_to : (opening : Opening) (now : BookState) → OpensNode one opening (Made key) now → OpenedTo opening now
     opened_to (Write write vector) now is =
         let new = top_node write vector in
         let like = with_node other (here key) (Some (node_to here 0 new)) in (

@@ -27,7 +27,7 @@ use Rattle.run_machine.specs.declared.event.End.{End}
 use Rattle.stack_base.specs.declared.ids.PoolId.{PoolId}
 use Rattle.run_machine.specs.Maps.{upd}
 use Rattle.run_machine.specs.Requests.{Request, Reply, Opening, Write, Chain, Master, Leg, TakeBio, TakeVec, TakeSlip, GiveBio, GiveVec, GiveSlip, Punt, Pop, Push, Complete, Link, Drop, Done, Resize, NextRound, LookRound, LookLeft, HadBio, HadVec, HadSlip, Missed, Did, Popped, Completed, LinkedTo, DroppedTo, OutIs, Present, LeftOver, Nothing}
-use Rattle.run_machine.specs.Objects.{Objects, Opened, Serves, clear_bio, clear_vector, clear_slip}
+use Rattle.run_machine.specs.Objects.{Objects, OpensNode, Serves, clear_bio, clear_vector, clear_slip}
 use Rattle.run_machine.specs.Laws.{AgreeAt, OfPool, OfTally, object_of, with_object}
 use Rattle.run_machine.specs.Events.{how_of, take_of, miss_of, resize_of, what_of}
 use Rattle.run_machine.proofs.Frames.{one_object_changes, upd_own}
@@ -82,7 +82,7 @@ completed_to to old new index bio status is = record {
 }
 
 -- a new node stands at a place that was vacant, and a node that is told an end is open
-pub vacant_of : (book : BookState) (opening : Opening) (key : ℕ) (new : BookState) → Opened book opening (Made key) new → IsVacant book key
+pub vacant_of : (book : BookState) (opening : Opening) (key : ℕ) (new : BookState) → OpensNode book opening (Made key) new → IsVacant book key
 -- a write
 vacant_of book (Write write vector) key new is = is.0
 -- a front, a master and a leg, under an open node
@@ -259,7 +259,7 @@ module _ (ledger : ℕ → LedgerId) (naming : (number : ℕ) → (ledger number
         like,
         0,
         (
-          subst (λ b. Opened (other.book writer) (opening_to to writer opening) (Made (to writer key)) b) (sym here) book.1,
+          subst (λ b. OpensNode (other.book writer) (opening_to to writer opening) (Made (to writer key)) b) (sym here) book.1,
           ap (λ b. record other { book = upd other.book writer b }) (sym here),
         ),
         subst (λ o. ObjectsAlike count to last o like) (sym serves.1)

@@ -6,8 +6,8 @@ use Rattle.run_machine.specs.Opened.{nodes_of}
 use Rattle.task_core.proofs.opened.Sharing.{few_writes, share_few, share_served, writer_there}
 use Rattle.task_core.proofs.opening.writers.open_writer.Goals as goal
 
-pub share_of-requires-clause-few : goal.share_of-requires-clause-few
-share_of-requires-clause-few c = few_writes c.args.stack.now c.args.work.now.rounds.items c.args.work.now.writes.items c.requires.shared
+pub todos_by-requires-clause-few : goal.todos_by-requires-clause-few
+todos_by-requires-clause-few c = few_writes c.args.stack.now c.args.work.now.rounds.items c.args.work.now.writes.items c.requires.shared
 
 pub nodes_of-requires-clause-writes : goal.nodes_of-requires-clause-writes
 nodes_of-requires-clause-writes c =
