@@ -15,7 +15,7 @@ use Rattle.bio_records.specs.Items.{Item}
 use Rattle.bio_books.specs.Books.{VectorItem, SlipItem, Holding, parent_of}
 use Rattle.run_machine.specs.declared.event.Event.{Event}
 use Rattle.run_machine.specs.Scene.{Setup, Scene, tree_at}
-use Rattle.run_machine.specs.Submissions.{Want, Takes, Punts, Links, ToPush, ToCut, ToRecord, ToMaster, Doing, Rests, Drives, Copies, Breaks}
+use Rattle.run_machine.specs.Submissions.{Want, Takes, WantsPunt, Links, ToPush, ToCut, ToRecord, ToMaster, Doing, Rests, Drives, Copies, Breaks}
 use Rattle.run_machine.specs.Tasks.{Todo, Gathered, NoBio, HasBio, HasBoth, Duty, Resizes, Starts, Keeps, Stops, TaskState, Writer, Rescuer, Completer, Keeper, needs_vector}
 use Rattle.run_machine.specs.Opened.{Scenario, scene, start}
 use Rattle.run_machine.specs.Runs.{State, IsRun}
@@ -119,7 +119,7 @@ charge price was_master setup = record no_weight {
 abbrev pub want_spent : (Paid → ℕ) → Want → ℕ
 want_spent price (Takes false) = 0
 want_spent price (Takes true) = price MissesAtOnce + price IsPunted
-want_spent price Punts = price MissesAtOnce
+want_spent price WantsPunt = price MissesAtOnce
 want_spent price (Links hand) = price MissesAtOnce + price IsPunted + price (IsTaken PieceBio)
 
 abbrev pub doing_spent : (Paid → ℕ) → Doing → ℕ

@@ -7,7 +7,7 @@ use Rattle.stack_base.specs.PoolId.{pool_number}
 use Rattle.stack_base.specs.Tree.{Tree, Leaf, Split, Mirrored}
 use Rattle.layout_model.specs.declared.fragment.Fragment.{Fragment}
 use Rattle.run_machine.specs.Scene.{Setup, Scene, tree_at}
-use Rattle.run_machine.specs.Submissions.{Want, Takes, Punts, Links, Driving, ToPush, ToCut, ToRecord, ToMaster, Doing, Rests, Drives, Copies, Breaks, Submission, rests, legs_of}
+use Rattle.run_machine.specs.Submissions.{Want, Takes, WantsPunt, Links, Driving, ToPush, ToCut, ToRecord, ToMaster, Doing, Rests, Drives, Copies, Breaks, Submission, rests, legs_of}
 use Rattle.run_machine.specs.Tasks.{Gathered, NoBio, HasBio, HasBoth, Carried, Empty, Brings, Carries, Fails, TaskState, Writer, Rescuer, Completer, Keeper}
 use Rattle.run_machine.specs.Runs.{State}
 use Rattle.block_core.specs.Fragments.{fragment_of}
@@ -22,7 +22,7 @@ GatheredIsRight (HasBoth bio vector) submission = (bio.share.no ≡ pool_number 
 -- a driver with a bio in hand has it of its device's set
 abbrev pub WantIsRight : DevId → Want → Type 0
 WantIsRight dev (Takes waits) = Unit {0}
-WantIsRight dev Punts = Unit {0}
+WantIsRight dev WantsPunt = Unit {0}
 WantIsRight dev (Links hand) = hand.share.no ≡ pool_number (Bios dev)
 
 -- a disk's driver pushes, one that cuts asks for a bio, and a mirror's for a record, which is of its device's

@@ -8,7 +8,7 @@ use Rattle.bio_records.specs.declared.tasks.TaskLists.{TaskLists}
 use Rattle.bio_records.specs.Sorting.{is_of}
 use Rattle.run_machine.specs.declared.event.Event.{Event}
 use Rattle.run_machine.specs.Scene.{Setup, Scene}
-use Rattle.run_machine.specs.Submissions.{Want, Takes, Punts, Links, ToPush, ToCut, ToRecord, ToMaster, Doing, Rests, Drives, Copies, Breaks}
+use Rattle.run_machine.specs.Submissions.{Want, Takes, WantsPunt, Links, ToPush, ToCut, ToRecord, ToMaster, Doing, Rests, Drives, Copies, Breaks}
 use Rattle.run_machine.specs.Tasks.{TaskState, Writer, Rescuer, Completer, Keeper}
 use Rattle.run_machine.specs.Opened.{Scenario, scene, start}
 use Rattle.run_machine.specs.Runs.{State, IsRun}
@@ -19,7 +19,7 @@ use Rattle.block_core.specs.Scenarios.{IsScenario, IsNaming}
 abbrev pub NoneBehind : Setup → DevId → Want → TaskLists → Type 0
 NoneBehind setup dev (Takes true) lists = All (λ item. is_of (Of dev) item ≡ false) lists.list0 × All (λ item. is_of (Of dev) item ≡ false) lists.list1
 NoneBehind setup dev (Takes false) lists = setup.rescuer dev.0 ≡ true
-NoneBehind setup dev Punts lists = setup.rescuer dev.0 ≡ true
+NoneBehind setup dev WantsPunt lists = setup.rescuer dev.0 ≡ true
 NoneBehind setup dev (Links hand) lists = Unit {0}
 
 abbrev pub DoesNotWaitForItself : Setup → Doing → TaskLists → Type 0

@@ -7,7 +7,7 @@ use Rattle.bio_books.specs.Books.{Node, BookState, VectorItem, SlipItem, Holding
 use Rattle.bio_books.specs.Drops.{Closed}
 use Rattle.model_disks.specs.Disks.{DiskState}
 use Rattle.run_machine.specs.Scene.{Setup, Scene, tree_at}
-use Rattle.run_machine.specs.Submissions.{Want, Takes, Punts, Links, Driving, ToPush, ToCut, ToRecord, ToMaster, Doing, Rests, Drives, Copies, Breaks, Submission, legs_of}
+use Rattle.run_machine.specs.Submissions.{Want, Takes, WantsPunt, Links, Driving, ToPush, ToCut, ToRecord, ToMaster, Doing, Rests, Drives, Copies, Breaks, Submission, legs_of}
 use Rattle.run_machine.specs.Tasks.{Todo, Gathered, NoBio, HasBio, HasBoth, Carried, Empty, Brings, Carries, Fails, TaskState, Writer, Rescuer, Completer, Keeper}
 use Rattle.run_machine.specs.Runs.{State}
 
@@ -59,7 +59,7 @@ no_weight = record {
 
 abbrev pub want_weight : Weight → Want → ℕ
 want_weight w (Takes waits) = 0
-want_weight w Punts = 0
+want_weight w WantsPunt = 0
 want_weight w (Links hand) = w.hand hand
 
 abbrev pub ask_weight : Weight → Driving → ℕ

@@ -13,7 +13,7 @@ use Rattle.bio_books.specs.Books.{VectorItem, SlipItem}
 use Rattle.bio_books.specs.Drops.{Closed}
 use Rattle.run_machine.specs.Maps.{upd}
 use Rattle.run_machine.specs.Scene.{Setup}
-use Rattle.run_machine.specs.Submissions.{Takes, Punts, Links, ToPush, ToCut, ToRecord, ToMaster, Doing, Rests, Drives, Copies, Breaks, Submission, submission_request, submission_answered}
+use Rattle.run_machine.specs.Submissions.{Takes, WantsPunt, Links, ToPush, ToCut, ToRecord, ToMaster, Doing, Rests, Drives, Copies, Breaks, Submission, submission_request, submission_answered}
 use Rattle.run_machine.specs.Requests as requests
 use Rattle.run_machine.specs.Requests.{Request, Reply}
 use Rattle.run_machine.specs.Tasks.{TaskState, Writer, Rescuer, Completer, Keeper, Keeps, Stops, Duty, Resizes, Starts, Todo, Gathered, NoBio, HasBio, HasBoth, Empty, Brings, Carries, Fails, request, answered, with_bio, needs_vector, closed_request}
@@ -66,7 +66,7 @@ module _ (setup : Setup) where
   submission_stays (Drives bio (ToCut (Takes true))) lists _ idle = absurd idle
   submission_stays (Drives bio (ToCut (Takes false))) lists (requests.Missed used) idle = absurd idle
   submission_stays (Drives bio (ToCut (Takes false))) lists _ idle = absurd idle
-  submission_stays (Drives bio (ToCut Punts)) lists reply idle = absurd idle
+  submission_stays (Drives bio (ToCut WantsPunt)) lists reply idle = absurd idle
   submission_stays (Drives bio (ToCut (Links hand))) lists reply idle = absurd idle
   submission_stays (Drives bio ToRecord) lists (requests.Missed used) idle = refl
   submission_stays (Drives bio ToRecord) lists _ idle = absurd idle
@@ -76,7 +76,7 @@ module _ (setup : Setup) where
   submission_stays (Copies bio master leg (Takes true)) lists _ idle = absurd idle
   submission_stays (Copies bio master leg (Takes false)) lists (requests.Missed used) idle = absurd idle
   submission_stays (Copies bio master leg (Takes false)) lists _ idle = absurd idle
-  submission_stays (Copies bio master leg Punts) lists reply idle = absurd idle
+  submission_stays (Copies bio master leg WantsPunt) lists reply idle = absurd idle
   submission_stays (Copies bio master leg (Links hand)) lists reply idle = absurd idle
 
   bio_stays : (b : Bool) (number : ℕ) (todo : Todo) (later : List Todo) (bio : Item Pad) (submission : Submission) (reply : Reply) → submission.doing ≡ Rests → IsIdle (with_bio number b todo) reply
@@ -134,12 +134,12 @@ module _ (setup : Setup) where
   fair_submission objects (Breaks breach kept) lists = tt
   fair_submission objects (Drives bio ToPush) lists = tt
   fair_submission objects (Drives bio (ToCut (Takes waits))) lists = tt
-  fair_submission objects (Drives bio (ToCut Punts)) lists = tt
+  fair_submission objects (Drives bio (ToCut WantsPunt)) lists = tt
   fair_submission objects (Drives bio (ToCut (Links hand))) lists = tt
   fair_submission objects (Drives bio ToRecord) lists = tt
   fair_submission objects (Drives bio (ToMaster slip)) lists = tt
   fair_submission objects (Copies bio master leg (Takes waits)) lists = tt
-  fair_submission objects (Copies bio master leg Punts) lists = tt
+  fair_submission objects (Copies bio master leg WantsPunt) lists = tt
   fair_submission objects (Copies bio master leg (Links hand)) lists = tt
 
   fair_bio : (objects : Objects) (b : Bool) (number : ℕ) (todo : Todo) → IsFair objects (with_bio number b todo)

@@ -28,7 +28,7 @@ use Rattle.run_machine.specs.Requests.{Request, Reply, TakeBio, TakeSlip, Punt, 
 -- with the bio that it had it links a node. A type of its own, for a cut and for a leg alike, so that a copy can ask for nothing else
 pub data Want : Type 0 where
   Takes : (waits : Bool) → Want
-  Punts : Want
+  WantsPunt : Want
   Links : (hand : Item Pad) → Want
 
 -- what a driver does with the bio that it has: a disk's takes it, one that cuts wants a bio for the first piece, and a mirror's takes a
@@ -144,13 +144,13 @@ submission_request setup Rests lists = Rest
 submission_request setup (Breaks breach kept) lists = Rest
 submission_request setup (Drives bio ToPush) lists = Push bio
 submission_request setup (Drives bio (ToCut (Takes waits))) lists = TakeBio (Of bio.bio.dev) waits
-submission_request setup (Drives bio (ToCut Punts)) lists = Punt bio.bio.dev (punted (Of bio.bio.dev) lists)
+submission_request setup (Drives bio (ToCut WantsPunt)) lists = Punt bio.bio.dev (punted (Of bio.bio.dev) lists)
 submission_request setup (Drives bio (ToCut (Links hand))) lists = Link bio.bio.writer (Chain bio.bio.node)
 submission_request setup (Drives bio ToRecord) lists = TakeSlip bio.bio.dev
 submission_request setup (Drives bio (ToMaster slip)) lists =
     Link bio.bio.writer (Master bio.bio.node bio slip (legs_of (tree_at setup bio.bio.dev)))
 submission_request setup (Copies bio master leg (Takes waits)) lists = TakeBio (Of bio.dev) waits
-submission_request setup (Copies bio master leg Punts) lists = Punt bio.dev (punted (Of bio.dev) lists)
+submission_request setup (Copies bio master leg WantsPunt) lists = Punt bio.dev (punted (Of bio.dev) lists)
 submission_request setup (Copies bio master leg (Links hand)) lists = Link bio.writer (Leg master)
 
 -- a link that was refused, where the named node is this one, and these elements were at hand besides
@@ -182,7 +182,7 @@ after_leg setup lists bio master leg hand (Stray back) =
 -- what a submission has at hand, besides its lists
 abbrev pub want_kept : Want → List Kept
 want_kept (Takes waits) = []
-want_kept Punts = []
+want_kept WantsPunt = []
 want_kept (Links hand) = KeptBio hand ∷ []
 
 abbrev pub ask_kept : Driving → List Kept
@@ -200,7 +200,7 @@ at_hand (Breaks breach kept) = kept
 -- the device whose bios it hands to the rescuer, if that is what it asks for
 abbrev pub want_punts : DevId → Want → Option DevId
 want_punts dev (Takes waits) = None
-want_punts dev Punts = Some dev
+want_punts dev WantsPunt = Some dev
 want_punts dev (Links hand) = None
 
 abbrev pub punts_of : Doing → Option DevId
@@ -220,7 +220,7 @@ spent kept lists (Some dev) = record { doing = Breaks breach.Spent (kept ++ map 
 -- behind a miss: an attempt that waits is made again, and one that does not is followed by a punt
 abbrev pub after_miss : Bool → Want
 after_miss true = Takes true
-after_miss false = Punts
+after_miss false = WantsPunt
 
 -- how a submission goes on with a reply; one that is no answer to what it asked for leaves it as it is
 abbrev pub submission_answered : Setup → Doing → TaskLists → Reply → Submission
@@ -228,7 +228,7 @@ submission_answered setup doing lists NoTicket = spent (at_hand doing) lists (pu
 submission_answered setup (Drives bio ToPush) lists Did = goes_on setup bio.bio.dev lists
 submission_answered setup (Drives bio (ToCut (Takes waits))) lists (HadBio got hand) = record { doing = Drives bio (ToCut (Links hand)); lists = lists }
 submission_answered setup (Drives bio (ToCut (Takes waits))) lists (Missed used) = record { doing = Drives bio (ToCut (after_miss waits)); lists = lists }
-submission_answered setup (Drives bio (ToCut Punts)) lists Did =
+submission_answered setup (Drives bio (ToCut WantsPunt)) lists Did =
     record { doing = Drives bio (ToCut (Takes true)); lists = unpunted (Of bio.bio.dev) lists }
 submission_answered setup (Drives bio (ToCut (Links hand))) lists (LinkedTo answer) = after_chain setup lists bio hand answer
 submission_answered setup (Drives bio ToRecord) lists (HadSlip got slip) = record { doing = Drives bio (ToMaster slip); lists = lists }
@@ -236,6 +236,6 @@ submission_answered setup (Drives bio (ToMaster slip)) lists (LinkedTo answer) =
 submission_answered setup (Copies bio master leg (Takes waits)) lists (HadBio got hand) = record { doing = Copies bio master leg (Links hand); lists = lists }
 submission_answered setup (Copies bio master leg (Takes waits)) lists (Missed used) =
     record { doing = Copies bio master leg (after_miss waits); lists = lists }
-submission_answered setup (Copies bio master leg Punts) lists Did = record { doing = Copies bio master leg (Takes true); lists = unpunted (Of bio.dev) lists }
+submission_answered setup (Copies bio master leg WantsPunt) lists Did = record { doing = Copies bio master leg (Takes true); lists = unpunted (Of bio.dev) lists }
 submission_answered setup (Copies bio master leg (Links hand)) lists (LinkedTo answer) = after_leg setup lists bio master leg hand answer
 submission_answered setup doing lists _ = record { doing = doing; lists = lists }

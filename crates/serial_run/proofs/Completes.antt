@@ -8,7 +8,7 @@ use Rattle.bio_records.specs.declared.tasks.TaskLists.{TaskLists}
 use Rattle.run_machine.specs.declared.event.What.{What}
 use Rattle.run_machine.specs.declared.event.What.TheVariants as what
 use Rattle.run_machine.specs.Events.{what_of, resize_of}
-use Rattle.run_machine.specs.Submissions.{Doing, Rests, Drives, Copies, Breaks, Takes, Punts, Links, ToPush, ToCut, ToRecord, ToMaster, Submission, submission_request}
+use Rattle.run_machine.specs.Submissions.{Doing, Rests, Drives, Copies, Breaks, Takes, WantsPunt, Links, ToPush, ToCut, ToRecord, ToMaster, Submission, submission_request}
 use Rattle.run_machine.specs.Objects.{Objects}
 use Rattle.task_core.specs.PlainSteps.{HasRound}
 use Rattle.run_machine.specs.Requests.{Request, Reply}
@@ -116,13 +116,13 @@ module _ (setup : Setup) where
   -- a bio that is driven
   submission_asks (Drives bio ToPush) lists = refl
   submission_asks (Drives bio (ToCut (Takes waits))) lists = refl
-  submission_asks (Drives bio (ToCut Punts)) lists = refl
+  submission_asks (Drives bio (ToCut WantsPunt)) lists = refl
   submission_asks (Drives bio (ToCut (Links hand))) lists = refl
   submission_asks (Drives bio ToRecord) lists = refl
   submission_asks (Drives bio (ToMaster slip)) lists = refl
   -- copies for the legs of a mirror
   submission_asks (Copies bio master leg (Takes waits)) lists = refl
-  submission_asks (Copies bio master leg Punts) lists = refl
+  submission_asks (Copies bio master leg WantsPunt) lists = refl
   submission_asks (Copies bio master leg (Links hand)) lists = refl
 
   bio_asks : (b : Bool) (writer : ℕ) (todo : Todo) → is_other (with_bio writer b todo) ≡ true

@@ -12,7 +12,7 @@ use Rattle.run_machine.specs.Requests.{TakeBio, NoTicket}
 use Rattle.bio_records.specs.declared.bio.Bio.{Bio}
 use Rattle.bio_records.specs.declared.bio.Pad.{Pad}
 use Rattle.bio_records.specs.Items.{Item}
-use Rattle.run_machine.specs.Submissions.{Want, Takes, Punts, Links, Driving, ToPush, ToCut, ToRecord, ToMaster, Doing, Rests, Drives, Copies, Breaks, want_kept, ask_kept, at_hand}
+use Rattle.run_machine.specs.Submissions.{Want, Takes, WantsPunt, Links, Driving, ToPush, ToCut, ToRecord, ToMaster, Doing, Rests, Drives, Copies, Breaks, want_kept, ask_kept, at_hand}
 use Rattle.task_steps.specs.Service.{Service, Owing}
 use Rattle.task_steps.specs.SubmissionViews.{attempt_of}
 use Rattle.task_steps.specs.Answers.{AnswersSubmission, IsSpent}
@@ -21,14 +21,14 @@ use Rattle.task_steps.specs.Answers.{AnswersSubmission, IsSpent}
 pub cuts_for_none : (bio : Item Pad) (ask : Driving) → attempt_of (Drives bio ask) ≢ None → ask_kept ask ≡ []
 cuts_for_none bio ToPush takes = absurd (takes refl)
 cuts_for_none bio (ToCut (Takes waits)) takes = refl
-cuts_for_none bio (ToCut Punts) takes = absurd (takes refl)
+cuts_for_none bio (ToCut WantsPunt) takes = absurd (takes refl)
 cuts_for_none bio (ToCut (Links hand)) takes = absurd (takes refl)
 cuts_for_none bio ToRecord takes = absurd (takes refl)
 cuts_for_none bio (ToMaster slip) takes = absurd (takes refl)
 
 pub copies_for_none : (bio : Bio) (master leg : ℕ) (want : Want) → attempt_of (Copies bio master leg want) ≢ None → want_kept want ≡ []
 copies_for_none bio master leg (Takes waits) takes = refl
-copies_for_none bio master leg Punts takes = absurd (takes refl)
+copies_for_none bio master leg WantsPunt takes = absurd (takes refl)
 copies_for_none bio master leg (Links hand) takes = absurd (takes refl)
 
 module _ {S : Type 0} (serves : Service S) (owes : Owing) (setup : Setup) (task : TaskId) where
@@ -59,9 +59,9 @@ module _ {S : Type 0} (serves : Service S) (owes : Owing) (setup : Setup) (task 
   attempt_spent Rests lists dev waits old new attempts spent = absurd (none-some (dev, waits) attempts)
   attempt_spent (Breaks why kept) lists dev waits old new attempts spent = absurd (none-some (dev, waits) attempts)
   attempt_spent (Drives bio ToPush) lists dev waits old new attempts spent = absurd (none-some (dev, waits) attempts)
-  attempt_spent (Drives bio (ToCut Punts)) lists dev waits old new attempts spent = absurd (none-some (dev, waits) attempts)
+  attempt_spent (Drives bio (ToCut WantsPunt)) lists dev waits old new attempts spent = absurd (none-some (dev, waits) attempts)
   attempt_spent (Drives bio (ToCut (Links hand))) lists dev waits old new attempts spent = absurd (none-some (dev, waits) attempts)
   attempt_spent (Drives bio ToRecord) lists dev waits old new attempts spent = absurd (none-some (dev, waits) attempts)
   attempt_spent (Drives bio (ToMaster slip)) lists dev waits old new attempts spent = absurd (none-some (dev, waits) attempts)
-  attempt_spent (Copies bio master leg Punts) lists dev waits old new attempts spent = absurd (none-some (dev, waits) attempts)
+  attempt_spent (Copies bio master leg WantsPunt) lists dev waits old new attempts spent = absurd (none-some (dev, waits) attempts)
   attempt_spent (Copies bio master leg (Links hand)) lists dev waits old new attempts spent = absurd (none-some (dev, waits) attempts)

@@ -17,7 +17,7 @@ use Rattle.run_machine.specs.declared.event.What.{What}
 use Rattle.run_machine.specs.declared.event.What.TheVariants as what
 use Rattle.run_machine.specs.Scene.{Setup}
 use Rattle.run_machine.specs.Requests.{Request, Reply, TakeBio, Resize, HadBio, HadVec, HadSlip, Missed, Did, Popped, Completed, LinkedTo, DroppedTo, OutIs, Nothing, NoTicket, LookLeft, LeftOver, Rest}
-use Rattle.run_machine.specs.Submissions.{Takes, Punts, Links, ToPush, ToCut, ToRecord, ToMaster, Doing, Rests, Drives, Copies, Breaks, Submission, submission_request, submission_answered, doing_breach}
+use Rattle.run_machine.specs.Submissions.{Takes, WantsPunt, Links, ToPush, ToCut, ToRecord, ToMaster, Doing, Rests, Drives, Copies, Breaks, Submission, submission_request, submission_answered, doing_breach}
 use Rattle.run_machine.specs.Tasks.{Todo, Gathered, NoBio, HasBio, HasBoth, Carried, Empty, Brings, Carries, Fails, Duty, Resizes, Starts, Keeping, Keeps, Stops, TaskState, Writer, Rescuer, Completer, Keeper, needs_vector, with_bio, write_request, writer_request, rescuer_request, closed_request, carried_request, keeper_request, write_answered, writer_answered, rescuer_answered, parent_or, carried_answered, after_resize, keeper_answered, carried_breach, keeping_breach, request, look_of, lets, answered, breach_of}
 use Rattle.run_machine.specs.Events.{what_of, resize_of, id_of}
 use Rattle.task_steps.specs.declared.objects.Objects.{Ghosts}
@@ -66,9 +66,9 @@ module _ (stage : Stage) (setup : Setup) where
   submission_comes (Drives bio (ToCut (Takes waits))) lists NoTicket any owed = Refuses breach.Spent refl refl refl
   submission_comes (Drives bio (ToCut (Takes waits))) lists reply any owed = absurd owed
   -- a punt
-  submission_comes (Drives bio (ToCut Punts)) lists Did any owed = Tells _ refl
-  submission_comes (Drives bio (ToCut Punts)) lists NoTicket any owed = Refuses breach.Spent refl refl refl
-  submission_comes (Drives bio (ToCut Punts)) lists reply any owed = absurd owed
+  submission_comes (Drives bio (ToCut WantsPunt)) lists Did any owed = Tells _ refl
+  submission_comes (Drives bio (ToCut WantsPunt)) lists NoTicket any owed = Refuses breach.Spent refl refl refl
+  submission_comes (Drives bio (ToCut WantsPunt)) lists reply any owed = absurd owed
   -- a node for the cut, which the book may refuse
   submission_comes (Drives bio (ToCut (Links hand))) lists (LinkedTo (Made node)) any owed = Tells _ refl
   submission_comes (Drives bio (ToCut (Links hand))) lists (LinkedTo (NoRoom back)) any owed = Refuses _ refl refl refl
@@ -94,9 +94,9 @@ module _ (stage : Stage) (setup : Setup) where
   submission_comes (Copies bio master leg (Takes false)) lists (Missed used) any owed = Tells _ refl
   submission_comes (Copies bio master leg (Takes waits)) lists NoTicket any owed = Refuses breach.Spent refl refl refl
   submission_comes (Copies bio master leg (Takes waits)) lists reply any owed = absurd owed
-  submission_comes (Copies bio master leg Punts) lists Did any owed = Tells _ refl
-  submission_comes (Copies bio master leg Punts) lists NoTicket any owed = Refuses breach.Spent refl refl refl
-  submission_comes (Copies bio master leg Punts) lists reply any owed = absurd owed
+  submission_comes (Copies bio master leg WantsPunt) lists Did any owed = Tells _ refl
+  submission_comes (Copies bio master leg WantsPunt) lists NoTicket any owed = Refuses breach.Spent refl refl refl
+  submission_comes (Copies bio master leg WantsPunt) lists reply any owed = absurd owed
   submission_comes (Copies bio master leg (Links hand)) lists (LinkedTo (Made node)) any owed = Tells _ refl
   submission_comes (Copies bio master leg (Links hand)) lists (LinkedTo (NoRoom back)) any owed = Refuses _ refl refl refl
   submission_comes (Copies bio master leg (Links hand)) lists (LinkedTo (Stray back)) any owed = Refuses _ refl refl refl

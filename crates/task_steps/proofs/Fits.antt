@@ -17,7 +17,7 @@ use Rattle.bio_books.specs.Links.{Linked, Made, NoRoom, Stray}
 use Rattle.task_steps.specs.declared.routes.Cut.{Cut}
 use Rattle.run_machine.specs.Scene.{Setup, setup_of, keeps_data, is_mirror}
 use Rattle.run_machine.specs.Kept.{Kept}
-use Rattle.run_machine.specs.Submissions.{Takes, Punts, Links, ToPush, ToCut, ToRecord, ToMaster, Doing, Rests, Drives, Copies, Breaks, Submission, landed, asks_at, settled, goes_on, cut_at, legs_of, leg_at, copies, submission_request, after_chain, after_master, after_leg, at_hand, punts_of, spent, submission_answered, is_cut}
+use Rattle.run_machine.specs.Submissions.{Takes, WantsPunt, Links, ToPush, ToCut, ToRecord, ToMaster, Doing, Rests, Drives, Copies, Breaks, Submission, landed, asks_at, settled, goes_on, cut_at, legs_of, leg_at, copies, submission_request, after_chain, after_master, after_leg, at_hand, punts_of, spent, submission_answered, is_cut}
 use Rattle.run_machine.specs.Requests.{Reply, HadBio, HadSlip, Missed, Did, LinkedTo, NoTicket}
 use Rattle.task_steps.specs.Within.{IsWithinDevice, IsItemWithin, AreWithin, ListsAreWithin, is_handed_on, DoingFits, SubmissionIsWithin, AskedFits, SubmissionsStayWithin}
 use Rattle.task_steps.specs.Routed.{sent, IsLanded, IsCutAt}
@@ -136,7 +136,7 @@ module _ (stack : Stack) (good : IsStack stack) (places : ℕ → ℕ) where
   submission_fits (Drives bio (ToCut (Takes waits))) lists (HadBio got hand) fits all = record { doing = fits; lists = all }
   submission_fits (Drives bio (ToCut (Takes true))) lists (Missed used) fits all = record { doing = fits; lists = all }
   submission_fits (Drives bio (ToCut (Takes false))) lists (Missed used) fits all = record { doing = fits; lists = all }
-  submission_fits (Drives bio (ToCut Punts)) lists Did fits all =
+  submission_fits (Drives bio (ToCut WantsPunt)) lists Did fits all =
       record { doing = fits; lists = all_unpunted (IsItemWithin stack) lists all bio.bio.dev }
   submission_fits (Drives bio (ToCut (Links hand))) lists (LinkedTo answer) fits all = chain_fits lists bio hand answer all fits.0 fits.1
   -- a mirror: it has its record, and its node
@@ -145,7 +145,7 @@ module _ (stack : Stack) (good : IsStack stack) (places : ℕ → ℕ) where
   -- a leg, as a cut
   submission_fits (Copies bio master leg (Takes waits)) lists (HadBio got hand) fits all = record { doing = fits; lists = all }
   submission_fits (Copies bio master leg (Takes waits)) lists (Missed used) fits all = record { doing = fits; lists = all }
-  submission_fits (Copies bio master leg Punts) lists Did fits all =
+  submission_fits (Copies bio master leg WantsPunt) lists Did fits all =
       record { doing = fits; lists = all_unpunted (IsItemWithin stack) lists all bio.dev }
   submission_fits (Copies bio master leg (Links hand)) lists (LinkedTo answer) fits all = leg_fits lists bio master leg hand answer all fits.0 fits.1
   -- any other reply changes nothing
@@ -157,12 +157,12 @@ submission_asks stack places Rests lists all = tt
 submission_asks stack places (Breaks breach kept) lists all = tt
 submission_asks stack places (Drives bio ToPush) lists all = tt
 submission_asks stack places (Drives bio (ToCut (Takes waits))) lists all = tt
-submission_asks stack places (Drives bio (ToCut Punts)) lists all = all_punted (IsItemWithin stack) lists all bio.bio.dev
+submission_asks stack places (Drives bio (ToCut WantsPunt)) lists all = all_punted (IsItemWithin stack) lists all bio.bio.dev
 submission_asks stack places (Drives bio (ToCut (Links hand))) lists all = tt
 submission_asks stack places (Drives bio ToRecord) lists all = tt
 submission_asks stack places (Drives bio (ToMaster slip)) lists all = tt
 submission_asks stack places (Copies bio master leg (Takes waits)) lists all = tt
-submission_asks stack places (Copies bio master leg Punts) lists all = all_punted (IsItemWithin stack) lists all bio.dev
+submission_asks stack places (Copies bio master leg WantsPunt) lists all = all_punted (IsItemWithin stack) lists all bio.dev
 submission_asks stack places (Copies bio master leg (Links hand)) lists all = tt
 
 pub submissions_stay_within : SubmissionsStayWithin

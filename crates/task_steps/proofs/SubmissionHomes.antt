@@ -27,7 +27,7 @@ use Rattle.run_machine.specs.Scene.{is_device, has_set, keeps_data, is_mirror}
 use Rattle.run_machine.specs.Requests.{Reply, HadBio, HadSlip, Missed, Did, LinkedTo, NoTicket}
 use Rattle.run_machine.specs.Kept.{Kept}
 use Rattle.bioset_pools.specs.Sets.{is_empty, waits_first}
-use Rattle.run_machine.specs.Submissions.{Takes, Punts, Links, ToPush, ToCut, ToRecord, ToMaster, Doing, Rests, Drives, Copies, Breaks, first_length, mapped, landed, asks_at, landed_doing, settled, goes_on, cut_at, legs_of, leg_at, copies, submission_request, after_chain, after_master, after_leg, at_hand, punts_of, spent, submission_answered, is_cut}
+use Rattle.run_machine.specs.Submissions.{Takes, WantsPunt, Links, ToPush, ToCut, ToRecord, ToMaster, Doing, Rests, Drives, Copies, Breaks, first_length, mapped, landed, asks_at, landed_doing, settled, goes_on, cut_at, legs_of, leg_at, copies, submission_request, after_chain, after_master, after_leg, at_hand, punts_of, spent, submission_answered, is_cut}
 use Rattle.task_steps.specs.Routed.{routing_setup, places_at, sent}
 use Rattle.task_steps.specs.Routed.{copies_bios as copies_shape}
 use Rattle.task_steps.specs.Within.{IsWithinDevice, IsItemWithin, ListsAreWithin, DoingFits}
@@ -131,7 +131,7 @@ submission_asks stage good (Drives bio ToPush) lists fits home within owned =
     (record { within = fits.0; writer = home.0.writer; home = home.0.home }, both_true _ _ (device_is stage bio.bio fits.0) fits.1)
 submission_asks stage good (Drives bio (ToCut (Takes waits))) lists fits home within owned =
     set_is stage bio.bio fits.0 (cut_keeps_none (tree stage.routing.stack bio.bio.dev.0) bio.bio.range fits.1)
-submission_asks stage good (Drives bio (ToCut Punts)) lists fits home within owned =
+submission_asks stage good (Drives bio (ToCut WantsPunt)) lists fits home within owned =
     (home.1, all_punted (IsServed stage) lists (lists_served stage lists within owned) bio.bio.dev)
 submission_asks stage good (Drives bio (ToCut (Links hand))) lists fits home within owned = (home.0.writer, tt)
 submission_asks stage good (Drives bio ToRecord) lists fits home within owned = both_true _ _ (device_is stage bio.bio fits.0) fits.1
@@ -139,7 +139,7 @@ submission_asks stage good (Drives bio (ToMaster slip)) lists fits home within o
     (home.0.writer, (some_leg stage.routing.stack good bio.bio.dev.0 fits.0.device fits.1, home.0.home, home.1))
 submission_asks stage good (Copies bio master leg (Takes waits)) lists fits home within owned =
     set_is stage bio fits.0 (legs_keep_none (tree stage.routing.stack bio.dev.0) leg fits.1)
-submission_asks stage good (Copies bio master leg Punts) lists fits home within owned =
+submission_asks stage good (Copies bio master leg WantsPunt) lists fits home within owned =
     (home.1, all_punted (IsServed stage) lists (lists_served stage lists within owned) bio.dev)
 submission_asks stage good (Copies bio master leg (Links hand)) lists fits home within owned = (home.0, tt)
 
@@ -283,7 +283,7 @@ module _ (stage : Stage) (good : IsStack stage.routing.stack) where
       stays _ lists fits (home.0, owes.home) within owned
   submission_home (Drives bio (ToCut (Takes true))) lists (Missed used) fits home within owned owes = stays _ lists fits (home.0, tt) within owned
   submission_home (Drives bio (ToCut (Takes false))) lists (Missed used) fits home within owned owes = stays _ lists fits (home.0, home.1) within owned
-  submission_home (Drives bio (ToCut Punts)) lists Did fits home within owned owes =
+  submission_home (Drives bio (ToCut WantsPunt)) lists Did fits home within owned owes =
       stays _ _ fits (home.0, tt) (all_unpunted (IsItemWithin stage.routing.stack) lists within bio.bio.dev)
       (all_unpunted (IsOwned stage) lists owned bio.bio.dev)
   submission_home (Drives bio (ToCut (Links hand))) lists (LinkedTo answer) fits home within owned owes =
@@ -297,7 +297,7 @@ module _ (stage : Stage) (good : IsStack stage.routing.stack) where
       stays _ lists fits (home.0, owes.home) within owned
   submission_home (Copies bio master leg (Takes true)) lists (Missed used) fits home within owned owes = stays _ lists fits (home.0, tt) within owned
   submission_home (Copies bio master leg (Takes false)) lists (Missed used) fits home within owned owes = stays _ lists fits (home.0, home.1) within owned
-  submission_home (Copies bio master leg Punts) lists Did fits home within owned owes =
+  submission_home (Copies bio master leg WantsPunt) lists Did fits home within owned owes =
       stays _ _ fits (home.0, tt) (all_unpunted (IsItemWithin stage.routing.stack) lists within bio.dev)
       (all_unpunted (IsOwned stage) lists owned bio.dev)
   submission_home (Copies bio master leg (Links hand)) lists (LinkedTo answer) fits home within owned owes =

@@ -10,7 +10,7 @@ use Rattle.task_steps.specs.declared.step.Step.TheVariants.{Waiting}
 use Rattle.task_steps.specs.declared.writer.begin.Attempt.{Attempt}
 use Rattle.run_machine.specs.Scene.{Setup}
 use Rattle.run_machine.specs.Requests.{Reply, TakeBio, LookRound, Present}
-use Rattle.run_machine.specs.Submissions.{Takes, Punts, Links, ToPush, ToCut, ToRecord, ToMaster, Doing, Rests, Drives, Copies, Breaks, Submission, submission_request, submission_answered}
+use Rattle.run_machine.specs.Submissions.{Takes, WantsPunt, Links, ToPush, ToCut, ToRecord, ToMaster, Doing, Rests, Drives, Copies, Breaks, Submission, submission_request, submission_answered}
 use Rattle.run_machine.specs.Tasks.{Todo, Gathered, NoBio, HasBio, HasBoth, TaskState, Writer, Rescuer, needs_vector, with_bio, write_request, writer_request, writer_look, lets, rescuer_request, writer_answered, rescuer_answered}
 use Rattle.task_steps.specs.Service.{Service, Owing}
 use Rattle.task_steps.specs.Turns.{Asks, Turns, Waited, Asked, Saw}
@@ -26,12 +26,12 @@ module _ {S : Type 0} (serves : Service S) (owes : Owing) (setup : Setup) where
   submission_asks_any (Breaks breach kept) lists asking = asking
   submission_asks_any (Drives bio ToPush) lists asking = refl
   submission_asks_any (Drives bio (ToCut (Takes waits))) lists asking = refl
-  submission_asks_any (Drives bio (ToCut Punts)) lists asking = refl
+  submission_asks_any (Drives bio (ToCut WantsPunt)) lists asking = refl
   submission_asks_any (Drives bio (ToCut (Links hand))) lists asking = refl
   submission_asks_any (Drives bio ToRecord) lists asking = refl
   submission_asks_any (Drives bio (ToMaster slip)) lists asking = refl
   submission_asks_any (Copies bio master leg (Takes waits)) lists asking = refl
-  submission_asks_any (Copies bio master leg Punts) lists asking = refl
+  submission_asks_any (Copies bio master leg WantsPunt) lists asking = refl
   submission_asks_any (Copies bio master leg (Links hand)) lists asking = refl
 
   asking_is : (doing : Doing) → is_asking doing ≡ true → is_over doing ≡ false

@@ -7,7 +7,7 @@ use Rattle.layout_model.specs.Writes.{IsWrite}
 use Rattle.bio_records.specs.declared.bio.Pad.{Pad}
 use Rattle.bio_records.specs.Items.{Item}
 use Rattle.run_machine.specs.Requests.{Reply}
-use Rattle.run_machine.specs.Submissions.{Want, Takes, Punts, Links, Driving, ToPush, ToCut, ToRecord, ToMaster, Doing, Rests, Drives, Copies, Breaks, Submission, submission_request, submission_answered}
+use Rattle.run_machine.specs.Submissions.{Want, Takes, WantsPunt, Links, Driving, ToPush, ToCut, ToRecord, ToMaster, Doing, Rests, Drives, Copies, Breaks, Submission, submission_request, submission_answered}
 use Rattle.run_machine.specs.Tasks.{Todo, Gathered, NoBio, HasBio, HasBoth, Carried, Empty, Brings, Carries, Fails, Duty, Resizes, Starts, Keeping, Keeps, Stops, TaskState, Writer, Rescuer, Completer, Keeper, request, answered}
 use Rattle.task_steps.specs.Routed.{routing_setup}
 use Rattle.task_steps.specs.Stage.{Stage, has_book, has_rescuer, has_disk, is_pool, is_bios, is_vecs, is_slips, IsHome, ClosedFits, RequestFits, Owes}
@@ -22,7 +22,7 @@ pub record IsOwned (stage : Stage) (item : Item Pad) : Type 0 where
 abbrev pub WantFits : Stage → DevId → Want → Type 0
 WantFits stage dev (Takes true) = Unit {0}
 WantFits stage dev (Takes false) = IsTrue (has_rescuer stage dev)
-WantFits stage dev Punts = IsTrue (has_rescuer stage dev)
+WantFits stage dev WantsPunt = IsTrue (has_rescuer stage dev)
 WantFits stage dev (Links hand) = IsHome stage is_bios hand.share
 
 abbrev pub AskIsHome : Stage → DevId → Driving → Type 0

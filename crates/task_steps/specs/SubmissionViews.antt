@@ -22,12 +22,12 @@ use Rattle.task_steps.specs.declared.submission.Doing.TheVariants as doing
 use Rattle.task_steps.specs.declared.submission.mirror.Copying.{Copying}
 use Rattle.run_machine.specs.Kept.{Kept, KeptBio, KeptVec, KeptSlip, bio_kept, holding_kept, opening_kept}
 use Rattle.task_steps.specs.Views.{vec_item, opening_of}
-use Rattle.run_machine.specs.Submissions.{Want, Takes, Punts, Links, Driving, ToPush, ToCut, ToRecord, ToMaster, Doing, Rests, Drives, Copies, Breaks, Submission, landed_doing}
+use Rattle.run_machine.specs.Submissions.{Want, Takes, WantsPunt, Links, Driving, ToPush, ToCut, ToRecord, ToMaster, Doing, Rests, Drives, Copies, Breaks, Submission, landed_doing}
 use Rattle.run_machine.specs.Scene.{Setup}
 
 abbrev pub want_of : RealWant → Want
 want_of (want.Takes waits) = Takes waits
-want_of want.Punts = Punts
+want_of want.Punts = WantsPunt
 want_of (want.Links hand) = Links (item_of hand)
 
 abbrev pub ask_of : DriverAsk → Driving

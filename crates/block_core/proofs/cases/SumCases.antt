@@ -12,7 +12,7 @@ use Rattle.bio_books.specs.Books.{Node, VectorItem, SlipItem, node_at, parent_of
 use Rattle.bio_books.specs.Drops.{Closed}
 use Rattle.model_disks.specs.Disks.{DiskState}
 use Rattle.run_machine.specs.Scene.{Scene}
-use Rattle.run_machine.specs.Submissions.{Want, Takes, Punts, Links, Driving, ToPush, ToCut, ToRecord, ToMaster, Doing, Rests, Drives, Copies, Breaks, Submission}
+use Rattle.run_machine.specs.Submissions.{Want, Takes, WantsPunt, Links, Driving, ToPush, ToCut, ToRecord, ToMaster, Doing, Rests, Drives, Copies, Breaks, Submission}
 use Rattle.run_machine.specs.Tasks.{Todo, Gathered, NoBio, HasBio, HasBoth, Carried, Empty, Brings, Carries, Fails, TaskState, Writer, Rescuer, Completer, Keeper}
 use Rattle.run_machine.specs.Runs.{State}
 use Rattle.block_core.specs.EachBio.{DoingHas, SubmissionHas, CarriedHas, TaskHas, EachBio, DoingCopies, TaskCopies, EachCopied}
@@ -42,7 +42,7 @@ record WeighsNothing (scene : Scene) (s : State) (P : Item Pad → Type 0) (C : 
 module _ (scene : Scene) (s : State) (P : Item Pad → Type 0) (C : Bio → ℕ → Type 0) (w : Weight) (nil : WeighsNothing scene s P C w) where
   want_nil : (want : Want) → want_weight w want ≡ 0
   want_nil (Takes waits) = refl
-  want_nil Punts = refl
+  want_nil WantsPunt = refl
   want_nil (Links hand) = nil.hand hand
 
   ask_nil : (ask : Driving) → ask_weight w ask ≡ 0

@@ -9,7 +9,7 @@ use Rattle.bio_books.specs.declared.node.Role.TheVariants as role
 use Rattle.bio_books.specs.Books.{Node, SlipItem, node_at}
 use Rattle.model_disks.specs.Disks.{DiskState}
 use Rattle.run_machine.specs.Scene.{Scene, tree_at}
-use Rattle.run_machine.specs.Submissions.{Takes, Punts as WantsPunt, Links, Doing, Rests, Drives, Copies, Breaks, Submission, rests, legs_of}
+use Rattle.run_machine.specs.Submissions.{Takes, WantsPunt, Links, Doing, Rests, Drives, Copies, Breaks, Submission, rests, legs_of}
 use Rattle.run_machine.specs.Tasks.{TaskState, Writer, Rescuer, Completer, Keeper, Gathered, NoBio, HasBio, HasBoth, Empty, Brings, Carries, Fails}
 use Rattle.run_machine.specs.Runs.{State}
 use Rattle.block_core.specs.Weights.{Weight, Pending, Rescued, Lined, total_weight, one_if_same, weigh_option, doing_weight, task_weight, submission_weight, gathered_weight, book_weight, elements_of_pool, holding_elements, legs_left}

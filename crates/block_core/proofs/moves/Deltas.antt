@@ -14,7 +14,7 @@ use Rattle.model_disks.specs.Disks.{DiskState}
 use Rattle.model_disks.specs.Moves.{pushed}
 use Rattle.run_machine.specs.Maps.{upd}
 use Rattle.run_machine.specs.Scene.{Scene, tree_at}
-use Rattle.run_machine.specs.Submissions.{Want, Takes, Punts as WantsPunt, Links, ToPush, ToCut, ToRecord, ToMaster, Drives, Copies, Submission, rests, settled, goes_on, copies, first_length, legs_of, leg_at}
+use Rattle.run_machine.specs.Submissions.{Want, Takes, WantsPunt, Links, ToPush, ToCut, ToRecord, ToMaster, Drives, Copies, Submission, rests, settled, goes_on, copies, first_length, legs_of, leg_at}
 use Rattle.run_machine.specs.Tasks.{TaskState, Writer, Rescuer, Completer, Keeper, Keeps, Resizes, Starts, NoBio, HasBio, HasBoth, Empty, Brings, Carries}
 use Rattle.run_machine.specs.Objects.{clear_bio, clear_vector, clear_slip}
 use Rattle.run_machine.specs.Runs.{State}

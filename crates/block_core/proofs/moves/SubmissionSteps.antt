@@ -15,7 +15,7 @@ use Rattle.bio_lists.specs.Punt.{punted, unpunted}
 use Rattle.bio_books.specs.Books.{Node, SlipItem, node_at, keeping, told}
 use Rattle.run_machine.specs.Maps.{upd}
 use Rattle.run_machine.specs.Scene.{Setup, Scene, tree_at}
-use Rattle.run_machine.specs.Submissions.{Want, Takes, Punts as WantsPunt, Links, ToPush, ToCut, ToRecord, ToMaster, Doing, Rests, Drives, Copies, Breaks, Submission, legs_of}
+use Rattle.run_machine.specs.Submissions.{Want, Takes, WantsPunt, Links, ToPush, ToCut, ToRecord, ToMaster, Doing, Rests, Drives, Copies, Breaks, Submission, legs_of}
 use Rattle.run_machine.specs.Tasks.{TaskState, Writer, Rescuer, Completer, Keeper}
 use Rattle.run_machine.specs.Runs.{State}
 use Rattle.block_core.proofs.moves.Moves.{IsTaking, with_submission, HasSubmission, Wants, with_want}

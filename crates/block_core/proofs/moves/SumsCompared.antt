@@ -9,7 +9,7 @@ use Rattle.bio_books.specs.Books.{Node, VectorItem, SlipItem, node_at}
 use Rattle.bio_books.specs.Drops.{Closed}
 use Rattle.model_disks.specs.Disks.{DiskState}
 use Rattle.run_machine.specs.Scene.{Scene, tree_at}
-use Rattle.run_machine.specs.Submissions.{Want, Takes, Punts, Links, Driving, ToPush, ToCut, ToRecord, ToMaster, Doing, Rests, Drives, Copies, Breaks, Submission, legs_of}
+use Rattle.run_machine.specs.Submissions.{Want, Takes, WantsPunt, Links, Driving, ToPush, ToCut, ToRecord, ToMaster, Doing, Rests, Drives, Copies, Breaks, Submission, legs_of}
 use Rattle.run_machine.specs.Tasks.{Todo, Gathered, NoBio, HasBio, HasBoth, Carried, Empty, Brings, Carries, Fails, TaskState, Writer, Rescuer, Completer, Keeper}
 use Rattle.run_machine.specs.Runs.{State}
 use Rattle.block_core.specs.Weights.{Weight, Spot, Lined, Rescued, Pending, Brought, total_weight, sum_at, weigh_option, want_weight, ask_weight, doing_weight, submission_weight, gathered_weight, carried_weight, task_weight, book_weight}
@@ -53,7 +53,7 @@ list_under {X = X} u v (x ∷ xs) le =
 module _ (scene : Scene) (s : State) (i : Invariant scene s) (u v : Weight) (le : IsUnder scene s u v) where
   want_under : (want : Want) → want_weight u want ≤ want_weight v want
   want_under (Takes waits) = omega arith
-  want_under Punts = omega arith
+  want_under WantsPunt = omega arith
   want_under (Links hand) = le.hand hand
 
   ask_under : (ask : Driving) → ask_weight u ask ≤ ask_weight v ask

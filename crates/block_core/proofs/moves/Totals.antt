@@ -11,7 +11,7 @@ use Rattle.bio_books.specs.Books.{Node, BookState, VectorItem, SlipItem, node_at
 use Rattle.bio_books.specs.Drops.{Closed}
 use Rattle.model_disks.specs.Disks.{DiskState}
 use Rattle.run_machine.specs.Scene.{Setup, Scene, tree_at}
-use Rattle.run_machine.specs.Submissions.{Want, Takes, Punts, Links, Driving, ToPush, ToCut, ToRecord, ToMaster, Doing, Rests, Drives, Copies, Breaks, Submission}
+use Rattle.run_machine.specs.Submissions.{Want, Takes, WantsPunt, Links, Driving, ToPush, ToCut, ToRecord, ToMaster, Doing, Rests, Drives, Copies, Breaks, Submission}
 use Rattle.run_machine.specs.Tasks.{TaskState, Writer, Rescuer, Completer, Keeper, Todo, Gathered, NoBio, HasBio, HasBoth, Carried, Empty, Brings, Carries, Fails}
 use Rattle.run_machine.specs.Runs.{State}
 use Rattle.block_core.specs.Weights.{Weight, Spot, Lined, Rescued, Pending, Brought, total_weight, sum_at, one_if_same, weigh_option, want_weight, ask_weight, doing_weight, submission_weight, gathered_weight, carried_weight, task_weight, book_weight, under, legs_left, no_weight}
@@ -75,7 +75,7 @@ at_within f g h k (suc n) m le = omega (arith, le n (m n), at_within f g h k n m
 module _ (u v x y : Weight) (le : IsWithin u v x y) where
   want_within : (want : Want) → want_weight u want ≤ want_weight v want + want_weight x want + want_weight y want
   want_within (Takes waits) = omega arith
-  want_within Punts = omega arith
+  want_within WantsPunt = omega arith
   want_within (Links hand) = le.hand hand
 
   ask_within : (ask : Driving) → ask_weight u ask ≤ ask_weight v ask + ask_weight x ask + ask_weight y ask
@@ -153,7 +153,7 @@ submission_carries limit submission = omega (arith, by_doing submission.doing, s
   where
     by_want : (want : Want) → want_weight carrying want ≡ 0
     by_want (Takes waits) = refl
-    by_want Punts = refl
+    by_want WantsPunt = refl
     by_want (Links hand) = refl
 
     by_doing : (doing : Doing) → doing_weight carrying limit doing ≡ 0

@@ -14,7 +14,7 @@ use Rattle.stack_base.proofs.ListLemmas.{Each}
 use Rattle.bio_books.specs.Books.{Node, VectorItem, SlipItem, Holding, node_at, later_part}
 use Rattle.model_disks.specs.Disks.{DiskState}
 use Rattle.run_machine.specs.Scene.{Setup, Scene, tree_at}
-use Rattle.run_machine.specs.Submissions.{Takes, Punts, Links, ToPush, ToCut, ToRecord, ToMaster, Doing, Rests, Drives, Copies, Breaks, Submission, rests, copies, first_length, landed, legs_of, leg_at}
+use Rattle.run_machine.specs.Submissions.{Takes, WantsPunt, Links, ToPush, ToCut, ToRecord, ToMaster, Doing, Rests, Drives, Copies, Breaks, Submission, rests, copies, first_length, landed, legs_of, leg_at}
 use Rattle.run_machine.specs.Tasks.{TaskState, Writer, Rescuer, Completer, Keeper, Todo, Gathered, NoBio, HasBio, HasBoth, Carried, Empty, Brings, Carries, Fails}
 use Rattle.run_machine.specs.Runs.{State}
 use Rattle.block_core.specs.Weights.{Weight, Spot, Lined, Rescued, Pending, total_weight, sum_at, weigh_option, doing_weight, submission_weight, gathered_weight, carried_weight, task_weight, book_weight, elements_of_pool, holding_elements, one_if_same, no_weight}
@@ -183,7 +183,7 @@ module _ (scene : Scene) (s : State) (g : DeviceGeometry scene.setup) (n : Needs
   doing_out q limit (Breaks breach kept) lists fit d = omega arith
   doing_out q limit (Drives bio ToPush) lists fit d = omega (arith, few bio.share q)
   doing_out q limit (Drives bio (ToCut (Takes waits))) lists fit d = omega (arith, few bio.share q)
-  doing_out q limit (Drives bio (ToCut Punts)) lists fit d = omega (arith, few bio.share q)
+  doing_out q limit (Drives bio (ToCut WantsPunt)) lists fit d = omega (arith, few bio.share q)
   doing_out q limit (Drives bio (ToCut (Links hand))) lists fit d =
       omega (arith, few bio.share q, few hand.share q, cut_need scene.setup n bio (Links hand) (tree_at scene.setup bio.bio.dev) refl d.1.0.0 d.3)
   doing_out q limit (Drives bio ToRecord) lists fit d = omega (arith, few bio.share q)
@@ -191,7 +191,7 @@ module _ (scene : Scene) (s : State) (g : DeviceGeometry scene.setup) (n : Needs
       let is = d.1.0.0 in
       omega (arith, few bio.share q, few slip.share q, mirror_need (tree_at scene.setup bio.bio.dev) bio.bio.range bio.bio.dev.0 slip d.3 is.some)
   doing_out q limit (Copies bio master leg (Takes waits)) lists fit d = omega arith
-  doing_out q limit (Copies bio master leg Punts) lists fit d = omega arith
+  doing_out q limit (Copies bio master leg WantsPunt) lists fit d = omega arith
   doing_out q limit (Copies bio master leg (Links hand)) lists fit d = omega (arith, few hand.share q, fit, legs_few (tree_at scene.setup bio.dev) bio.range leg)
 
   bios_out : (q : ℕ) (spot : Spot) (bios : List (Item Pad)) → sum_by ((elements_of_pool q).bio spot) bios ≤ sum_by ((worth scene.setup).bio spot) bios

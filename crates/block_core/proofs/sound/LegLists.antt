@@ -19,7 +19,7 @@ use Rattle.bio_books.specs.Books.{Node, BookState, node_at, with_node, top_node,
 use Rattle.bio_books.specs.Links.{IsVacant}
 use Rattle.run_machine.specs.Maps.{upd}
 use Rattle.run_machine.specs.Scene.{Setup, Scene, tree_at}
-use Rattle.run_machine.specs.Submissions.{Want, Takes, Punts as WantsPunt, Links, ToPush, ToCut, ToRecord, ToMaster, Doing, Rests, Drives, Copies, Breaks, Submission, settled, goes_on, copies, asks_at, first_length, landed, legs_of, leg_at}
+use Rattle.run_machine.specs.Submissions.{Want, Takes, WantsPunt, Links, ToPush, ToCut, ToRecord, ToMaster, Doing, Rests, Drives, Copies, Breaks, Submission, settled, goes_on, copies, asks_at, first_length, landed, legs_of, leg_at}
 use Rattle.run_machine.specs.Tasks.{TaskState, Writer, Rescuer, Completer, Keeper}
 use Rattle.run_machine.specs.Runs.{State}
 use Rattle.block_core.specs.Weights.{Lined, total_weight, names_node}

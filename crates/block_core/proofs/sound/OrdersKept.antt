@@ -16,7 +16,7 @@ use Rattle.bioset_pools.specs.Sets.{bios_of}
 use Rattle.bio_books.specs.Books.{VectorItem, keeping}
 use Rattle.run_machine.specs.Maps.{upd}
 use Rattle.run_machine.specs.Scene.{Setup, Scene, tree_at}
-use Rattle.run_machine.specs.Submissions.{Takes, Punts as WantsPunt, Links, ToPush, ToCut, ToRecord, ToMaster, Doing, Rests, Drives, Copies, Breaks, Submission, rests, leg_at}
+use Rattle.run_machine.specs.Submissions.{Takes, WantsPunt, Links, ToPush, ToCut, ToRecord, ToMaster, Doing, Rests, Drives, Copies, Breaks, Submission, rests, leg_at}
 use Rattle.run_machine.specs.Tasks.{TaskState, Writer, Rescuer, Completer, Keeper}
 use Rattle.run_machine.specs.Objects.{clear_bio, clear_slip}
 use Rattle.run_machine.specs.Runs.{State}

@@ -11,7 +11,7 @@ use Rattle.bio_books.specs.declared.node.Role.{Role}
 use Rattle.bio_books.specs.declared.node.Role.TheVariants as role
 use Rattle.bio_books.specs.Books.{Node, BookState, VectorItem, node_at, top_node, child_node, master_node, leg_node, keeping, raised, lowered, told, later_part}
 use Rattle.run_machine.specs.Scene.{Setup, Scene, tree_at}
-use Rattle.run_machine.specs.Submissions.{Want, Takes, Punts as WantsPunt, Links, ToPush, ToCut, ToRecord, ToMaster, Doing, Rests, Drives, Copies, Breaks, rests, settled, first_length, legs_of, leg_at}
+use Rattle.run_machine.specs.Submissions.{Want, Takes, WantsPunt, Links, ToPush, ToCut, ToRecord, ToMaster, Doing, Rests, Drives, Copies, Breaks, rests, settled, first_length, legs_of, leg_at}
 use Rattle.run_machine.specs.Tasks.{TaskState, Writer, Rescuer, Completer, Keeper, Todo, Gathered, NoBio, HasBio, HasBoth, Carried, Empty, Brings, Carries, Fails}
 use Rattle.run_machine.specs.Runs.{State}
 use Rattle.block_core.specs.Weights.{total_weight, sum_at, one_if_same, weigh_option, want_weight, doing_weight, task_weight, submission_weight, gathered_weight, carried_weight, book_weight, names_node}

@@ -9,7 +9,7 @@ use Rattle.bio_books.specs.Books.{Node, BookState, VectorItem, SlipItem, node_at
 use Rattle.bio_books.specs.Drops.{Closed}
 use Rattle.model_disks.specs.Disks.{DiskState}
 use Rattle.run_machine.specs.Scene.{Scene}
-use Rattle.run_machine.specs.Submissions.{Want, Takes, Punts, Links, Driving, ToPush, ToCut, ToRecord, ToMaster, Doing, Rests, Drives, Copies, Breaks, Submission}
+use Rattle.run_machine.specs.Submissions.{Want, Takes, WantsPunt, Links, Driving, ToPush, ToCut, ToRecord, ToMaster, Doing, Rests, Drives, Copies, Breaks, Submission}
 use Rattle.run_machine.specs.Tasks.{TaskState, Writer, Rescuer, Completer, Keeper, Todo, Gathered, NoBio, HasBio, HasBoth, Carried, Empty, Brings, Carries, Fails}
 use Rattle.run_machine.specs.Runs.{State}
 use Rattle.block_core.specs.Weights.{Weight, Spot, Lined, Rescued, Pending, Brought, total_weight, sum_at, weigh_option, want_weight, ask_weight, doing_weight, submission_weight, gathered_weight, carried_weight, task_weight, book_weight}
@@ -41,7 +41,7 @@ at_sum u a b x y (suc n) m is = omega (arith, is n (m n), at_sum u a b x y n m i
 module _ (u a b x y : Weight) (is : IsSumOf u a b x y) where
   want_sum : (want : Want) → want_weight u want ≡ want_weight a want + want_weight b want + want_weight x want + want_weight y want
   want_sum (Takes waits) = refl
-  want_sum Punts = refl
+  want_sum WantsPunt = refl
   want_sum (Links hand) = is.hand hand
 
   ask_sum : (ask : Driving) → ask_weight u ask ≡ ask_weight a ask + ask_weight b ask + ask_weight x ask + ask_weight y ask
@@ -139,7 +139,7 @@ at_one u v (suc n) f place same lt = elim (same_or_not place n) [
 module _ (u v : Weight) (same : IsSameButClosed u v) where
   want_but : (want : Want) → want_weight u want ≡ want_weight v want
   want_but (Takes waits) = refl
-  want_but Punts = refl
+  want_but WantsPunt = refl
   want_but (Links hand) = ap (λ f. f hand) same.hand
 
   ask_but : (ask : Driving) → ask_weight u ask ≡ ask_weight v ask

@@ -12,7 +12,7 @@ use Rattle.bio_books.specs.Books.{Node, VectorItem, SlipItem, node_at}
 use Rattle.bio_books.specs.Drops.{Closed}
 use Rattle.model_disks.specs.Disks.{DiskState}
 use Rattle.run_machine.specs.Scene.{Scene}
-use Rattle.run_machine.specs.Submissions.{Want, Takes, Punts, Links, Driving, ToPush, ToCut, ToRecord, ToMaster, Doing, Rests, Drives, Copies, Breaks, Submission}
+use Rattle.run_machine.specs.Submissions.{Want, Takes, WantsPunt, Links, Driving, ToPush, ToCut, ToRecord, ToMaster, Doing, Rests, Drives, Copies, Breaks, Submission}
 use Rattle.run_machine.specs.Tasks.{Todo, Gathered, NoBio, HasBio, HasBoth, Carried, Empty, Brings, Carries, Fails, TaskState, Writer, Rescuer, Completer, Keeper}
 use Rattle.run_machine.specs.Runs.{State}
 use Rattle.block_core.specs.Weights.{Weight, Spot, Lined, Rescued, Pending, Brought, sum_at, weigh_option, doing_weight, submission_weight, gathered_weight, want_weight, ask_weight, task_weight, book_weight, total_weight}
@@ -142,7 +142,7 @@ module _ (scene : Scene) (s : State) (w : Weight) where
   module _ (o : IsOfWork) where
     no_want : (want : Want) → want_weight w want ≡ 0
     no_want (Takes waits) = refl
-    no_want Punts = refl
+    no_want WantsPunt = refl
     no_want (Links hand) = o.hand hand
 
     no_ask : (ask : Driving) → ask_weight w ask ≡ 0

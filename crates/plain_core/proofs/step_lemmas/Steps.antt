@@ -60,7 +60,7 @@ pub cut_not_punted : (r : Routing) (old new : CoreObjects) (part : Item Pad) (w 
 cut_not_punted r old new part w lists rest what dev e is_want is_dev p =
     let q = punt_failed old new dev part.bio.dev lists rest what e is_dev p in
     subst (λ v. SubmissionSteps r old (cuts_for part (want_of_plain v)) lists what (Err e) new (cuts_for part (want_of_plain v)) rest) (sym is_want)
-    (failed r old new (cuts_for part submission.Punts) lists rest what e q.1 q.0)
+    (failed r old new (cuts_for part submission.WantsPunt) lists rest what e q.1 q.0)
 
 pub copy_not_punted : (r : Routing) (old new : CoreObjects) (copying : Copying) (w : PlainWant) (lists rest : TaskLists) (what : What) (e : CoreFault)
     → w ≡ want.Punts → Punts old lists copying.bio.dev what (Err e) new rest
@@ -68,7 +68,7 @@ pub copy_not_punted : (r : Routing) (old new : CoreObjects) (copying : Copying) 
 copy_not_punted r old new copying w lists rest what e is_want p =
     let q = punt_failed old new copying.bio.dev copying.bio.dev lists rest what e refl p in
     subst (λ v. SubmissionSteps r old (copies_for copying (want_of_plain v)) lists what (Err e) new (copies_for copying (want_of_plain v)) rest) (sym is_want)
-    (failed r old new (copies_for copying submission.Punts) lists rest what e q.1 q.0)
+    (failed r old new (copies_for copying submission.WantsPunt) lists rest what e q.1 q.0)
 
 pub copy_punted : (r : Routing) (old new : CoreObjects) (copying : Copying) (w : PlainWant) (lists rest : TaskLists) (what : What) (n : Continuation) (after : submission.Want)
     → w ≡ want.Punts → Punts old lists copying.bio.dev what (Ok (tt {0})) new rest → n ≡ next.Stays → after ≡ submission.Takes true

@@ -22,7 +22,7 @@ use Rattle.plain_core.specs.declared.steps.task.Task.TheVariants as tasks
 
 abbrev pub want_of_plain : PlainWant → submission.Want
 want_of_plain (want.Takes waits) = submission.Takes waits
-want_of_plain want.Punts = submission.Punts
+want_of_plain want.Punts = submission.WantsPunt
 want_of_plain (want.Links hand) = submission.Links hand
 
 abbrev pub ask_of_plain : DriverAsk → submission.Driving

@@ -14,7 +14,7 @@ use Rattle.run_machine.specs.declared.event.Breach.TheVariants as breach
 use Rattle.run_machine.specs.Scene.{Setup}
 use Rattle.run_machine.specs.Requests.{LinkedTo, DroppedTo, NoTicket}
 use Rattle.run_machine.specs.Kept.{KeptBio, KeptVec, KeptSlip}
-use Rattle.run_machine.specs.Submissions.{Punts, Links, ToPush, ToCut, ToMaster, Drives, Copies, Breaks, Submission, submission_answered}
+use Rattle.run_machine.specs.Submissions.{WantsPunt, Links, ToPush, ToCut, ToMaster, Drives, Copies, Breaks, Submission, submission_answered}
 use Rattle.run_machine.specs.Tasks.{Todo, HasBio, HasBoth, Writer, Brings, Carries, Fails, filled_vector, write_answered, carried_answered}
 
 module _ (setup : Setup) (lists : TaskLists) where
@@ -23,12 +23,12 @@ module _ (setup : Setup) (lists : TaskLists) where
   a_push bio = refl
 
   -- a rescuer's list had none: the bio at the driver, and those that were handed over, which are in no list any more
-  a_punt : (bio : Item Pad) → submission_answered setup (Drives bio (ToCut Punts)) lists NoTicket
+  a_punt : (bio : Item Pad) → submission_answered setup (Drives bio (ToCut WantsPunt)) lists NoTicket
       ≡ record { doing = Breaks breach.Spent (KeptBio bio ∷ map KeptBio (punted (Of bio.bio.dev) lists)); lists = unpunted (Of bio.bio.dev) lists }
   a_punt bio = refl
 
   -- a mirror's: the parent has the bio that is copied
-  a_punt_for_a_leg : (bio : Bio) (master leg : ℕ) → submission_answered setup (Copies bio master leg Punts) lists NoTicket
+  a_punt_for_a_leg : (bio : Bio) (master leg : ℕ) → submission_answered setup (Copies bio master leg WantsPunt) lists NoTicket
       ≡ record { doing = Breaks breach.Spent (map KeptBio (punted (Of bio.dev) lists)); lists = unpunted (Of bio.dev) lists }
   a_punt_for_a_leg bio master leg = refl
 

@@ -23,7 +23,7 @@ use Rattle.run_machine.specs.declared.event.What.TheVariants as what
 use Rattle.run_machine.specs.Maps.{upd}
 use Rattle.run_machine.specs.Scene.{Setup, Scene}
 use Rattle.bioset_pools.specs.Sets.{waits_first}
-use Rattle.run_machine.specs.Submissions.{Takes, Punts, after_miss, rests}
+use Rattle.run_machine.specs.Submissions.{Takes, WantsPunt, after_miss, rests}
 use Rattle.run_machine.specs.Tasks.{Todo, TaskState, Writer, HasBio, Keeper, Keeps, Starts}
 use Rattle.run_machine.specs.Objects.{TallyState}
 use Rattle.run_machine.specs.Opened.{at}
@@ -203,7 +203,7 @@ module _ (some : LedgerId) where
   unfolding upd
   not_without_waiting_again = not_next _ _ _ 0 refl (λ can. can.needs)
 
-  -- Punts: an attempt has missed, and all bios of the set go.
+  -- WantsPunt: an attempt has missed, and all bios of the set go.
   no_miss : IsEnabled mirror (mirror_at 6) (mirrored.w some (what.Punt mirrored.m 1)) → ⊥
   unfolding upd
   no_miss = not_next _ _ _ 0 refl (λ can. can.needs)
@@ -369,5 +369,5 @@ module _ (item : Item Pad) where
 again : after_miss true ≡ Takes true
 again = refl
 
-punts : after_miss false ≡ Punts
+punts : after_miss false ≡ WantsPunt
 punts = refl

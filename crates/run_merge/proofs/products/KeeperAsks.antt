@@ -7,7 +7,7 @@ use Rattle.bio_books.specs.Books.{VectorItem, SlipItem}
 use Rattle.bio_books.specs.Drops.{Closed}
 use Rattle.stack_base.specs.declared.ids.DevId.{DevId}
 use Rattle.run_machine.specs.Scene.{Setup}
-use Rattle.run_machine.specs.Submissions.{Takes, Punts, Links, ToPush, ToCut, ToRecord, ToMaster, Doing, Rests, Drives, Copies, Breaks, Submission, submission_request}
+use Rattle.run_machine.specs.Submissions.{Takes, WantsPunt, Links, ToPush, ToCut, ToRecord, ToMaster, Doing, Rests, Drives, Copies, Breaks, Submission, submission_request}
 use Rattle.run_machine.specs.Requests.{Request, NextRound, Resize}
 use Rattle.run_machine.specs.Tasks.{Todo, Gathered, NoBio, HasBio, HasBoth, Carried, Empty, Brings, Carries, Fails, request, write_request, with_bio, needs_vector, writer_request, rescuer_request, carried_request, closed_request}
 use Rattle.shared_objects.specs.Calls.{struck}
@@ -25,13 +25,13 @@ submission_keeps_none setup (Breaks breach kept) lists = refl
 -- a bio that is driven
 submission_keeps_none setup (Drives bio ToPush) lists = refl
 submission_keeps_none setup (Drives bio (ToCut (Takes waits))) lists = refl
-submission_keeps_none setup (Drives bio (ToCut Punts)) lists = refl
+submission_keeps_none setup (Drives bio (ToCut WantsPunt)) lists = refl
 submission_keeps_none setup (Drives bio (ToCut (Links hand))) lists = refl
 submission_keeps_none setup (Drives bio ToRecord) lists = refl
 submission_keeps_none setup (Drives bio (ToMaster slip)) lists = refl
 -- copies for the legs of a mirror
 submission_keeps_none setup (Copies bio master leg (Takes waits)) lists = refl
-submission_keeps_none setup (Copies bio master leg Punts) lists = refl
+submission_keeps_none setup (Copies bio master leg WantsPunt) lists = refl
 submission_keeps_none setup (Copies bio master leg (Links hand)) lists = refl
 
 write_keeps_none : (writer : ℕ) (todo : List Todo) (taken : Gathered) → is_keeping (struck (write_request writer todo taken)) ≡ false

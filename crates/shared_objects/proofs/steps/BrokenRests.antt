@@ -11,7 +11,7 @@ use Rattle.bio_books.specs.Drops.{Closed}
 use Rattle.bio_books.specs.Drops as end
 use Rattle.bio_books.specs.Links.{Made, NoRoom, Stray}
 use Rattle.run_machine.specs.Kept.{Kept}
-use Rattle.run_machine.specs.Submissions.{Doing, Rests, Drives, Copies, Breaks, Driving, ToPush, ToCut, ToRecord, ToMaster, Want, Takes, Punts, Links, Submission, spent, at_hand, punts_of, submission_request, submission_answered, doing_breach}
+use Rattle.run_machine.specs.Submissions.{Doing, Rests, Drives, Copies, Breaks, Driving, ToPush, ToCut, ToRecord, ToMaster, Want, Takes, WantsPunt, Links, Submission, spent, at_hand, punts_of, submission_request, submission_answered, doing_breach}
 use Rattle.run_machine.specs.Requests.{Request, Reply, Rest, LinkedTo, DroppedTo, OutIs, NoTicket}
 use Rattle.run_machine.specs.Scene.{Setup}
 use Rattle.run_machine.specs.Tasks.{Todo, Gathered, NoBio, HasBio, HasBoth, Carried, Empty, Brings, Carries, Fails, Duty, Resizes, Starts, Keeping, Keeps, Stops, TaskState, Writer, Rescuer, Completer, Keeper, needs_vector, with_bio, write_request, writer_request, rescuer_request, closed_request, carried_request, keeper_request, request, write_answered, writer_answered, rescuer_answered, carried_answered, after_resize, keeper_answered, answered, is_broken, carried_breach, keeping_breach}
@@ -64,12 +64,12 @@ submission_breaks setup (Copies bio master leg (Links hand)) lists (LinkedTo (St
 submission_breaks setup Rests lists reply is = absurd (cc is)
 submission_breaks setup (Drives bio ToPush) lists reply is = absurd (cc is)
 submission_breaks setup (Drives bio (ToCut (Takes waits))) lists reply is = absurd (cc is)
-submission_breaks setup (Drives bio (ToCut Punts)) lists reply is = absurd (cc is)
+submission_breaks setup (Drives bio (ToCut WantsPunt)) lists reply is = absurd (cc is)
 submission_breaks setup (Drives bio (ToCut (Links hand))) lists reply is = absurd (cc is)
 submission_breaks setup (Drives bio ToRecord) lists reply is = absurd (cc is)
 submission_breaks setup (Drives bio (ToMaster slip)) lists reply is = absurd (cc is)
 submission_breaks setup (Copies bio master leg (Takes waits)) lists reply is = absurd (cc is)
-submission_breaks setup (Copies bio master leg Punts) lists reply is = absurd (cc is)
+submission_breaks setup (Copies bio master leg WantsPunt) lists reply is = absurd (cc is)
 submission_breaks setup (Copies bio master leg (Links hand)) lists reply is = absurd (cc is)
 submission_breaks setup (Breaks breach kept) lists reply is = absurd (cc is)
 

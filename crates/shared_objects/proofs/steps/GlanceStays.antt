@@ -10,7 +10,7 @@ use Rattle.bio_books.specs.Drops.{Closed}
 use Rattle.bio_books.specs.Drops as end
 use Rattle.bio_books.specs.Links.{Made, NoRoom, Stray}
 use Rattle.run_machine.specs.Events.{what_of, resize_of}
-use Rattle.run_machine.specs.Submissions.{Doing, Rests, Drives, Copies, Breaks, Driving, ToPush, ToCut, ToRecord, ToMaster, Want, Takes, Punts, Links, Submission, submission_request, submission_answered}
+use Rattle.run_machine.specs.Submissions.{Doing, Rests, Drives, Copies, Breaks, Driving, ToPush, ToCut, ToRecord, ToMaster, Want, Takes, WantsPunt, Links, Submission, submission_request, submission_answered}
 use Rattle.run_machine.specs.Requests.{Request, Reply, GiveBio, GiveVec, GiveSlip, NextRound, HadBio, HadVec, HadSlip, Missed, Did, Popped, Completed, LinkedTo, DroppedTo, OutIs, Nothing, NoTicket}
 use Rattle.run_machine.specs.Scene.{Setup}
 use Rattle.run_machine.specs.Tasks.{Todo, Gathered, NoBio, HasBio, HasBoth, Carried, Empty, Brings, Carries, Fails, Duty, Resizes, Starts, Keeping, Keeps, Stops, TaskState, Writer, Rescuer, Completer, Keeper, needs_vector, with_bio, write_request, writer_request, rescuer_request, closed_request, carried_request, keeper_request, request, write_answered, writer_answered, rescuer_answered, carried_answered, after_resize, keeper_answered, answered}
@@ -72,9 +72,9 @@ submission_stays stage setup (Drives bio (ToCut (Takes false))) submission (HadB
 submission_stays stage setup (Drives bio (ToCut (Takes false))) submission (Missed used) is owed = absurd (cc is)
 submission_stays stage setup (Drives bio (ToCut (Takes false))) submission reply is owed = absurd owed
 -- punts: none is a glance
-submission_stays stage setup (Drives bio (ToCut Punts)) submission NoTicket is owed = absurd (cc is)
-submission_stays stage setup (Drives bio (ToCut Punts)) submission Did is owed = absurd (cc is)
-submission_stays stage setup (Drives bio (ToCut Punts)) submission reply is owed = absurd owed
+submission_stays stage setup (Drives bio (ToCut WantsPunt)) submission NoTicket is owed = absurd (cc is)
+submission_stays stage setup (Drives bio (ToCut WantsPunt)) submission Did is owed = absurd (cc is)
+submission_stays stage setup (Drives bio (ToCut WantsPunt)) submission reply is owed = absurd owed
 -- takes of a record: a miss is a glance
 submission_stays stage setup (Drives bio ToRecord) submission NoTicket is owed = absurd (cc is)
 submission_stays stage setup (Drives bio ToRecord) submission (HadSlip got slip) is owed = absurd (cc is)
@@ -91,9 +91,9 @@ submission_stays stage setup (Copies bio master leg (Takes false)) submission (H
 submission_stays stage setup (Copies bio master leg (Takes false)) submission (Missed used) is owed = absurd (cc is)
 submission_stays stage setup (Copies bio master leg (Takes false)) submission reply is owed = absurd owed
 -- punts before a copy: none is a glance
-submission_stays stage setup (Copies bio master leg Punts) submission NoTicket is owed = absurd (cc is)
-submission_stays stage setup (Copies bio master leg Punts) submission Did is owed = absurd (cc is)
-submission_stays stage setup (Copies bio master leg Punts) submission reply is owed = absurd owed
+submission_stays stage setup (Copies bio master leg WantsPunt) submission NoTicket is owed = absurd (cc is)
+submission_stays stage setup (Copies bio master leg WantsPunt) submission Did is owed = absurd (cc is)
+submission_stays stage setup (Copies bio master leg WantsPunt) submission reply is owed = absurd owed
 -- links of pieces, masters and legs: none is a glance
 submission_stays stage setup (Drives bio (ToCut (Links hand))) submission NoTicket is owed = absurd (cc is)
 submission_stays stage setup (Drives bio (ToCut (Links hand))) submission (LinkedTo (Made node)) is owed = absurd (cc is)

@@ -1,7 +1,7 @@
 -- A task that found nothing is as before.
 use Rattle.std.proofs.Common.{◌≡◌, ℕ, List, [], ◌∷◌, refl, sym, ◌∙◌, ap}
 use Rattle.stack_base.specs.declared.ids.DevId.{DevId}
-use Rattle.run_machine.specs.Submissions.{Doing, Rests, Drives, Copies, Breaks, Driving, ToPush, ToCut, ToRecord, ToMaster, Want, Takes, Punts, Links, Submission, submission_answered}
+use Rattle.run_machine.specs.Submissions.{Doing, Rests, Drives, Copies, Breaks, Driving, ToPush, ToCut, ToRecord, ToMaster, Want, Takes, WantsPunt, Links, Submission, submission_answered}
 use Rattle.run_machine.specs.Requests.{Nothing}
 use Rattle.run_machine.specs.Scene.{Setup}
 use Rattle.run_machine.specs.Tasks.{Todo, Gathered, NoBio, HasBio, HasBoth, Carried, Empty, Brings, Carries, Fails, Duty, Resizes, Starts, Keeping, Keeps, Stops, TaskState, Writer, Rescuer, Completer, Keeper, answered, carried_answered, keeper_answered, writer_answered, write_answered, rescuer_answered}
@@ -12,13 +12,13 @@ submission_idle setup Rests submission = refl
 -- a bio that is driven
 submission_idle setup (Drives bio ToPush) submission = refl
 submission_idle setup (Drives bio (ToCut (Takes waits))) submission = refl
-submission_idle setup (Drives bio (ToCut Punts)) submission = refl
+submission_idle setup (Drives bio (ToCut WantsPunt)) submission = refl
 submission_idle setup (Drives bio (ToCut (Links hand))) submission = refl
 submission_idle setup (Drives bio ToRecord) submission = refl
 submission_idle setup (Drives bio (ToMaster slip)) submission = refl
 -- copies for the legs of a mirror
 submission_idle setup (Copies bio master leg (Takes waits)) submission = refl
-submission_idle setup (Copies bio master leg Punts) submission = refl
+submission_idle setup (Copies bio master leg WantsPunt) submission = refl
 submission_idle setup (Copies bio master leg (Links hand)) submission = refl
 -- a submission that broke off
 submission_idle setup (Breaks breach kept) submission = refl

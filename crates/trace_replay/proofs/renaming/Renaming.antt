@@ -18,7 +18,7 @@ use Rattle.model_disks.specs.Disks.{DiskState}
 use Rattle.run_machine.specs.declared.event.Event.{Event}
 use Rattle.run_machine.specs.declared.event.What.{What}
 use Rattle.run_machine.specs.declared.event.What.TheVariants as what
-use Rattle.run_machine.specs.Submissions.{Want, Takes, Punts, Links, Driving, ToPush, ToCut, ToRecord, ToMaster, Doing, Rests, Drives, Copies, Breaks, Submission}
+use Rattle.run_machine.specs.Submissions.{Want, Takes, WantsPunt, Links, Driving, ToPush, ToCut, ToRecord, ToMaster, Doing, Rests, Drives, Copies, Breaks, Submission}
 use Rattle.run_machine.specs.Tasks.{Gathered, NoBio, HasBio, HasBoth, Carried, Empty, Brings, Carries, Fails, TaskState, Writer, Rescuer, Completer, Keeper}
 use Rattle.run_machine.specs.Requests.{Request, Reply, Opening, Write, Chain, Master, Leg, GiveBio, GiveVec, GiveSlip, Punt, Push, Link, Drop, HadBio, HadVec, HadSlip, Popped, Completed, LinkedTo, DroppedTo}
 use Rattle.plain_core.specs.objects.Ledgers.{ledger_of}
@@ -55,7 +55,7 @@ lists_to to lists = record { list0 = map (item_to to) lists.list0; list1 = map (
 
 abbrev pub want_to : Want → Want
 want_to (Takes waits) = Takes waits
-want_to Punts = Punts
+want_to WantsPunt = WantsPunt
 want_to (Links hand) = Links (hand_to hand)
 
 abbrev pub ask_to : Driving → Driving

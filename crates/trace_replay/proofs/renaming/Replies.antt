@@ -18,7 +18,7 @@ use Rattle.bio_books.specs.Drops as end
 use Rattle.bio_books.specs.Links.{Made, NoRoom, Stray}
 use Rattle.run_machine.specs.declared.event.What.{What}
 use Rattle.run_machine.specs.Scene.{Setup, tree_at}
-use Rattle.run_machine.specs.Submissions.{Takes, Punts as WantsPunt, Links, ToPush, ToCut, ToRecord, ToMaster, Doing, Rests, Drives, Copies, Breaks, first_length, mapped, legs_of, leg_at, cut_at, copies, goes_on, after_miss, submission_request, submission_answered}
+use Rattle.run_machine.specs.Submissions.{Takes, WantsPunt, Links, ToPush, ToCut, ToRecord, ToMaster, Doing, Rests, Drives, Copies, Breaks, first_length, mapped, legs_of, leg_at, cut_at, copies, goes_on, after_miss, submission_request, submission_answered}
 use Rattle.run_machine.specs.Tasks.{Todo, Gathered, NoBio, HasBio, HasBoth, Carried, Empty, Brings, Carries, Fails, Resizes, Starts, Keeping, Keeps, Stops, TaskState, Writer, Rescuer, Completer, Keeper, needs_vector, filled, filled_short, with_bio, write_request, writer_request, rescuer_request, closed_request, carried_request, keeper_request, request, after_drop, carried_answered, answered}
 use Rattle.run_machine.specs.Requests.{Request, Reply, Drop, HadBio, HadVec, HadSlip, Missed, Did, Popped, Completed, LinkedTo, DroppedTo, OutIs, Nothing}
 use Rattle.run_machine.specs.Objects.{Objects, Serves}

@@ -8,7 +8,7 @@ use Rattle.bio_records.specs.Items.{Item}
 use Rattle.bio_books.specs.Books.{VectorItem, SlipItem}
 use Rattle.bio_books.specs.Drops.{Closed}
 use Rattle.run_machine.specs.Scene.{Setup}
-use Rattle.run_machine.specs.Submissions.{Takes, Punts as WantsPunt, Links, ToPush, ToCut, ToRecord, ToMaster, Doing, Rests, Drives, Copies, Breaks, Submission, submission_request}
+use Rattle.run_machine.specs.Submissions.{Takes, WantsPunt, Links, ToPush, ToCut, ToRecord, ToMaster, Doing, Rests, Drives, Copies, Breaks, Submission, submission_request}
 use Rattle.run_machine.specs.Tasks.{Todo, Gathered, NoBio, HasBio, HasBoth, Carried, Empty, Brings, Carries, Fails, TaskState, Writer, Rescuer, Completer, Keeper, Keeps, Stops, Resizes, Starts, needs_vector, with_bio, write_request, writer_request, rescuer_request, closed_request, carried_request, keeper_request, Keeping, request, look_of, writer_look}
 use Rattle.run_machine.specs.Requests.{Punt}
 use Rattle.trace_replay.proofs.renaming.Renaming.{Places, item_with, vector_to, slip_to, taken_to, lists_to, doing_to, submission_to, closed_to, carried_to, task_to, request_to}
