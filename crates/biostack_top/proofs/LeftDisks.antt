@@ -15,7 +15,7 @@ use Rattle.layout_model.proofs.ByShape.{copies_is, cuts_is}
 use Rattle.model_disks.specs.Disks.{DiskState}
 use Rattle.run_machine.specs.Named.{is_disk_kind}
 use Rattle.run_machine.specs.Objects.{Objects}
-use Rattle.run_machine.specs.Opened.{at}
+use Rattle.run_machine.specs.Opened.{device_at}
 use Rattle.task_core.specs.Leaving.{disk_at, disks_from, disks_of}
 
 -- a device that keeps data itself is declared as a disk
@@ -31,7 +31,7 @@ module _ (stack : Stack) (good : IsStack stack) (number : ℕ) (device : Device)
   pub declared_disk : keeps_data (tree stack number) ≡ true → is_disk_kind device.kind ≡ true
   declared_disk keeps = by_kind device.kind refl keeps
 
-module _ (objects : Objects) (named : (number : ℕ) → (objects.disk number).dev ≡ at number) where
+module _ (objects : Objects) (named : (number : ℕ) → (objects.disk number).dev ≡ device_at number) where
   -- a device with another number is passed over
   passes : (kind : Kind) (number target : ℕ) (others : List DevId) → number < target
       → find (λ (disk : DiskState). disk.dev.0 == target) (map (λ (dev : DevId). objects.disk dev.0) (disk_at number kind ++ others))

@@ -15,7 +15,7 @@ use Rattle.decl_text.specs.Known.{Known}
 use Rattle.run_machine.specs.declared.event.Event.{Event}
 use Rattle.run_machine.specs.Events.{pool_of}
 use Rattle.run_machine.specs.Submissions.{rests}
-use Rattle.run_machine.specs.Opened.{Scenario, at, duties, keepers, most_writers, no_task, objects, places_of, scene, script_at, setup, start, tasks, todos_of, writers}
+use Rattle.run_machine.specs.Opened.{Scenario, device_at, duties, keepers, most_writers, no_task, objects, places_of, scene, script_at, setup_in, start, opened_tasks, todos_of, writers}
 use Rattle.run_machine.specs.Runs.{State, IsRun}
 use Rattle.run_machine.specs.Scene.{Scene, Setup, is_disk}
 use Rattle.run_machine.specs.Tasks.{Todo, NoBio, Empty, TaskState, Writer, Rescuer, Completer}
@@ -33,7 +33,7 @@ module _ (known : Known) (s : Scenario) (other : Stack) (one_scripts other_scrip
   same_places writer =
       ap (λ (trees : ℕ → Tree). sum_by (λ (todo : Todo). 1 + needed (trees todo.write.dev.0) todo.write.start todo.write.count) (todos_of s writer)) trees
 
-  same_setup : setup s ≡ setup over_other
+  same_setup : setup_in s ≡ setup_in over_other
   same_setup = λ k. record {
     count = same_count known s.stack other one_scripts other_scripts a b k;
     tree = trees k;
@@ -44,11 +44,11 @@ module _ (known : Known) (s : Scenario) (other : Stack) (one_scripts other_scrip
   abbrev tasks_by : Setup → List TaskState
   tasks_by u =
       map (λ writer. Writer writer (todos_of s writer) NoBio rests) (writers s)
-      ++ (map (λ dev. Rescuer (at dev) rests) (filter u.rescuer (range_with_len 0 u.count))
-      ++ (map (λ dev. Completer (at dev) Empty) (filter (is_disk u) (range_with_len 0 u.count))
+      ++ (map (λ dev. Rescuer (device_at dev) rests) (filter u.rescuer (range_with_len 0 u.count))
+      ++ (map (λ dev. Completer (device_at dev) Empty) (filter (is_disk u) (range_with_len 0 u.count))
       ++ keepers (duties s)))
 
-  same_tasks : tasks s ≡ tasks over_other
+  same_tasks : opened_tasks s ≡ opened_tasks over_other
   same_tasks = ap tasks_by same_setup
 
   same_scene : (ledger : ℕ → LedgerId) → scene s ledger ≡ scene over_other ledger
@@ -64,7 +64,7 @@ module _ (known : Known) (s : Scenario) (other : Stack) (one_scripts other_scrip
   same_objects = λ k. record {
     pool = λ number. opened (same_reserve known s.stack other one_scripts other_scripts a b (pool_of number) k) (script_at s.scripts number);
     rescue = (objects s).rescue;
-    disk = λ dev. disk.blank_disk (at dev) (size (trees k dev)) (same_bads known s.stack other one_scripts other_scripts a b dev k);
+    disk = λ dev. disk.blank_disk (device_at dev) (size (trees k dev)) (same_bads known s.stack other one_scripts other_scripts a b dev k);
     book = λ writer. record { writer = writer; nodes = replicate (same_places writer k) None };
     tally = (objects s).tally;
   }

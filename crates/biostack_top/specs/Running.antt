@@ -12,7 +12,7 @@ use Rattle.run_machine.specs.declared.event.Event.{Event}
 use Rattle.task_core.specs.Leaving.{IsLeft}
 use Rattle.task_core.specs.Plains.{stage_of}
 use Rattle.task_core.specs.opened.OfOne.{IsOpened, scenario_in}
-use Rattle.run_machine.specs.Opened.{Scenario, at, scene, start}
+use Rattle.run_machine.specs.Opened.{Scenario, device_at, scene, start}
 use Rattle.run_machine.specs.Runs.{State, IsRun, HasEnded}
 use Rattle.run_machine.specs.Scenario.{scenario_of}
 use Rattle.block_core.specs.Claim.{IsAsClaimed}
@@ -69,7 +69,7 @@ pub record HasRun (s : Scenario) (maker : Maker) (events : List Event) (ended : 
   pub ends : HasEnded state
   pub left : IsLeft s.stack state.objects (length events) ended
   -- each disk has its own number, and each event names what the stack has
-  pub disks : (number : ℕ) → (state.objects.disk number).dev ≡ at number
+  pub disks : (number : ℕ) → (state.objects.disk number).dev ≡ device_at number
   pub named : All (IsEventOf s.stack) events
 
 -- A scenario was run by the schedule of a number, and this is what was left, and how the writing of these lines of its events ended.

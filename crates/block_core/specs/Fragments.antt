@@ -15,7 +15,7 @@ use Rattle.run_machine.specs.Scene.{Setup, Scene, tree_at}
 use Rattle.run_machine.specs.Requests.{Reply, Completed}
 use Rattle.run_machine.specs.Submissions.{rests}
 use Rattle.run_machine.specs.Tasks.{Todo, TaskState, Writer, Rescuer, Completer, Keeper}
-use Rattle.run_machine.specs.Opened.{Scenario, scene, start, setup, todos}
+use Rattle.run_machine.specs.Opened.{Scenario, scene, start, setup_in, todos}
 use Rattle.run_machine.specs.Runs.{State, IsRun, HasEnded}
 use Rattle.block_core.specs.Weights.{Weight, Spot, Lined, Rescued, Pending, Brought, total_weight, legs_left, no_weight}
 use Rattle.block_core.specs.Scenarios.{InEveryRun, IsScenario, IsNaming}
@@ -72,13 +72,13 @@ completed scene old (event ∷ events) new (next, (place, steps), run) = complet
 
 -- the fragments of all writes of a scenario
 abbrev pub planned : Scenario → List Fragment
-planned s = flat_map (todo_fragments (setup s)) (todos s)
+planned s = flat_map (todo_fragments (setup_in s)) (todos s)
 
 -- However fragments count, what a run has completed and what is still to come are together what was planned.
 abbrev pub FragmentsAddUp : Type 0
 FragmentsAddUp = (s : Scenario) (ledger : ℕ → LedgerId) (events : List Event) (state : State) → IsScenario s → IsNaming ledger
     → (run : IsRun (scene s ledger) (start s) events state) (value : Fragment → ℕ)
-    → sum_by value (completed (scene s ledger) (start s) events state run) + total_weight (scene s ledger) (to_come (setup s) value) state
+    → sum_by value (completed (scene s ledger) (start s) events state run) + total_weight (scene s ledger) (to_come (setup_in s) value) state
     ≡ sum_by value (planned s)
 
 -- whether two fragments are the same in all that they have

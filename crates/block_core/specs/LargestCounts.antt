@@ -4,7 +4,7 @@ use Rattle.elem_ledger.specs.Ledger.{LedgerId}
 use Rattle.layout_model.specs.Bound.{all_elements}
 use Rattle.bio_books.specs.Books.{Node, node_at}
 use Rattle.run_machine.specs.declared.event.Event.{Event}
-use Rattle.run_machine.specs.Opened.{Scenario, scene, start, tasks, places_of}
+use Rattle.run_machine.specs.Opened.{Scenario, scene, start, opened_tasks, places_of}
 use Rattle.run_machine.specs.Runs.{State, IsRun}
 use Rattle.block_core.specs.Scenarios.{InEveryRun, IsScenario, IsNaming}
 use Rattle.block_core.specs.Breaks.{ElementsAreAllowed}
@@ -16,7 +16,7 @@ OutsAreWithinWhatWritesNeed = InEveryRun (λ s ledger events state. (number : �
 -- no node waits for more ends than its own part's, one for each place of its book, and one for each task
 abbrev pub EndsAreWithinPlacesAndTasks : Type 0
 EndsAreWithinPlacesAndTasks = InEveryRun (λ s ledger events state. (writer place : ℕ) (node : Node) → node_at (state.objects.book writer) place ≡ Some node
-    → node.count ≤ 1 + places_of s writer + length (tasks s))
+    → node.count ≤ 1 + places_of s writer + length (opened_tasks s))
 
 pub record CountersAreSmall (state : State) : Type 0 where
   pub outs : (number : ℕ) → (state.objects.pool number).facts.out < 2 ^ 64 - 1

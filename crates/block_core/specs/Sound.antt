@@ -10,7 +10,7 @@ use Rattle.layout_model.specs.declared.fragment.Fragment.{Fragment}
 use Rattle.layout_model.specs.May.{fault_of}
 use Rattle.bio_books.specs.Books.{Node, node_at}
 use Rattle.run_machine.specs.declared.event.Event.{Event}
-use Rattle.run_machine.specs.Opened.{Scenario, scene, start, setup}
+use Rattle.run_machine.specs.Opened.{Scenario, scene, start, setup_in}
 use Rattle.run_machine.specs.Runs.{State, IsRun}
 use Rattle.block_core.specs.Scenarios.{IsScenario, IsNaming}
 use Rattle.block_core.specs.Weights.{total_weight, elements_of_pool}
@@ -54,8 +54,8 @@ pub record IsSound (s : Scenario) (ledger : ℕ → LedgerId) (events : List Eve
   pub waits : HasRescuers s.stack → NoneWaitsForItself (scene s ledger) state
   -- each fragment of each write was completed or is still to come, once, and no other; and each bio has the data of its place, one that a mirror copies too
   pub fragments : (f : Fragment) → IsOfScenario s f
-      → fragment_count f (completed (scene s ledger) (start s) events state run) + total_weight (scene s ledger) (to_come (setup s) (is_it f)) state ≡ 1
-  pub others : (f : Fragment) → 0 < fragment_count f (completed (scene s ledger) (start s) events state run) + total_weight (scene s ledger) (to_come (setup s) (is_it f)) state
+      → fragment_count f (completed (scene s ledger) (start s) events state run) + total_weight (scene s ledger) (to_come (setup_in s) (is_it f)) state ≡ 1
+  pub others : (f : Fragment) → 0 < fragment_count f (completed (scene s ledger) (start s) events state run) + total_weight (scene s ledger) (to_come (setup_in s) (is_it f)) state
       → IsOfScenario s f
   pub words : EachBio (λ item. HasItsWord s item.bio) (scene s ledger) state
   pub copied : EachCopied (λ bio master. HasItsWord s bio) (scene s ledger) state

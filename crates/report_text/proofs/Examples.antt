@@ -9,7 +9,7 @@ use Rattle.stack_base.specs.declared.stack.Device.{Device}
 use Rattle.mempool_core.specs.declared.Facts.{Facts}
 use Rattle.std.specs.Fmt.{digits}
 use Rattle.hex.specs.Hex.{encode_with}
-use Rattle.report_text.specs.Pools.{at, rising_from, falling_from}
+use Rattle.report_text.specs.Pools.{device_at, rising_from, falling_from}
 use Rattle.report_text.specs.Report.{facts_of, no_facts, write_lines, disk_line, steps_line, gen_line}
 
 abbrev device : List ℕ → Kind → Device
@@ -18,11 +18,11 @@ device name kind = record { name = record { bytes = name; spare = [] }; kind = k
 abbrev devices : List Device
 devices = device (codes "n") Linear ∷ device (codes "m") (Mirror 2) ∷ device (codes "l") (Limit 4 0) ∷ []
 
-rising : rising_from 0 devices ≡ Bios (at 0) ∷ Records (at 1) ∷ Bios (at 1) ∷ Bios (at 2) ∷ []
+rising : rising_from 0 devices ≡ Bios (device_at 0) ∷ Records (device_at 1) ∷ Bios (device_at 1) ∷ Bios (device_at 2) ∷ []
 unfolding rising_from
 rising = refl
 
-falling : falling_from 0 devices ≡ Bios (at 2) ∷ Records (at 1) ∷ Bios (at 1) ∷ Bios (at 0) ∷ []
+falling : falling_from 0 devices ≡ Bios (device_at 2) ∷ Records (device_at 1) ∷ Bios (device_at 1) ∷ Bios (device_at 0) ∷ []
 unfolding falling_from
 falling = refl
 
@@ -30,9 +30,9 @@ abbrev facts : ℕ → ℕ → ℕ → Facts
 facts min ordinary spare = record no_facts { min = min; ordinary = ordinary; spare = spare }
 
 abbrev pools : List (PoolId × Facts)
-pools = (FsBios, facts 2 1 0) ∷ (FsVecs, facts 2 0 0) ∷ (Bios (at 2), facts 3 4 5) ∷ (Records (at 1), facts 6 7 8) ∷ (Bios (at 1), facts 9 10 11) ∷ (Bios (at 0), facts 12 13 14) ∷ []
+pools = (FsBios, facts 2 1 0) ∷ (FsVecs, facts 2 0 0) ∷ (Bios (device_at 2), facts 3 4 5) ∷ (Records (device_at 1), facts 6 7 8) ∷ (Bios (device_at 1), facts 9 10 11) ∷ (Bios (device_at 0), facts 12 13 14) ∷ []
 
-found : facts_of pools (Bios (at 1)) ≡ facts 9 10 11
+found : facts_of pools (Bios (device_at 1)) ≡ facts 9 10 11
 unfolding facts_of
 found = refl
 

@@ -9,10 +9,10 @@ use Rattle.model_disks.specs.Disks.{DiskState}
 use Rattle.task_core.specs.declared.ended.Ended.{Ended}
 use Rattle.task_core.specs.Leaving.{IsLeft, disks_of, falling_pools}
 use Rattle.run_machine.specs.Objects.{Objects}
-use Rattle.run_machine.specs.Opened.{at}
+use Rattle.run_machine.specs.Opened.{device_at}
 use Rattle.report_text.specs.Views.{IsEndedOfStack, image_of, told_by, told_of}
 
-module _ (objects : Objects) (named : (number : ℕ) → (objects.disk number).dev ≡ at number) where
+module _ (objects : Objects) (named : (number : ℕ) → (objects.disk number).dev ≡ device_at number) where
   -- disks that are named by their numbers
   devs_are : (devs : List DevId) → map (λ (disk : DiskState). disk.dev) (map (λ (dev : DevId). objects.disk dev.0) devs) ≡ devs
   devs_are [] = refl

@@ -20,7 +20,7 @@ use Rattle.outside_io.specs.declared.sink.Sink.{Ghosts as SinkGhosts}
 use Rattle.outside_io.specs.Saying.{PenState, Says, joined_text}
 use Rattle.outside_io.proofs.SaysLemmas.{says_then, says_silence}
 use Rattle.mempool_core.specs.declared.Facts.{Facts}
-use Rattle.report_text.specs.Pools.{HasDeviceOfPool, at, disk_at, pools_at, disks_from, rising_from, falling_from, falling_pools, same_pool}
+use Rattle.report_text.specs.Pools.{HasDeviceOfPool, device_at, disk_at, pools_at, disks_from, rising_from, falling_from, falling_pools, same_pool}
 use Rattle.report_text.specs.Report.{facts_of, pool_line, pool_lines}
 use Rattle.report_text.specs.Views.{facts_line, own_of_each}
 
@@ -87,11 +87,11 @@ told_in stack before (p ∷ more) behind fresh =
 
 -- no pool of the device with this number is there
 abbrev pub IsWithout : List PoolId → ℕ → Type 0
-IsWithout pools number = Lacks pools (Bios (at number)) × Lacks pools (Records (at number))
+IsWithout pools number = Lacks pools (Bios (device_at number)) × Lacks pools (Records (device_at number))
 
 without_both : (xs ys : List PoolId) (number : ℕ) → IsWithout xs number → IsWithout ys number → IsWithout (xs ++ ys) number
 without_both xs ys number first second =
-    (lacks_both xs ys (Bios (at number)) first.0 second.0, lacks_both xs ys (Records (at number)) first.1 second.1)
+    (lacks_both xs ys (Bios (device_at number)) first.0 second.0, lacks_both xs ys (Records (device_at number)) first.1 second.1)
 
 -- the pools of a device are no pools of another
 other_device : (number other : ℕ) (kind : Kind) → other < number → IsWithout (pools_at number kind) other
@@ -118,7 +118,7 @@ fresh_at before number Linear without = (without.0, _)
 fresh_at before number (Stripe chunk) without = (without.0, _)
 fresh_at before number (Zoned chunk) without = (without.0, _)
 fresh_at before number (Limit longest chunk) without = (without.0, _)
-fresh_at before number (Mirror records) without = (without.1, (lacks_both before (Records (at number) ∷ []) (Bios (at number)) without.0 refl, _))
+fresh_at before number (Mirror records) without = (without.1, (lacks_both before (Records (device_at number) ∷ []) (Bios (device_at number)) without.0 refl, _))
 
 -- a device has as many pools under any number
 count_same : (number : ℕ) (kind : Kind) → length (pools_at number kind) ≡ length (pools_at 0 kind)
@@ -203,18 +203,18 @@ one_at_all P x holds = All-cons P x [] holds (All-nil P)
 -- the pools of a device of the stack
 pub device_has : (stack : Stack) (number : ℕ) (kind : Kind) → number < length stack.devices.items → All (HasDeviceOfPool stack) (pools_at number kind)
 device_has stack number (Disk sectors bad) lt = All-nil (HasDeviceOfPool stack)
-device_has stack number Linear lt = one_at_all (HasDeviceOfPool stack) (Bios (at number)) lt
-device_has stack number (Stripe chunk) lt = one_at_all (HasDeviceOfPool stack) (Bios (at number)) lt
-device_has stack number (Zoned chunk) lt = one_at_all (HasDeviceOfPool stack) (Bios (at number)) lt
-device_has stack number (Limit longest chunk) lt = one_at_all (HasDeviceOfPool stack) (Bios (at number)) lt
+device_has stack number Linear lt = one_at_all (HasDeviceOfPool stack) (Bios (device_at number)) lt
+device_has stack number (Stripe chunk) lt = one_at_all (HasDeviceOfPool stack) (Bios (device_at number)) lt
+device_has stack number (Zoned chunk) lt = one_at_all (HasDeviceOfPool stack) (Bios (device_at number)) lt
+device_has stack number (Limit longest chunk) lt = one_at_all (HasDeviceOfPool stack) (Bios (device_at number)) lt
 device_has stack number (Mirror records) lt =
-    All-cons (HasDeviceOfPool stack) (Records (at number)) (Bios (at number) ∷ []) lt (one_at_all (HasDeviceOfPool stack) (Bios (at number)) lt)
+    All-cons (HasDeviceOfPool stack) (Records (device_at number)) (Bios (device_at number) ∷ []) lt (one_at_all (HasDeviceOfPool stack) (Bios (device_at number)) lt)
 
 abbrev IsBelow : ℕ → DevId → Type 0
 IsBelow total dev = dev.0 < total
 
 a_disk_below : (total number : ℕ) (kind : Kind) → number < total → All (IsBelow total) (disk_at number kind)
-a_disk_below total number (Disk sectors bad) lt = one_at_all (IsBelow total) (at number) lt
+a_disk_below total number (Disk sectors bad) lt = one_at_all (IsBelow total) (device_at number) lt
 a_disk_below total number Linear lt = All-nil (IsBelow total)
 a_disk_below total number (Stripe chunk) lt = All-nil (IsBelow total)
 a_disk_below total number (Zoned chunk) lt = All-nil (IsBelow total)

@@ -4,7 +4,7 @@ use Rattle.stack_base.specs.declared.ids.PoolId.{PoolId}
 use Rattle.stack_base.specs.declared.ids.PoolId.TheVariants.{FsBios, FsVecs, Bios, Records}
 use Rattle.stack_base.specs.declared.stack.Device.{Device}
 use Rattle.stack_base.specs.declared.stack.Stack.{Stack}
-pub use Rattle.run_machine.specs.Opened.{at}
+pub use Rattle.run_machine.specs.Opened.{device_at}
 pub use Rattle.task_core.specs.Leaving.{disk_at, pools_at, disks_of, falling_pools}
 unfoldable pub use Rattle.task_core.specs.Leaving.{disks_from, falling_from}
 

@@ -8,7 +8,7 @@ use Rattle.run_machine.specs.Scene.{is_disk}
 use Rattle.run_machine.specs.Submissions.{rests}
 use Rattle.run_machine.specs.Tasks.{TaskState, Writer, Rescuer, Completer, Duty, NoBio, Empty}
 use Rattle.run_machine.specs.Events.{id_of}
-use Rattle.run_machine.specs.Opened.{Scenario, scene, start, tasks as opened_tasks, todos, todos_of, is_by, writers, duties, keepers, no_task, setup as setup_in, at as device_at}
+use Rattle.run_machine.specs.Opened.{Scenario, scene, start, opened_tasks, todos, todos_of, is_by, writers, duties, keepers, no_task, setup_in, device_at}
 use Rattle.run_machine.specs.OneState.{TaskNamesDiffer, RunsLeadToOneState}
 use Rattle.run_machine.proofs.OneState.{runs, same_replies, stay}
 

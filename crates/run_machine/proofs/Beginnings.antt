@@ -16,7 +16,7 @@ use Rattle.run_machine.specs.Scene.{Setup, Scene, rescuer_at}
 use Rattle.run_machine.specs.Tasks.{Todo, TaskState}
 use Rattle.run_machine.specs.Objects.{Objects, TallyState}
 use Rattle.run_machine.specs.Events.{pool_of}
-use Rattle.run_machine.specs.Opened.{Scenario, at, no_task, places_of, reserve_of, script_at}
+use Rattle.run_machine.specs.Opened.{Scenario, device_at, no_task, places_of, reserve_of, script_at}
 use Rattle.run_machine.specs.Opened as texts
 use Rattle.run_machine.specs.Runs.{State, IsRun}
 
@@ -24,7 +24,7 @@ abbrev pub objects_by : Setup → (PoolId → ℕ) → List (PoolId × Answers) 
 objects_by setup reserve scripts tally = record {
   pool = λ number. opened (reserve (pool_of number)) (script_at scripts number);
   rescue = λ dev. [];
-  disk = λ dev. disk.blank_disk (at dev) (size (setup.tree dev)) [];
+  disk = λ dev. disk.blank_disk (device_at dev) (size (setup.tree dev)) [];
   book = λ writer. record { writer = writer; nodes = replicate (setup.places writer) None };
   tally = tally;
 }
@@ -40,8 +40,8 @@ runs_as scene other start first events end scene_is start_is run =
 
 -- reserves are the stack's, where the writers' are, and those of each device
 pub reserves_are : (reserve : PoolId → ℕ) (stack : Stack) → reserve FsBios ≡ reserve_of stack FsBios → reserve FsVecs ≡ reserve_of stack FsVecs
-    → ((dev : ℕ) → reserve (Bios (at dev)) ≡ reserve_of stack (Bios (at dev)))
-    → ((dev : ℕ) → reserve (Records (at dev)) ≡ reserve_of stack (Records (at dev)))
+    → ((dev : ℕ) → reserve (Bios (device_at dev)) ≡ reserve_of stack (Bios (device_at dev)))
+    → ((dev : ℕ) → reserve (Records (device_at dev)) ≡ reserve_of stack (Records (device_at dev)))
     → (pool : PoolId) → reserve pool ≡ reserve_of stack pool
 reserves_are reserve stack bios vecs of_sets of_mirrors FsBios = bios
 reserves_are reserve stack bios vecs of_sets of_mirrors FsVecs = vecs
@@ -69,7 +69,7 @@ module _ (setup : Setup) (reserve : PoolId → ℕ) (tally : TallyState) (s : Sc
     pub tally_is : tally ≡ (texts.objects s).tally
 
   module _ (is : IsOfScenario) where
-    pub setup_is : setup ≡ texts.setup s
+    pub setup_is : setup ≡ texts.setup_in s
     setup_is = λ k. record {
       count = is.count_is k;
       tree = λ dev. is.tree_is dev k;
@@ -81,12 +81,12 @@ module _ (setup : Setup) (reserve : PoolId → ℕ) (tally : TallyState) (s : Sc
     objects_are = λ k. record {
       pool = λ number. opened (is.reserve_is (pool_of number) k) (script_at s.scripts number);
       rescue = λ dev. [];
-      disk = λ dev. disk.blank_disk (at dev) (size (is.tree_is dev k)) (is.bads_are dev k);
+      disk = λ dev. disk.blank_disk (device_at dev) (size (is.tree_is dev k)) (is.bads_are dev k);
       book = λ writer. record { writer = writer; nodes = replicate (is.places_are writer k) None };
       tally = is.tally_is k;
     }
 
-    module _ (tasks : List TaskState) (tasks_are : tasks ≡ texts.tasks s) where
+    module _ (tasks : List TaskState) (tasks_are : tasks ≡ texts.opened_tasks s) where
       pub start_is : state_by (objects_by setup reserve s.scripts tally) tasks ≡ texts.start s
       start_is = λ k. record { objects = objects_are k; task = λ place. slice_index_or (tasks_are k) place no_task }
 

@@ -15,7 +15,7 @@ use Rattle.decl_text.specs.Known.{BadOf, Change, Declared, Known, Written}
 use Rattle.decl_text.specs.Accepting.{Means, reserves_or_two, scripts_of, shown_devices}
 use Rattle.work_text.specs.Work.{as_written, last_round, kept_resizes}
 use Rattle.work_text.specs.Whole.{text_refusal, known_of_text}
-use Rattle.run_machine.specs.Opened.{Scenario, at}
+use Rattle.run_machine.specs.Opened.{Scenario, device_at}
 
 pub itself : (n : ℕ) → n ≤ n
 itself n = omega arith
@@ -38,7 +38,7 @@ module _ (memory : Global) where
   device name kind members reserve rescuer = record {
     name = record { bytes = name; spare = [] };
     kind = kind;
-    members = record { items = map at members };
+    members = record { items = map device_at members };
     reserve = reserve;
     rescuer = rescuer;
   }

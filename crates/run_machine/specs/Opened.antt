@@ -76,8 +76,8 @@ nodes_of stack todos = sum_by (λ (todo : Todo). nodes stack todo.write) todos
 abbrev pub places_of : Scenario → ℕ → ℕ
 places_of s writer = nodes_of s.stack (todos_of s writer)
 
-abbrev pub setup : Scenario → Setup
-setup s = setup_of s.stack (places_of s)
+abbrev pub setup_in : Scenario → Setup
+setup_in s = setup_of s.stack (places_of s)
 
 -- how many rounds there are: the last one has a write, but where there is no write at all
 abbrev pub rounds_in : List ℕ → ℕ
@@ -130,8 +130,8 @@ abbrev pub keepers : List Duty → List TaskState
 keepers [] = []
 keepers (duty ∷ duties) = Keeper (Keeps (duty ∷ duties)) ∷ []
 
-abbrev pub at : ℕ → DevId
-at dev = record { 0 = dev }
+abbrev pub device_at : ℕ → DevId
+device_at dev = record { 0 = dev }
 
 -- the writers of these numbers that have a write, and the rescuers and completers of devices that have one
 abbrev pub writers_of : List ℕ → List Write → List ℕ → List TaskState
@@ -139,20 +139,20 @@ writers_of rounds writes numbers =
     map (λ writer. Writer writer (todos_by rounds writes writer) NoBio rests) (filter (is_writer rounds writes) numbers)
 
 abbrev pub rescuers_of : Setup → List ℕ → List TaskState
-rescuers_of setup numbers = map (λ dev. Rescuer (at dev) rests) (filter setup.rescuer numbers)
+rescuers_of setup numbers = map (λ dev. Rescuer (device_at dev) rests) (filter setup.rescuer numbers)
 
 abbrev pub completers_of : Setup → List ℕ → List TaskState
-completers_of setup numbers = map (λ dev. Completer (at dev) Empty) (filter (is_disk setup) numbers)
+completers_of setup numbers = map (λ dev. Completer (device_at dev) Empty) (filter (is_disk setup) numbers)
 
 -- the tasks in their order: writers, the rescuers of sets, the completers of disks, and the keeper
-abbrev pub tasks : Scenario → List TaskState
-tasks s =
+abbrev pub opened_tasks : Scenario → List TaskState
+opened_tasks s =
     writers_of s.rounds s.writes (range_with_len 0 most_writers)
-    ++ (rescuers_of (setup s) (range_with_len 0 (setup s).count)
-    ++ (completers_of (setup s) (range_with_len 0 (setup s).count) ++ keepers (duties s)))
+    ++ (rescuers_of (setup_in s) (range_with_len 0 (setup_in s).count)
+    ++ (completers_of (setup_in s) (range_with_len 0 (setup_in s).count) ++ keepers (duties s)))
 
 abbrev pub scene : Scenario → (ℕ → LedgerId) → Scene
-scene s ledger = record { setup = setup s; tasks = length (tasks s); books = most_writers; writes = length s.writes; ledger = ledger }
+scene s ledger = record { setup = setup_in s; tasks = length (opened_tasks s); books = most_writers; writes = length s.writes; ledger = ledger }
 
 -- the reserve of a pool
 abbrev pub records_of : Kind → ℕ
@@ -183,7 +183,7 @@ tally_in rounds writes = new_tally (left_in rounds) (length writes)
 
 -- a disk of a stack as it is opened
 abbrev pub opened_disk : Stack → ℕ → DiskState
-opened_disk stack dev = disk.blank_disk (at dev) (size (tree stack dev)) (bads_of stack dev)
+opened_disk stack dev = disk.blank_disk (device_at dev) (size (tree stack dev)) (bads_of stack dev)
 
 -- the objects of a stack as they are opened, with so many places in each book and this tally: pools are full, disks are zeros, nothing waits
 -- and no node is open
@@ -205,4 +205,4 @@ abbrev pub no_task : TaskState
 no_task = Keeper (Keeps [])
 
 abbrev pub start : Scenario → State
-start s = record { objects = objects s; task = λ place. slice_index_or (tasks s) place no_task }
+start s = record { objects = objects s; task = λ place. slice_index_or (opened_tasks s) place no_task }

@@ -4,7 +4,7 @@ use Rattle.std.specs.Prelude.{◌≡◌, ◌⊎◌, ◌+◌, ◌-◌, ◌^◌, �
 use Rattle.elem_ledger.specs.Ledger.{LedgerId}
 use Rattle.stack_base.specs.Stack.{HasRescuers}
 use Rattle.run_machine.specs.Laws.{Object, OfTally, object_of}
-use Rattle.run_machine.specs.Opened.{Scenario, start, setup, tasks}
+use Rattle.run_machine.specs.Opened.{Scenario, start, setup_in, opened_tasks}
 use Rattle.run_machine.specs.Requests.{Request, Reply, Rest}
 use Rattle.run_machine.specs.Runs.{State, HasEnded}
 use Rattle.run_machine.specs.Tasks.{TaskState, request, answered, look_of, is_broken}
@@ -19,7 +19,7 @@ use Rattle.run_merge.specs.Products.{AreOfRun}
 -- A task is through: it has nothing more to ask for, or saw at the tally that no write was unfinished.
 abbrev pub IsThrough : Scenario → (ℕ → LedgerId) → Histories → TaskState → Type 0
 IsThrough s ledger histories task =
-    (request (setup s) task ≡ Rest) ⊎ ((was : TallyThen s ledger (history_of OfTally histories)) × (sum was.shown.left ≡ 0))
+    (request (setup_in s) task ≡ Rest) ⊎ ((was : TallyThen s ledger (history_of OfTally histories)) × (sum was.shown.left ≡ 0))
 
 -- Its last call was refused, behind all that it did: its object replied so at this place of its history, and the task broke off.
 pub record WasRefused (s : Scenario) (ledger : ℕ → LedgerId) (histories : Histories) (place : ℕ) (task now : TaskState) : Type 0 where
@@ -27,7 +27,7 @@ pub record WasRefused (s : Scenario) (ledger : ℕ → LedgerId) (histories : Hi
   pub reply : Reply
   -- which the call drew
   pub ticket : ℕ
-  pub asks : asked ≡ struck (request (setup s) task)
+  pub asks : asked ≡ struck (request (setup_in s) task)
   pub looked : LetsAsk s ledger (history_of OfTally histories) ticket task (look_of task)
   pub mine : All (λ (n : Ticketed). n.ticket < ticket) (done_by place histories)
   pub before : List Ticketed
@@ -38,7 +38,7 @@ pub record WasRefused (s : Scenario) (ledger : ℕ → LedgerId) (histories : Hi
   pub object : StateAt (object_of asked)
   pub leads : LeadsObject ledger (object_of asked) (get (start s).objects (object_of asked)) (without_tickets before) object
   pub serves : ServesAt ledger (object_of asked) object asked reply object
-  pub goes_on : now ≡ answered (setup s) task reply
+  pub goes_on : now ≡ answered (setup_in s) task reply
   pub broken : is_broken now ≡ true
 
 -- each ticket that was drawn is 1, or one more than another that was drawn
@@ -61,7 +61,7 @@ pub record IsClosed (s : Scenario) (ledger : ℕ → LedgerId) (histories : Hist
       ⊎ (WasRefused s ledger histories place (reached.task place) (last.task place) ⊎ HasLast drawn)
   pub row : AreInRow drawn
   -- beside the tickets of entries there is no more than one a task
-  pub few : length drawn ≤ length (all_of histories) + length (tasks s)
+  pub few : length drawn ≤ length (all_of histories) + length (opened_tasks s)
 
 -- The merge of the histories is the entries of a run. It has ended and leaves the objects and tasks as they are; no task broke off, and no draw of
 -- a ticket failed.

@@ -9,7 +9,7 @@ use Rattle.mempool_core.specs.declared.Facts.{Facts}
 use Rattle.mempool_core.specs.Pool.{LedgerPool}
 use Rattle.seat_lock.specs.declared.lock.Shut.{Shut}
 use Rattle.object_things.specs.Stamps.{Stamped}
-use Rattle.run_machine.specs.Opened.{at}
+use Rattle.run_machine.specs.Opened.{device_at}
 
 -- which devices have a set of bios, which are mirrors, and the facts of each pool
 pub record DevicePools : Type 0 where
@@ -35,10 +35,10 @@ below has entry (suc number) = below has entry number ++ at_number has entry num
 
 -- the pools of the devices below a number, in rows
 abbrev pub sets_below : DevicePools → ℕ → List (SetId × Facts)
-sets_below pools = below pools.has_set (λ number. (Of (at number), pools.facts (Bios (at number))))
+sets_below pools = below pools.has_set (λ number. (Of (device_at number), pools.facts (Bios (device_at number))))
 
 abbrev pub records_below : DevicePools → ℕ → List (DevId × Facts)
-records_below pools = below pools.is_mirror (λ number. (at number, pools.facts (Records (at number))))
+records_below pools = below pools.is_mirror (λ number. (device_at number, pools.facts (Records (device_at number))))
 
 -- a pool with its facts
 abbrev pub with_facts : DevicePools → PoolId → PoolId × Facts
@@ -48,8 +48,8 @@ with_facts pools pool = (pool, pools.facts pool)
 unfoldable pub falling_below : DevicePools → ℕ → List (PoolId × Facts)
 falling_below pools zero = []
 falling_below pools (suc number) =
-    at_number pools.is_mirror (λ n. with_facts pools (Records (at n))) number
-    ++ (at_number pools.has_set (λ n. with_facts pools (Bios (at n))) number ++ falling_below pools number)
+    at_number pools.is_mirror (λ n. with_facts pools (Records (device_at n))) number
+    ++ (at_number pools.has_set (λ n. with_facts pools (Bios (device_at n))) number ++ falling_below pools number)
 
 module _ {K X : Type 0} (facts : X → Facts) where
   -- the last of a row left it, and its facts stand behind others, by the name of its pool

@@ -3,7 +3,7 @@ use Rattle.std.specs.Prelude.{◌≡◌, ◌<◌, ◌==◌, ◌++◌, if◌then�
 use Rattle.elem_ledger.specs.Ledger.{LedgerId}
 use Rattle.run_machine.specs.Laws.{Object, OfTally, object_of}
 use Rattle.run_machine.specs.Objects.{TallyState}
-use Rattle.run_machine.specs.Opened.{Scenario, start, setup}
+use Rattle.run_machine.specs.Opened.{Scenario, start, setup_in}
 use Rattle.run_machine.specs.Requests.{Request, Reply}
 use Rattle.run_machine.specs.Runs.{State}
 use Rattle.run_machine.specs.Tasks.{TaskState, look_of, lets}
@@ -87,7 +87,7 @@ pub record Shown (s : Scenario) (ledger : ℕ → LedgerId) (histories : Histori
   pub rises : (name : Object) → RiseFrom 0 (history_of name histories)
   pub objects : (name : Object) → LeadsObject ledger name (get (start s).objects name) (without_tickets (history_of name histories)) (get last.objects name)
   -- what each task did, in the order of its tickets, leads it on
-  pub tasks : (place : ℕ) → LeadsTask (setup s) ((start s).task place) (without_tickets (done_by place histories)) (last.task place)
+  pub tasks : (place : ℕ) → LeadsTask (setup_in s) ((start s).task place) (without_tickets (done_by place histories)) (last.task place)
   -- and each looked before it asked, where it has to
   pub looks : (place : ℕ) (mine rest : List Ticketed) (n : Ticketed) → done_by place histories ≡ mine ++ n ∷ rest
       → let task = task_behind s place (without_tickets mine) in LetsAsk s ledger (history_of OfTally histories) n.ticket task (look_of task)

@@ -5,7 +5,7 @@ use Rattle.elem_ledger.specs.Ledger.{LedgerId}
 use Rattle.run_machine.specs.declared.event.Event.{Event}
 use Rattle.run_machine.specs.Laws.{Object}
 use Rattle.run_machine.specs.Named.{IsEventOf}
-use Rattle.run_machine.specs.Opened.{Scenario, at, no_task, scene, start}
+use Rattle.run_machine.specs.Opened.{Scenario, device_at, no_task, scene, start}
 use Rattle.run_machine.specs.Runs.{State, IsRun, HasEnded}
 use Rattle.run_machine.specs.Tasks.{is_broken}
 use Rattle.block_core.specs.Scenarios.{IsNaming}
@@ -63,7 +63,7 @@ pub record IsOutcomeOf (closed : Closed) (outcome : Outcome) : Type 0 where
   pub left : IsLeft (shared_scenario closed).stack (state_in closed).objects (length events) outcome.ended
   -- the ledger of each pool and each disk have their own number, and each event names what the stack has
   pub naming : IsNaming (shared_ledger closed)
-  pub disks : (number : ℕ) → ((state_in closed).objects.disk number).dev ≡ at number
+  pub disks : (number : ℕ) → ((state_in closed).objects.disk number).dev ≡ device_at number
   pub named : All (IsEventOf (shared_scenario closed).stack) events
   -- where there is a trace, and nowhere else, its events come with it
   pub traced : is_some outcome.events ≡ closed.trace

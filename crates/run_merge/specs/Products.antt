@@ -5,7 +5,7 @@ use Rattle.elem_ledger.specs.Ledger.{LedgerId}
 use Rattle.run_machine.specs.declared.event.Event.{Event}
 use Rattle.run_machine.specs.Laws.{Object}
 use Rattle.run_machine.specs.Submissions.{Doing, Rests}
-use Rattle.run_machine.specs.Opened.{Scenario, scene, start, setup}
+use Rattle.run_machine.specs.Opened.{Scenario, scene, start, setup_in}
 use Rattle.run_machine.specs.Requests.{Request, Done, Resize, NextRound}
 use Rattle.run_machine.specs.Runs.{State, IsRun}
 use Rattle.run_machine.specs.Scene.{Setup}
@@ -33,7 +33,7 @@ led_by setup task (e ∷ es) = led_by setup (answered setup task e.reply) es
 
 -- where its own entries lead the task at a place
 abbrev pub task_behind : Scenario → ℕ → List Entry → TaskState
-task_behind s place mine = led_by (setup s) ((start s).task place) mine
+task_behind s place mine = led_by (setup_in s) ((start s).task place) mine
 
 -- which entries start a round, change a reserve, or end the write of this number
 abbrev pub is_next_round : Request → Bool
@@ -78,7 +78,7 @@ pub record IsProduct (s : Scenario) (ledger : ℕ → LedgerId) (entries : List 
   -- those at each object are a run of its machine from the opened object
   pub objects : (name : Object) → LeadsObject ledger name (get (start s).objects name) (entries_at name entries) (get last.objects name)
   -- those of each task lead it on from the opened task, each answering what it asks for next
-  pub tasks : (place : ℕ) → LeadsTask (setup s) ((start s).task place) (entries_by place entries) (last.task place)
+  pub tasks : (place : ℕ) → LeadsTask (setup_in s) ((start s).task place) (entries_by place entries) (last.task place)
   -- the first take of each write, a missed one too, stands behind the start of the write's round
   pub takes : AtEach entries (λ before e. MayBegin (task_behind s e.place (entries_by e.place before)) before)
   -- the start of each round stands behind the end of every write of the rounds before it

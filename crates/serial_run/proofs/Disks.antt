@@ -16,7 +16,7 @@ use Rattle.stack_base.proofs.Unfolded.{tree_is}
 use Rattle.task_core.specs.declared.plain.Plain.{Plain}
 use Rattle.task_core.specs.Leaving.{disk_at, disks_from, disks_of}
 use Rattle.run_machine.specs.Named.{is_disk_kind}
-use Rattle.run_machine.specs.Opened.{at, opened_disk}
+use Rattle.run_machine.specs.Opened.{device_at, opened_disk}
 use Rattle.task_core.specs.Plains.{disk_number, objects_of, stage_of, Holds}
 use Rattle.run_machine.specs.Scene.{keeps_data}
 use Rattle.task_steps.specs.Stage.{has_disk}
@@ -130,7 +130,7 @@ module _ (plain : Plain) (holds : Holds plain) where
   stack = plain.stage.value.stack
 
   abbrev is_disk_at : ℕ → Bool
-  is_disk_at dev = has_disk (stage_of plain) (at dev)
+  is_disk_at dev = has_disk (stage_of plain) (device_at dev)
 
   kinds : (i : ℕ) (device : Device) → slice_get stack.devices.items i ≡ Some device → is_disk_at (0 + i) ≡ is_disk_kind device.kind
   kinds i device found =

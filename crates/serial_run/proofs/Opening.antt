@@ -15,7 +15,7 @@ use Rattle.stack_base.proofs.Unfolded.{tree_is}
 use Rattle.task_core.specs.declared.opening.Opened.{Opened}
 use Rattle.task_core.specs.opened.OfOne.{tasks_at, run_state, scenario_in, IsOpened}
 use Rattle.run_machine.specs.Objects.{Objects}
-use Rattle.run_machine.specs.Opened.{Scenario, most_writers, no_task, objects, scene, setup as setup_in, start, tasks}
+use Rattle.run_machine.specs.Opened.{Scenario, most_writers, no_task, objects, scene, setup_in, start, opened_tasks}
 use Rattle.task_core.specs.Plains.{stage_of}
 use Rattle.task_core.specs.PlainSteps.{scene_of_objects}
 use Rattle.run_machine.specs.Runs.{State}
@@ -34,7 +34,7 @@ module _ (o : Opened) (is : IsOpened o) where
   abbrev ledger : ℕ → LedgerId
   ledger = (stage_of o.objects).ledger
 
-  pub count_is : length o.tasks.items ≡ length (tasks s)
+  pub count_is : length o.tasks.items ≡ length (opened_tasks s)
   count_is = sym (length-map o.tasks.items (λ (task : TaskOf). task.state)) ∙ ap length is.tasks
 
   pub begins_at : run_state o.objects o.tasks.items ≡ start s
@@ -61,7 +61,7 @@ module _ (o : Opened) (is : IsOpened o) where
       } in
       let with_writes : ℕ → Scene = λ writes. record {
         setup = setup_in s;
-        tasks = length (tasks s);
+        tasks = length (opened_tasks s);
         books = most_writers;
         writes = writes;
         ledger = ledger;
@@ -97,7 +97,7 @@ first_is_disk s good some = by_devices s.stack.devices.items refl
         ∙ ap keeps_data (tree_is s.stack good 0 device found) ∙ by_kind 0 device.kind (map (λ (m : DevId). tree s.stack m.0) device.members.items) ∙ alone
 
 -- so where there is a device there is a task
-pub has_task : (s : Scenario) (ledger : ℕ → LedgerId) → IsScenario s → EveryPoolKeepsSome s → AreSorted s.rounds → 1 ≤ length s.stack.devices.items → 1 ≤ length (tasks s)
+pub has_task : (s : Scenario) (ledger : ℕ → LedgerId) → IsScenario s → EveryPoolKeepsSome s → AreSorted s.rounds → 1 ≤ length s.stack.devices.items → 1 ≤ length (opened_tasks s)
 has_task s ledger good reserves ordered some =
     let manned = (start_crew s good ledger reserves ordered).disks 0 (first_is_disk s good.stack some) in
     let there = manned.1 in

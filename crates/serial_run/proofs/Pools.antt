@@ -19,11 +19,11 @@ use Rattle.stack_base.proofs.Unfolded.{tree_is}
 use Rattle.stack_base.proofs.NumberLemmas.{zero_or}
 use Rattle.task_core.specs.Leaving.{falling_from, falling_pools, pools_at}
 use Rattle.run_machine.specs.Objects.{Objects}
-use Rattle.run_machine.specs.Opened.{at}
+use Rattle.run_machine.specs.Opened.{device_at}
 use Rattle.serial_run.specs.Pools.{facts_in, pools_by, falling_pools_from}
 
 -- the pools of a device go by its kind
-by_kind : (n : ℕ) (k : Kind) (trees : List Tree) → pools_by (at n) (over n k trees) ≡ pools_at n k
+by_kind : (n : ℕ) (k : Kind) (trees : List Tree) → pools_by (device_at n) (over n k trees) ≡ pools_at n k
 unfolding over_shape
 by_kind n (kind.Disk sectors bad) trees = refl
 by_kind n kind.Linear trees = refl
@@ -43,11 +43,11 @@ none_fell n = refl
 
 module _ (stack : Stack) (good : IsStack stack) where
   pub falls : (n : ℕ) → n < length stack.devices.items
-      → falling_pools_from n stack ≡ falling_pools_from (n + 1) stack ++ pools_by (at n) (tree stack n)
+      → falling_pools_from n stack ≡ falling_pools_from (n + 1) stack ++ pools_by (device_at n) (tree stack n)
   falls n lt = by_cases (slice_get_cases stack.devices.items n).1
     where
       Falls : Type 0
-      Falls = falling_pools_from n stack ≡ falling_pools_from (n + 1) stack ++ pools_by (at n) (tree stack n)
+      Falls = falling_pools_from n stack ≡ falling_pools_from (n + 1) stack ++ pools_by (device_at n) (tree stack n)
 
       by_cases : ((x : Device) × (n < length stack.devices.items) × (slice_get stack.devices.items n ≡ Some x) × (get_or stack.devices.items n x ≡ x))
           ⊎ ((length stack.devices.items ≤ n) × (slice_get stack.devices.items n ≡ None)) → Falls
@@ -55,7 +55,7 @@ module _ (stack : Stack) (good : IsStack stack) where
           ap (falling_from n) (drop_more stack.devices.items n device lt ∙ ap (λ d. d ∷ drop (n + 1) stack.devices.items) there)
           ∙ fell n device (drop (n + 1) stack.devices.items)
           ∙ ap (λ pools. falling_pools_from (n + 1) stack ++ pools)
-          (sym (ap (pools_by (at n)) (tree_is stack good n device found) ∙ by_kind n device.kind (map (λ (m : DevId). tree stack m.0) device.members.items)))
+          (sym (ap (pools_by (device_at n)) (tree_is stack good n device found) ∙ by_kind n device.kind (map (λ (m : DevId). tree stack m.0) device.members.items)))
       by_cases (inr (past, none)) = absurd (omega (arith, lt, past))
 
   -- behind the last there is none
@@ -73,7 +73,7 @@ module _ (stack : Stack) (good : IsStack stack) where
           fewer n,
           ap length (falls n lt),
           ap (λ m. length (falling_pools_from m stack)) next,
-          length-append (falling_pools_from (n + 1) stack) (pools_by (at n) (tree stack n)),
+          length-append (falling_pools_from (n + 1) stack) (pools_by (device_at n) (tree stack n)),
         )
     | inr ge ↦
         let none : falling_pools_from (suc n) stack ≡ [] = ap (falling_from (suc n)) (drop_all (suc n) stack.devices.items (omega (arith, ge))) ∙ none_fell (suc n) in
@@ -100,18 +100,18 @@ module _ (objects : Objects) (stack : Stack) (good : IsStack stack) (before : Li
       )
 
   pub one_more : (n m : ℕ) (now next : List (PoolId × Facts)) → n < length stack.devices.items → m ≡ n + 1 → Behind m now
-      → next ≡ now ++ facts_in objects (pools_by (at n) (tree stack n)) → Behind n next
+      → next ≡ now ++ facts_in objects (pools_by (device_at n) (tree stack n)) → Behind n next
   one_more n m now next lt next_is behind added =
-      added ∙ ap (λ list. list ++ facts_in objects (pools_by (at n) (tree stack n))) (behind ∙ ap (λ m. before ++ facts_in objects (falling_pools_from m stack)) next_is)
-      ∙ append_assoc before (facts_in objects (falling_pools_from (n + 1) stack)) (facts_in objects (pools_by (at n) (tree stack n)))
+      added ∙ ap (λ list. list ++ facts_in objects (pools_by (device_at n) (tree stack n))) (behind ∙ ap (λ m. before ++ facts_in objects (falling_pools_from m stack)) next_is)
+      ∙ append_assoc before (facts_in objects (falling_pools_from (n + 1) stack)) (facts_in objects (pools_by (device_at n) (tree stack n)))
       ∙ ap (λ list. before ++ list)
       (
-      sym (map-append (λ (pool : PoolId). (pool, (objects.pool (pool_number pool)).facts)) (falling_pools_from (n + 1) stack) (pools_by (at n) (tree stack n)))
+      sym (map-append (λ (pool : PoolId). (pool, (objects.pool (pool_number pool)).facts)) (falling_pools_from (n + 1) stack) (pools_by (device_at n) (tree stack n)))
       ∙ ap (facts_in objects) (sym (falls stack good n lt))
       )
 
   pub has_room : (n m most room : ℕ) (now : List (PoolId × Facts)) → n < length stack.devices.items → m ≡ n + 1 → Behind m now
-      → length before + length (falling_pools_from 0 stack) ≤ most → most ≤ room → length now + length (pools_by (at n) (tree stack n)) ≤ room
+      → length before + length (falling_pools_from 0 stack) ≤ most → most ≤ room → length now + length (pools_by (device_at n) (tree stack n)) ≤ room
   has_room n m most room now lt next_is behind fits more =
       omega (
         arith,
@@ -122,7 +122,7 @@ module _ (objects : Objects) (stack : Stack) (good : IsStack stack) (before : Li
         ap length (same_facts (falling_pools_from (n + 1) stack)),
         length-map (falling_pools_from (n + 1) stack) with_facts,
         ap length (falls stack good n lt),
-        length-append (falling_pools_from (n + 1) stack) (pools_by (at n) (tree stack n)),
+        length-append (falling_pools_from (n + 1) stack) (pools_by (device_at n) (tree stack n)),
         fewer stack good n,
       )
 

@@ -7,7 +7,7 @@ use Rattle.task_core.specs.declared.opening.Opened.{Opened}
 use Rattle.task_core.specs.Leaving.{IsLeft}
 use Rattle.run_machine.specs.Named.{IsEventOf, FitsEvent}
 use Rattle.task_core.specs.opened.OfOne.{scenario_in}
-use Rattle.run_machine.specs.Opened.{at, scene, start}
+use Rattle.run_machine.specs.Opened.{device_at, scene, start}
 use Rattle.task_core.specs.Plains.{stage_of}
 use Rattle.run_machine.specs.Runs.{State, HasEnded}
 use Rattle.serial_run.specs.Schedule.{FollowsSchedule}
@@ -28,5 +28,5 @@ pub record IsSerialRun {V : Type 0} (happens : V → Event → V → Type 0) (op
   pub named : All (IsEventOf (scenario_in opened).stack) events
   pub fits : All FitsEvent events
   pub ends : HasEnded state
-  pub disks : (number : ℕ) → (state.objects.disk number).dev ≡ at number
+  pub disks : (number : ℕ) → (state.objects.disk number).dev ≡ device_at number
   pub left : IsLeft (scenario_in opened).stack state.objects (length events) ended

@@ -11,7 +11,7 @@ use Rattle.stack_base.specs.declared.ids.SetId.{SetId}
 use Rattle.stack_base.specs.PoolId.{pool_number}
 use Rattle.bioset_pools.specs.Sets.{bios_of}
 use Rattle.run_machine.specs.Laws.{Object, OfPool, OfRescuer, OfDisk, OfBook, OfTally}
-use Rattle.run_machine.specs.Opened.{at}
+use Rattle.run_machine.specs.Opened.{device_at}
 use Rattle.run_machine.specs.Requests.{Request}
 use Rattle.task_steps.specs.Stage.{Stage, has_book, has_rescuer, has_disk, is_bios, is_slips}
 use Rattle.task_core.specs.Tables.{look_up, AreAt}
@@ -72,8 +72,8 @@ pub record LocksHold (locks : Locks) : Type 0 where
   pub bios : AreLocked set_key pool_mark OfPool locks.common.value (is_bios (stage_at locks)) locks.index.bios locks.bios.items
   pub vecs : IsNamed pool_mark locks.common.value (OfPool (pool_number FsVecs)) locks.vecs
   pub records : AreLocked slip_key pool_mark OfPool locks.common.value (is_slips (stage_at locks)) locks.index.records locks.records.items
-  pub lists : AreLocked dev_key list_mark OfRescuer locks.common.value (λ dev. has_rescuer (stage_at locks) (at dev)) locks.index.lists locks.lists.items
-  pub disks : AreLocked dev_key disk_mark OfDisk locks.common.value (λ dev. has_disk (stage_at locks) (at dev)) locks.index.disks locks.disks.items
+  pub lists : AreLocked dev_key list_mark OfRescuer locks.common.value (λ dev. has_rescuer (stage_at locks) (device_at dev)) locks.index.lists locks.lists.items
+  pub disks : AreLocked dev_key disk_mark OfDisk locks.common.value (λ dev. has_disk (stage_at locks) (device_at dev)) locks.index.disks locks.disks.items
   pub books : AreLocked writer_key book_mark OfBook locks.common.value (has_book (stage_at locks)) locks.index.books locks.books.items
   pub tally : IsNamed tally_mark locks.common.value OfTally locks.tally
 

@@ -6,7 +6,7 @@ use Rattle.mempool_core.specs.Pool.{LedgerPool}
 use Rattle.model_disks.specs.Disks.{DiskState}
 use Rattle.run_machine.specs.Laws.{Object, OfPool, OfRescuer, OfDisk, OfBook, OfTally, OfNone}
 use Rattle.run_machine.specs.Objects.{TallyState}
-use Rattle.run_machine.specs.Opened.{at}
+use Rattle.run_machine.specs.Opened.{device_at}
 use Rattle.run_machine.specs.Requests.{Request, Reply}
 use Rattle.task_core.specs.declared.plain.Plain.{Plain}
 use Rattle.task_core.specs.Plains.{list_number, objects_of, pool_at, tally_of}
@@ -58,7 +58,7 @@ answers_at name = ThingAnswers (serves_at name) (looks_at name) (chooses_at name
 
 -- the list of a rescuer that there is not
 abbrev pub no_list : ℕ → Rescue
-no_list dev = record { dev = at dev; bios = [] }
+no_list dev = record { dev = device_at dev; bios = [] }
 
 -- what the objects had of it as they were opened
 abbrev pub opened_at : Plain → (name : Object) → ThingAt name

@@ -33,7 +33,7 @@ use Rattle.run_machine.specs.Scene.{has_set}
 use Rattle.task_steps.specs.Routed.{routing_setup}
 use Rattle.run_machine.specs.Requests.{Request, Reply, TakeBio, TakeVec, TakeSlip, GiveBio, GiveVec, GiveSlip, Punt, Pop, Push, Complete, Link, Drop, Done, Resize, NextRound, LookRound, LookLeft, HadBio, HadVec, HadSlip, Missed, Did, Popped, Completed, LinkedTo, DroppedTo, OutIs, Present, LeftOver, Nothing}
 use Rattle.run_machine.specs.Objects.{TallyState, Objects, TakesElement, Serves, done_one}
-use Rattle.run_machine.specs.Opened.{at}
+use Rattle.run_machine.specs.Opened.{device_at}
 use Rattle.task_steps.specs.Stage.{Stage, has_mirror, is_set, is_bios, is_vecs, is_slips, IsHomeInPool, IsServed, AreServed, RequestFits, Owes}
 use Rattle.task_core.specs.ObjectsOf.{IsDiskOf, IsBookOf, IsTallyOf, AreObjectsOf, AreNumbered}
 use Rattle.run_machine.proofs.Frames.{upd_keeps}
@@ -103,7 +103,7 @@ module _ (stage : Stage) where
 
   -- disks
   abbrev pub IsAtDisk : ℕ → Item Pad → Type 0
-  IsAtDisk dev item = IsServed stage item × (item.bio.dev ≡ at dev)
+  IsAtDisk dev item = IsServed stage item × (item.bio.dev ≡ device_at dev)
 
   pub pushed_is : (dev : ℕ) (item : Item Pad) (disk : DiskState) → IsAtDisk dev item → IsDiskOf stage dev disk → IsDiskOf stage dev (pushed item disk)
   pushed_is dev item disk is all = record {

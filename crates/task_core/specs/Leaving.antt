@@ -11,11 +11,11 @@ use Rattle.stack_base.specs.declared.stack.Stack.{Stack}
 use Rattle.stack_base.specs.PoolId.{pool_number}
 use Rattle.task_core.specs.declared.ended.Ended.{Ended}
 use Rattle.run_machine.specs.Objects.{Objects}
-use Rattle.run_machine.specs.Opened.{at}
+use Rattle.run_machine.specs.Opened.{device_at}
 
 -- the disk that a device is, if it is one
 abbrev pub disk_at : ℕ → Kind → List DevId
-disk_at number (Disk sectors bad) = at number ∷ []
+disk_at number (Disk sectors bad) = device_at number ∷ []
 disk_at number Linear = []
 disk_at number (Stripe chunk) = []
 disk_at number (Zoned chunk) = []
@@ -25,11 +25,11 @@ disk_at number (Mirror records) = []
 -- the pools of a device, records before bios
 abbrev pub pools_at : ℕ → Kind → List PoolId
 pools_at number (Disk sectors bad) = []
-pools_at number Linear = Bios (at number) ∷ []
-pools_at number (Stripe chunk) = Bios (at number) ∷ []
-pools_at number (Zoned chunk) = Bios (at number) ∷ []
-pools_at number (Limit longest chunk) = Bios (at number) ∷ []
-pools_at number (Mirror records) = Records (at number) ∷ Bios (at number) ∷ []
+pools_at number Linear = Bios (device_at number) ∷ []
+pools_at number (Stripe chunk) = Bios (device_at number) ∷ []
+pools_at number (Zoned chunk) = Bios (device_at number) ∷ []
+pools_at number (Limit longest chunk) = Bios (device_at number) ∷ []
+pools_at number (Mirror records) = Records (device_at number) ∷ Bios (device_at number) ∷ []
 
 -- the disks among these devices, the first of which has this number
 unfoldable pub disks_from : ℕ → List Device → List DevId

@@ -6,15 +6,15 @@ use Rattle.bio_books.specs.Books.{Node, BookState}
 use Rattle.model_disks.specs.Disks.{DiskState}
 use Rattle.run_machine.specs.Requests.{Request, Reply}
 use Rattle.run_machine.specs.Objects.{TallyState, Objects, Serves}
-use Rattle.run_machine.specs.Opened.{at}
+use Rattle.run_machine.specs.Opened.{device_at}
 use Rattle.task_steps.specs.Stage.{Stage, IsServed, AreServed, HoldsHome, RequestFits, Owes}
 
 -- a disk of the stack, in which bios wait that can be served and are at it
 pub record IsDiskOf (stage : Stage) (dev : ℕ) (disk : DiskState) : Type 0 where
-  pub dev_is : disk.dev ≡ at dev
+  pub dev_is : disk.dev ≡ device_at dev
   pub sectors : length disk.image ≡ size (tree stage.routing.stack dev)
   pub bads : disk.bad ≡ bads_of stage.routing.stack dev
-  pub pending : All (λ item. IsServed stage item × (item.bio.dev ≡ at dev)) disk.pending
+  pub pending : All (λ item. IsServed stage item × (item.bio.dev ≡ device_at dev)) disk.pending
 
 -- a node of a write that there is, which keeps elements at home alone
 pub record IsNodeOf (stage : Stage) (node : Node) : Type 0 where

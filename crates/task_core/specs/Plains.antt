@@ -24,7 +24,7 @@ use Rattle.task_core.specs.Tables.{look_up, AreAt}
 use Rattle.run_machine.specs.Requests.{Request, Reply, NextRound, Did}
 use Rattle.run_machine.specs.Objects.{TallyState, Objects, Serves}
 use Rattle.run_machine.specs.Events.{pool_of}
-use Rattle.run_machine.specs.Opened.{at, reserve_of, opened_disk}
+use Rattle.run_machine.specs.Opened.{device_at, reserve_of, opened_disk}
 use Rattle.task_core.specs.ObjectsOf.{AreObjectsOf, AreNumbered}
 use Rattle.task_steps.specs.Stage.{Stage, has_book, has_rescuer, has_disk, is_bios, is_slips}
 
@@ -97,10 +97,10 @@ stage_of plain = record {
 pub record AreEntered (plain : Plain) : Type 0 where
   pub bios : AreAt set_number (is_bios (stage_of plain)) plain.index.bios plain.bios.items
   pub records : AreAt records_number (is_slips (stage_of plain)) plain.index.records plain.records.items
-  pub lists : AreAt list_number (λ dev. has_rescuer (stage_of plain) (at dev)) plain.index.lists plain.lists.items
-  pub disks : AreAt disk_number (λ dev. has_disk (stage_of plain) (at dev)) plain.index.disks plain.disks.items
+  pub lists : AreAt list_number (λ dev. has_rescuer (stage_of plain) (device_at dev)) plain.index.lists plain.lists.items
+  pub disks : AreAt disk_number (λ dev. has_disk (stage_of plain) (device_at dev)) plain.index.disks plain.disks.items
   pub books : AreAt book_number (has_book (stage_of plain)) plain.index.books plain.books.items
-  pub order : map disk_number plain.disks.items ≡ filter (λ dev. has_disk (stage_of plain) (at dev)) (range_with_len 0 (length plain.stage.value.stack.devices.items))
+  pub order : map disk_number plain.disks.items ≡ filter (λ dev. has_disk (stage_of plain) (device_at dev)) (range_with_len 0 (length plain.stage.value.stack.devices.items))
 
 -- What holds of these objects between calls.
 pub record Holds (plain : Plain) : Type 0 where

@@ -3,7 +3,7 @@ use Rattle.std.proofs.Common.{◌≡◌, ◌+◌, ◌≤◌, ℕ, Bool, true, fa
 use Rattle.elem_ledger.specs.Ledger.{LedgerId}
 use Rattle.run_machine.specs.declared.event.Event.{Event}
 use Rattle.run_machine.specs.Scene.{Scene}
-use Rattle.run_machine.specs.Opened.{Scenario, scene, start, setup as setup_in}
+use Rattle.run_machine.specs.Opened.{Scenario, scene, start, setup_in}
 use Rattle.run_machine.specs.Runs.{State, Steps, IsRun}
 use Rattle.block_core.specs.Charges.{held_charge, close_charge, charge, charged, spent_charges, open_charges, state_rank, EventsLowerRank}
 use Rattle.block_core.specs.Scenarios.{IsScenario, IsNaming}

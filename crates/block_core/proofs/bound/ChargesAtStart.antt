@@ -22,7 +22,7 @@ use Rattle.std.proofs.Math.Nat.{mul-le-mul_left}
 use Rattle.fail_script.specs.Script.{Answers, entries_of, only_tail}
 use Rattle.layout_model.specs.declared.write.Write.{Write}
 use Rattle.layout_model.proofs.RangeSums.{sum_same, sum_of_zero, sum_of_two}
-use Rattle.run_machine.specs.Opened.{Scenario, Change, scene, start, tasks as opened_tasks, todos, todos_of, is_by, writers, duties, duties_of, keepers, round_count, writes_from, script_at, is_numbered, setup as setup_in}
+use Rattle.run_machine.specs.Opened.{Scenario, Change, scene, start, opened_tasks, todos, todos_of, is_by, writers, duties, duties_of, keepers, round_count, writes_from, script_at, is_numbered, setup_in}
 use Rattle.run_machine.proofs.Passing.{filter_sum}
 use Rattle.block_core.specs.Scenarios.{IsScenario}
 use Rattle.block_core.proofs.start.InvariantAtStart.{sum_at-zero}

@@ -28,7 +28,7 @@ use Rattle.run_machine.specs.declared.event.Event.{Event}
 use Rattle.run_machine.specs.Scene.{Scene}
 use Rattle.run_machine.specs.Submissions.{Submission}
 use Rattle.run_machine.specs.Tasks.{TaskState, Writer, Rescuer, Completer, Keeper, Todo, Gathered, NoBio, HasBio, HasBoth, Duty, Resizes, Starts, Empty, Brings, Carries, Fails}
-use Rattle.run_machine.specs.Opened.{Scenario, scene, start, todos, duties, keepers, setup as setup_in, writers}
+use Rattle.run_machine.specs.Opened.{Scenario, scene, start, todos, duties, keepers, setup_in, writers}
 use Rattle.run_machine.specs.Runs.{State, IsRun}
 use Rattle.block_core.specs.Weights.{Weight, Rescued, Pending, total_weight, one_if_same, weigh_option, task_weight, book_weight, gathered_weight, elements_of_pool, under}
 use Rattle.block_core.proofs.moves.References.{references}

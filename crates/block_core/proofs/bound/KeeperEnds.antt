@@ -13,7 +13,7 @@ use Rattle.run_machine.specs.Maps.{upd}
 use Rattle.run_machine.specs.Scene.{Scene, is_disk}
 use Rattle.run_machine.specs.Submissions.{Doing, Submission, rests}
 use Rattle.run_machine.specs.Tasks.{TaskState, Writer, Rescuer, Completer, Keeper, Keeps, Stops, Duty, Resizes, Starts, NoBio, Empty}
-use Rattle.run_machine.specs.Opened.{Scenario, Change, scene, start, tasks as opened_tasks, todos_of, writers, duties, duties_of, keepers, no_task, round_count, writes_from, setup as setup_in, at as device_at, from_round}
+use Rattle.run_machine.specs.Opened.{Scenario, Change, scene, start, opened_tasks, todos_of, writers, duties, duties_of, keepers, no_task, round_count, writes_from, setup_in, device_at, from_round}
 use Rattle.run_machine.specs.Runs.{State, IsRun, unfinished}
 use Rattle.block_core.specs.Charges.{task_duties, duties_left}
 use Rattle.block_core.specs.Scenarios.{IsScenario, IsNaming}

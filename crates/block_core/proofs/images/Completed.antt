@@ -12,7 +12,7 @@ use Rattle.bio_records.proofs.RunLemmas.{number_of_place}
 use Rattle.run_machine.specs.declared.event.Event.{Event}
 use Rattle.run_machine.specs.Scene.{Scene}
 use Rattle.run_machine.specs.Tasks.{Todo, first_bio}
-use Rattle.run_machine.specs.Opened.{Scenario, scene, start, todos, setup as setup_in}
+use Rattle.run_machine.specs.Opened.{Scenario, scene, start, todos, setup_in}
 use Rattle.run_machine.specs.Runs.{State, IsRun}
 use Rattle.block_core.specs.Weights.{total_weight}
 use Rattle.block_core.specs.Scenarios.{IsScenario}

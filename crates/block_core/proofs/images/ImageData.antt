@@ -29,7 +29,7 @@ use Rattle.run_machine.specs.Tasks.{Todo, first_bio}
 use Rattle.layout_model.specs.Writes.{IsWrite}
 use Rattle.layout_model.proofs.RangeSums.{sum_of_two, sum_of_zero}
 use Rattle.std.proofs.lemmas.List.{length-replicate, get_or-replicate}
-use Rattle.run_machine.specs.Opened.{Scenario, scene, start, todos, setup as setup_in}
+use Rattle.run_machine.specs.Opened.{Scenario, scene, start, todos, setup_in}
 use Rattle.run_machine.specs.Runs.{State, IsRun}
 use Rattle.run_machine.proofs.Frames.{upd_keeps}
 use Rattle.block_core.specs.Weights.{total_weight}

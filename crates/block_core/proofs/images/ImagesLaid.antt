@@ -5,7 +5,7 @@ use Rattle.std.proofs.lemmas.List.Elements.{All-contains}
 use Rattle.layout_model.specs.Laid.{round_of}
 use Rattle.layout_model.proofs.OneWay.{one_way_a_round}
 use Rattle.run_machine.specs.Tasks.{Todo}
-use Rattle.run_machine.specs.Opened.{scene, start, todos, setup as setup_in}
+use Rattle.run_machine.specs.Opened.{scene, start, todos, setup_in}
 use Rattle.block_core.specs.Images.{OneFragmentASectorARound, ImagesAreLaidOut}
 use Rattle.block_core.proofs.sound.Invariant.{LedgersAreNumbered}
 use Rattle.block_core.proofs.moves.Devices.{ground}

@@ -24,7 +24,7 @@ use Rattle.block_core.proofs.images.PlannedOnce.{node_none}
 use Rattle.block_core.proofs.images.MasterRecords.{bare_slip, bare_node, bare, no_bare}
 use Rattle.layout_model.proofs.RangeSums.{sum_of_zero}
 use Rattle.run_machine.specs.declared.event.Event.{Event}
-use Rattle.run_machine.specs.Opened.{scene as opened_scene, start, todos, setup as setup_in}
+use Rattle.run_machine.specs.Opened.{scene as opened_scene, start, todos, setup_in}
 use Rattle.run_machine.specs.Runs.{IsRun}
 use Rattle.block_core.proofs.sound.Invariant.{LedgersAreNumbered}
 use Rattle.block_core.proofs.sound.Orders.{DeviceGeometry}

@@ -14,7 +14,7 @@ use Rattle.layout_model.proofs.PlanLaws.{plan_gives_fragments, plan_fragments_di
 use Rattle.model_disks.specs.Disks.{DiskState}
 use Rattle.run_machine.specs.Scene.{Scene}
 use Rattle.run_machine.specs.Tasks.{TaskState, Writer, Rescuer, Completer, Keeper, Gathered, NoBio, HasBio, HasBoth, Todo}
-use Rattle.run_machine.specs.Opened.{Scenario, scene, todos, setup as setup_in}
+use Rattle.run_machine.specs.Opened.{Scenario, scene, todos, setup_in}
 use Rattle.run_machine.specs.Runs.{State}
 use Rattle.block_core.specs.Weights.{Weight, Pending, Rescued, one_if_same, total_weight, weigh_option, task_weight, gathered_weight, book_weight}
 use Rattle.block_core.specs.Scenarios.{IsScenario}

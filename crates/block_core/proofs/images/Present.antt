@@ -6,7 +6,7 @@ use Rattle.stack_base.specs.declared.ids.DevId.{DevId}
 use Rattle.stack_base.proofs.NumberLemmas.{in_order}
 use Rattle.run_machine.specs.Scene.{Scene}
 use Rattle.run_machine.specs.Tasks.{Completer, Carries}
-use Rattle.run_machine.specs.Opened.{scene, start, setup as setup_in}
+use Rattle.run_machine.specs.Opened.{scene, start, setup_in}
 use Rattle.run_machine.specs.Runs.{State}
 use Rattle.block_core.specs.Weights.{one_if_same}
 use Rattle.block_core.specs.Rounds.{round_of, is_of_round, tops, tops_left, unfinished_of, begun_of}

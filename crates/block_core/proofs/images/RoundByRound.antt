@@ -12,7 +12,7 @@ use Rattle.bio_records.specs.declared.bio.Pad.{Pad}
 use Rattle.bio_records.specs.Items.{Item}
 use Rattle.run_machine.specs.declared.event.Event.{Event}
 use Rattle.run_machine.specs.Scene.{Scene}
-use Rattle.run_machine.specs.Opened.{Scenario, scene, start, setup as setup_in}
+use Rattle.run_machine.specs.Opened.{Scenario, scene, start, setup_in}
 use Rattle.run_machine.specs.Runs.{State, IsRun}
 use Rattle.block_core.specs.Fragments.{fragment_of, completed_by, completed}
 use Rattle.block_core.specs.Images.{round_at, RoundsComeInOrder}

@@ -18,7 +18,7 @@ use Rattle.run_machine.specs.Requests as requests
 use Rattle.run_machine.specs.Requests.{Request, Reply}
 use Rattle.run_machine.specs.Scene.{Scene}
 use Rattle.run_machine.specs.Tasks.{Todo, request, Keeps, Starts}
-use Rattle.run_machine.specs.Opened.{Scenario, scene, start, setup as setup_in, todos}
+use Rattle.run_machine.specs.Opened.{Scenario, scene, start, setup_in, todos}
 use Rattle.run_machine.specs.Runs.{State, Steps, Happens, IsRun}
 use Rattle.block_core.specs.Weights.{total_weight, one_if_same, no_weight}
 use Rattle.block_core.specs.Scenarios.{IsScenario, IsNaming}

@@ -7,7 +7,7 @@ use Rattle.run_machine.specs.Runs.{State}
 use Rattle.block_core.specs.Weights.{total_weight}
 use Rattle.block_core.proofs.sound.Invariant.{LedgersAreNumbered, Invariant}
 use Rattle.block_core.proofs.sound.Orders.{Placed, DeviceGeometry}
-use Rattle.run_machine.specs.Opened.{Scenario, scene, start, setup as setup_in}
+use Rattle.run_machine.specs.Opened.{Scenario, scene, start, setup_in}
 use Rattle.block_core.specs.Scenarios.{IsScenario}
 use Rattle.block_core.specs.Scenarios.{IsNaming}
 use Rattle.block_core.specs.Dones.{times_done, EachIsDoneOnce}

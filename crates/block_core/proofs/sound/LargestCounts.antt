@@ -9,7 +9,7 @@ use Rattle.layout_model.specs.Bound.{all_elements}
 use Rattle.bio_books.specs.Books.{Node, node_at}
 use Rattle.run_machine.specs.declared.event.Event.{Event}
 use Rattle.run_machine.specs.Scene.{Scene}
-use Rattle.run_machine.specs.Opened.{Scenario, scene, start, tasks as opened_tasks, todos, places_of, setup as setup_in}
+use Rattle.run_machine.specs.Opened.{Scenario, scene, start, opened_tasks, todos, places_of, setup_in}
 use Rattle.run_machine.specs.Runs.{State, IsRun}
 use Rattle.block_core.specs.Weights.{total_weight}
 use Rattle.block_core.proofs.moves.References.{awaited_ends}

@@ -6,7 +6,7 @@ use Rattle.bio_books.specs.Books.{node_at, parent_of}
 use Rattle.run_machine.specs.Scene.{Scene}
 use Rattle.run_machine.specs.Submissions.{Submission}
 use Rattle.run_machine.specs.Tasks.{TaskState, Writer, Rescuer, Completer, Carries, Keeper}
-use Rattle.run_machine.specs.Opened.{scene, start, setup as setup_in}
+use Rattle.run_machine.specs.Opened.{scene, start, setup_in}
 use Rattle.run_machine.specs.Runs.{State}
 use Rattle.block_core.specs.Weights.{total_weight}
 use Rattle.block_core.specs.Fragments.{is_it}

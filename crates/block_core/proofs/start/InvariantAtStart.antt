@@ -26,7 +26,7 @@ use Rattle.layout_model.specs.declared.write.Write.{Write}
 use Rattle.layout_model.specs.NeedCounts.{nodes}
 use Rattle.run_machine.specs.Events.{pool_of}
 use Rattle.run_machine.specs.Scene.{is_disk}
-use Rattle.run_machine.specs.Opened.{Scenario, scene, start, tasks as opened_tasks, todos, todos_of, is_by, writers, duties, keepers, no_task, places_of, reserve_of, script_at, setup as setup_in, at as device_at}
+use Rattle.run_machine.specs.Opened.{Scenario, scene, start, opened_tasks, todos, todos_of, is_by, writers, duties, keepers, no_task, places_of, reserve_of, script_at, setup_in, device_at}
 use Rattle.run_machine.proofs.Passing.{below_all, none_passing}
 
 -- a task that did nothing yet

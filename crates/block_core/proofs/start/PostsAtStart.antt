@@ -23,7 +23,7 @@ use Rattle.run_machine.specs.Objects.{TallyState}
 use Rattle.run_machine.specs.Events.{id_of, pool_of}
 use Rattle.run_machine.specs.declared.event.TaskId.{TaskId}
 use Rattle.run_machine.specs.declared.event.TaskId.TheVariants as id
-use Rattle.run_machine.specs.Opened.{Scenario, Change, scene, start, tasks as opened_tasks, todos, todos_of, is_by, writers, duties, duties_of, keepers, no_task, round_count, writes_in, writes_from, reserve_of, records_of, setup as setup_in, at as device_at}
+use Rattle.run_machine.specs.Opened.{Scenario, Change, scene, start, opened_tasks, todos, todos_of, is_by, writers, duties, duties_of, keepers, no_task, round_count, writes_in, writes_from, reserve_of, records_of, setup_in, device_at}
 use Rattle.std.specs.Option.{option_map_or}
 use Rattle.std.proofs.lemmas.Bool.Decides.{nat_tests}
 use Rattle.stack_base.specs.Tree.{Cuts}

@@ -4,7 +4,7 @@ use Rattle.std.specs.Prelude.{sum_by}
 use Rattle.std.proofs.lemmas.List.{length-replicate}
 use Rattle.elem_ledger.specs.Ledger.{LedgerId}
 use Rattle.bio_books.specs.Books.{Node}
-use Rattle.run_machine.specs.Opened.{Scenario, scene, start, todos_of, places_of, setup as setup_in}
+use Rattle.run_machine.specs.Opened.{Scenario, scene, start, todos_of, places_of, setup_in}
 use Rattle.block_core.specs.Weights.{total_weight}
 use Rattle.block_core.specs.Rooms.{todo_need, room, HasRoomInBooks}
 use Rattle.block_core.specs.Scenarios.{IsScenario}

@@ -14,7 +14,7 @@ use Rattle.model_disks.specs.Disks.{DiskState}
 use Rattle.run_machine.specs.Scene.{Scene, is_disk}
 use Rattle.run_machine.specs.Submissions.{rests}
 use Rattle.run_machine.specs.Tasks.{TaskState, Writer, Rescuer, Completer, Keeper, Duty, Todo, NoBio, Empty}
-use Rattle.run_machine.specs.Opened.{Scenario, scene, start, tasks as opened_tasks, todos, todos_of, is_by, writers, duties, keepers, no_task, setup as setup_in, at as device_at}
+use Rattle.run_machine.specs.Opened.{Scenario, scene, start, opened_tasks, todos, todos_of, is_by, writers, duties, keepers, no_task, setup_in, device_at}
 use Rattle.run_machine.proofs.Passing.{filter_sum, none_passes}
 use Rattle.block_core.specs.Weights.{Weight, Pending, Rescued, total_weight, sum_at, one_if_same, task_weight, book_weight}
 use Rattle.block_core.specs.Scenarios.{IsScenario}

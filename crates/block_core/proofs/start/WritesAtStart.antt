@@ -12,7 +12,7 @@ use Rattle.std.specs.List.{range_with_len}
 use Rattle.stack_base.proofs.ListLemmas.{Each}
 use Rattle.layout_model.specs.Writes.{IsWrite}
 use Rattle.run_machine.specs.Scene.{is_disk}
-use Rattle.run_machine.specs.Opened.{Scenario, start, tasks as opened_tasks, todos, todos_of, is_by, writers, duties, keepers, no_task, setup as setup_in, at as device_at}
+use Rattle.run_machine.specs.Opened.{Scenario, start, opened_tasks, todos, todos_of, is_by, writers, duties, keepers, no_task, setup_in, device_at}
 use Rattle.block_core.specs.Scenarios.{IsScenario}
 use Rattle.block_core.proofs.start.InvariantAtStart.{all_map, todos_all}
 

@@ -28,7 +28,7 @@ use Rattle.run_machine.specs.Maps.{upd}
 use Rattle.run_machine.specs.Scene.{Scene}
 use Rattle.run_machine.specs.Submissions.{Doing, Submission}
 use Rattle.run_machine.specs.Tasks.{TaskState, Writer, Rescuer, Completer, Keeper, Todo, Empty, Brings, Carries, request, closed_request}
-use Rattle.run_machine.specs.Opened.{Scenario, scene, start, todos, setup as setup_in}
+use Rattle.run_machine.specs.Opened.{Scenario, scene, start, todos, setup_in}
 use Rattle.run_machine.specs.Requests as requests
 use Rattle.run_machine.specs.Requests.{Reply}
 use Rattle.run_machine.specs.Runs.{State, IsRun, Happens, HasEnded}

@@ -7,7 +7,7 @@ use Rattle.stack_base.specs.Stack.{HasRescuers}
 use Rattle.bio_books.specs.Books.{node_at}
 use Rattle.run_machine.specs.declared.event.Event.{Event}
 use Rattle.run_machine.specs.Scene.{Scene}
-use Rattle.run_machine.specs.Opened.{Scenario, scene, start, round_count, writes_in, setup as setup_in, from_round}
+use Rattle.run_machine.specs.Opened.{Scenario, scene, start, round_count, writes_in, setup_in, from_round}
 use Rattle.run_machine.specs.Runs.{State, IsRun, HasFree, HasEnded, unfinished}
 use Rattle.block_core.specs.Scenarios.{IsScenario, IsNaming, EveryPoolKeepsSome, AreSorted}
 use Rattle.block_core.specs.Stuck.{NoStateIsStuck, NoAllowedStateIsStuck, EachRunGoesOnOrHasEnded}

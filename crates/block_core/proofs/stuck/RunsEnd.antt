@@ -1,7 +1,7 @@
 -- A run whose writes are done has ended, and the keeper starts no round that is not there.
 use Rattle.std.proofs.Common.{◌+◌, ◌<◌, ℕ, List, ◌∷◌, length, subst, arith}
 use Rattle.run_machine.specs.declared.event.TaskId.{TaskId}
-use Rattle.run_machine.specs.Opened.{scene, start, setup as setup_in}
+use Rattle.run_machine.specs.Opened.{scene, start, setup_in}
 use Rattle.run_machine.specs.Runs.{State}
 use Rattle.run_machine.specs.Scene.{Scene}
 use Rattle.run_machine.specs.Tasks.{Keeper, Keeps, Starts, Duty}

@@ -1,6 +1,6 @@
 -- Of every run of every scenario that is allowed: whatever is answered next is an event, or changes nothing.
 use Rattle.stack_base.specs.PoolId.{pool_number}
-use Rattle.run_machine.specs.Opened.{scene, start, setup as setup_in}
+use Rattle.run_machine.specs.Opened.{scene, start, setup_in}
 use Rattle.block_core.specs.Replies.{RepliesAreEvents}
 use Rattle.block_core.proofs.moves.Devices.{ground}
 use Rattle.block_core.proofs.unrefused.NodeNeeds.{needs_known}

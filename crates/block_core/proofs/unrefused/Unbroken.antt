@@ -16,7 +16,7 @@ use Rattle.run_machine.specs.declared.event.Event.{Event}
 use Rattle.run_machine.specs.Scene.{Scene, is_disk}
 use Rattle.run_machine.specs.Submissions.{Doing, Rests, Drives, Copies, Breaks, rests, doing_breach}
 use Rattle.run_machine.specs.Tasks.{TaskState, Writer, Rescuer, Completer, Keeper, Keeps, Stops, Todo, NoBio, Empty, look_of, is_broken}
-use Rattle.run_machine.specs.Opened.{Scenario, scene, start, tasks as opened_tasks, todos, todos_of, is_by, writers, duties, keepers, places_of, setup as setup_in, at as device_at}
+use Rattle.run_machine.specs.Opened.{Scenario, scene, start, opened_tasks, todos, todos_of, is_by, writers, duties, keepers, places_of, setup_in, device_at}
 use Rattle.run_machine.specs.Runs.{State, IsRun, IsLet}
 use Rattle.run_machine.proofs.Apart.{one_keeper}
 use Rattle.run_machine.proofs.Passing.{filter_sum}

@@ -26,7 +26,7 @@ use Rattle.model_disks.specs.Disks.{DiskState}
 use Rattle.work_text.specs.declared.Work.{Work}
 use Rattle.run_machine.specs.Events.{pool_of}
 use Rattle.run_machine.specs.Submissions.{rests}
-use Rattle.run_machine.specs.Opened.{Scenario, at, duties, is_numbered, keepers, no_task, objects, places_of, records_of, reserve_of, setup, tasks, todos_of, writers, in_round, left_in, rounds_in, opened_disk}
+use Rattle.run_machine.specs.Opened.{Scenario, device_at, duties, is_numbered, keepers, no_task, objects, places_of, records_of, reserve_of, setup_in, opened_tasks, todos_of, writers, in_round, left_in, rounds_in, opened_disk}
 use Rattle.task_steps.specs.Routed.{Routing, places_at, routing_setup}
 use Rattle.run_machine.specs.Scene.{is_disk, keeps_data, setup_of}
 use Rattle.run_machine.specs.Tasks.{Duty, TaskState, Writer, Rescuer, Completer, Keeper, Keeps, NoBio, Empty}
@@ -157,7 +157,7 @@ module _ (stack : Stack) (scripts : List (PoolId × Answers)) (work : Work) (can
           ∙ ap (λ n. record { writer = writer; nodes = replicate n None }) (sym (no_writer stack scripts work shared writer le))
     ]
 
-    setup_is : setup_of stack (places_at places) ≡ setup s
+    setup_is : setup_of stack (places_at places) ≡ setup_in s
     setup_is = λ k. setup_of stack (λ writer. placed writer k)
 
     objects_are : objects_of_core (core_objects_of s places) ≡ objects s
@@ -171,7 +171,7 @@ module _ (stack : Stack) (scripts : List (PoolId × Answers)) (work : Work) (can
 
     -- the whole
     pub opened_so : (core : CoreState) → core.routing ≡ record { stack = stack; places = places } → core.objects ≡ core_objects_of s places
-        → core.tasks ≡ tasks s → IsOpenedCore s core
+        → core.tasks ≡ opened_tasks s → IsOpenedCore s core
     opened_so core is_routing is_objects is_tasks =
         let written = ap (λ (o : CoreObjects). length o.tally.statuses) is_objects ∙ length-replicate (length work.writes.items) status.Ok in
         record {
@@ -189,21 +189,21 @@ module _ (stack : Stack) (scripts : List (PoolId × Answers)) (work : Work) (can
         }
 
   -- all tasks are within the stack
-  tasks_fit : All (TaskIsWithin stack) (tasks s)
+  tasks_fit : All (TaskIsWithin stack) (opened_tasks s)
   tasks_fit =
-      let devs = range_with_len 0 (setup s).count in
+      let devs = range_with_len 0 (setup_in s).count in
       All-append (TaskIsWithin stack) (map (λ writer. Writer writer (todos_of s writer) NoBio rests) (writers s)) _
       (All-map (TaskIsWithin stack) (λ writer. Writer writer (todos_of s writer) NoBio rests) (writers s)
       (λ k d lt. (share_served stack work.rounds.items work.writes.items shared _, rest_fits stack)))
-      (All-append (TaskIsWithin stack) (map (λ dev. Rescuer (at dev) rests) (filter (setup s).rescuer devs)) _
-      (All-map (TaskIsWithin stack) (λ dev. Rescuer (at dev) rests) (filter (setup s).rescuer devs) (λ k d lt. rest_fits stack))
-      (All-append (TaskIsWithin stack) (map (λ dev. Completer (at dev) Empty) (filter (is_disk (setup s)) devs)) (keepers (duties s))
-      (All-map (TaskIsWithin stack) (λ dev. Completer (at dev) Empty) (filter (is_disk (setup s)) devs) (λ k d lt. tt))
+      (All-append (TaskIsWithin stack) (map (λ dev. Rescuer (device_at dev) rests) (filter (setup_in s).rescuer devs)) _
+      (All-map (TaskIsWithin stack) (λ dev. Rescuer (device_at dev) rests) (filter (setup_in s).rescuer devs) (λ k d lt. rest_fits stack))
+      (All-append (TaskIsWithin stack) (map (λ dev. Completer (device_at dev) Empty) (filter (is_disk (setup_in s)) devs)) (keepers (duties s))
+      (All-map (TaskIsWithin stack) (λ dev. Completer (device_at dev) Empty) (filter (is_disk (setup_in s)) devs) (λ k d lt. tt))
       (keeper_fits stack (duties s))))
 
   -- the core keeps what it stands on
   pub is_core : (routing : Routing) (plain : CoreObjects) (all : List TaskState) (places : List ℕ) → routing.stack ≡ stack → plain.stack ≡ stack
-      → all ≡ tasks s → AreFound places all → IsCore routing plain all places
+      → all ≡ opened_tasks s → AreFound places all → IsCore routing plain all places
   is_core routing plain all places is_routing is_objects is_all found = record {
     stack = is_objects ∙ sym is_routing;
     fits = subst (λ st. All (TaskIsWithin st) all) (sym is_routing) (subst (All (TaskIsWithin stack)) (sym is_all) tasks_fit);

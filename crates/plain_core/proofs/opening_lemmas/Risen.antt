@@ -15,7 +15,7 @@ use Rattle.run_machine.specs.Submissions.{rests}
 use Rattle.task_core.specs.opened.OfOne.{states}
 use Rattle.task_core.specs.opened.OpenTasks.{AreTasksOf}
 use Rattle.task_steps.specs.Routed.{Routing}
-use Rattle.run_machine.specs.Opened.{Change, Scenario, at, duties, duties_of, is_by, keepers, no_task, round_count, setup, tasks, todos, todos_of, writers, writes_from}
+use Rattle.run_machine.specs.Opened.{Change, Scenario, device_at, duties, duties_of, is_by, keepers, no_task, round_count, setup_in, opened_tasks, todos, todos_of, writers, writes_from}
 use Rattle.run_machine.specs.Scene.{is_disk}
 use Rattle.task_steps.specs.TaskViews.{TaskOf}
 use Rattle.run_machine.specs.Tasks.{TaskState, Duty, Resizes, Starts, NoBio, Empty, Keeps, Writer, Rescuer, Completer, Keeper}
@@ -88,32 +88,32 @@ module _ (stack : Stack) (scripts : List (PoolId × Answers)) (work : Work) (can
       let rounds = range_with_len 1 (round_count s - 1) in
       all_flat NamesStackPool (duties_of s) rounds (λ k d lt. round_of_pools (get_or rounds k d))
 
-  pub firsts : All HasNotBegun (tasks s)
+  pub firsts : All HasNotBegun (opened_tasks s)
   firsts =
       All-append HasNotBegun (map (λ writer. Writer writer (todos_of s writer) NoBio rests) (writers s)) _
       (All-map HasNotBegun (λ writer. Writer writer (todos_of s writer) NoBio rests) (writers s) (λ k d lt. (refl, refl)))
-      (All-append HasNotBegun (map (λ dev. Rescuer (at dev) rests) (filter (setup s).rescuer (range_with_len 0 (setup s).count))) _
-      (All-map HasNotBegun (λ dev. Rescuer (at dev) rests) (filter (setup s).rescuer (range_with_len 0 (setup s).count)) (λ k d lt. refl))
-      (All-append HasNotBegun (map (λ dev. Completer (at dev) Empty) (filter (is_disk (setup s)) (range_with_len 0 (setup s).count))) _
-      (All-map HasNotBegun (λ dev. Completer (at dev) Empty) (filter (is_disk (setup s)) (range_with_len 0 (setup s).count)) (λ k d lt. refl))
+      (All-append HasNotBegun (map (λ dev. Rescuer (device_at dev) rests) (filter (setup_in s).rescuer (range_with_len 0 (setup_in s).count))) _
+      (All-map HasNotBegun (λ dev. Rescuer (device_at dev) rests) (filter (setup_in s).rescuer (range_with_len 0 (setup_in s).count)) (λ k d lt. refl))
+      (All-append HasNotBegun (map (λ dev. Completer (device_at dev) Empty) (filter (is_disk (setup_in s)) (range_with_len 0 (setup_in s).count))) _
+      (All-map HasNotBegun (λ dev. Completer (device_at dev) Empty) (filter (is_disk (setup_in s)) (range_with_len 0 (setup_in s).count)) (λ k d lt. refl))
       (keepers_begin (duties s) of_pools)))
 
-  few : (setup s).count ≤ 32
+  few : (setup_in s).count ≤ 32
   few = can.is_stack.few
 
-  pub risen : Rises 0 (tasks s) 73
+  pub risen : Rises 0 (opened_tasks s) 73
   risen =
       rises_then 0 (map (λ writer. Writer writer (todos_of s writer) NoBio rests) (writers s)) 8 _ 73
       (rises_by (λ writer. Writer writer (todos_of s writer) NoBio rests) 0 (λ writer. list_any (is_by writer) (todos s)) (λ k. omega arith) 0 8 0 8 (omega arith) (omega arith))
-      (rises_then 8 (map (λ dev. Rescuer (at dev) rests) (filter (setup s).rescuer (range_with_len 0 (setup s).count))) 40 _ 73
-      (rises_by (λ dev. Rescuer (at dev) rests) 8 (setup s).rescuer (λ k. omega arith) 0 (setup s).count 8 40 (omega arith) (omega (arith, few)))
-      (rises_then 40 (map (λ dev. Completer (at dev) Empty) (filter (is_disk (setup s)) (range_with_len 0 (setup s).count))) 72 _ 73
-      (rises_by (λ dev. Completer (at dev) Empty) 40 (is_disk (setup s)) (λ k. omega arith) 0 (setup s).count 40 72 (omega arith) (omega (arith, few)))
+      (rises_then 8 (map (λ dev. Rescuer (device_at dev) rests) (filter (setup_in s).rescuer (range_with_len 0 (setup_in s).count))) 40 _ 73
+      (rises_by (λ dev. Rescuer (device_at dev) rests) 8 (setup_in s).rescuer (λ k. omega arith) 0 (setup_in s).count 8 40 (omega arith) (omega (arith, few)))
+      (rises_then 40 (map (λ dev. Completer (device_at dev) Empty) (filter (is_disk (setup_in s)) (range_with_len 0 (setup_in s).count))) 72 _ 73
+      (rises_by (λ dev. Completer (device_at dev) Empty) 40 (is_disk (setup_in s)) (λ k. omega arith) 0 (setup_in s).count 40 72 (omega arith) (omega (arith, few)))
       (keepers_rise (duties s))))
 
   -- those that were opened of it
   module _ (routing : Routing) (all shown : List TaskOf) (counts : List ℕ) (are : AreTasksOf stack work routing all counts) (same : shown ≡ all) where
-    pub shown_are : states shown ≡ tasks s
+    pub shown_are : states shown ≡ opened_tasks s
     shown_are = ap states same ∙ states_are stack scripts work (shared stack scripts work can) routing all counts are
 
     pub shown_first : All HasNotBegun (states shown)

@@ -14,7 +14,7 @@ use Rattle.task_core.specs.declared.opening.Opened.{Opened}
 use Rattle.run_machine.specs.Events.{pool_of}
 use Rattle.run_machine.specs.Objects.{Objects}
 use Rattle.task_core.specs.opened.OfOne.{IsOpened, scenario_in}
-use Rattle.run_machine.specs.Opened.{Scenario, at, objects, reserve_of, script_at}
+use Rattle.run_machine.specs.Opened.{Scenario, device_at, objects, reserve_of, script_at}
 use Rattle.task_core.specs.opened.Openings.{has_pool}
 use Rattle.task_core.specs.Plains.{objects_of, stage_of}
 use Rattle.task_steps.specs.Routed.{Routing, routing_setup}
@@ -26,7 +26,7 @@ use Rattle.plain_core.proofs.opening_lemmas.Readable.{can_open}
 
 -- the pool of a number, by three questions
 abbrev pool_by : ℕ → Bool → Bool → Bool → PoolId
-pool_by number a b c = cond a FsBios (cond b FsVecs (cond c (Bios (at (number / 2))) (Records (at (number / 2)))))
+pool_by number a b c = cond a FsBios (cond b FsVecs (cond c (Bios (device_at (number / 2))) (Records (device_at (number / 2)))))
 
 by_number : (number : ℕ) (a b c : Bool) → (number == 65) ≡ a → (number == 64) ≡ b → (number % 2 == 0) ≡ c → pool_number (pool_by number a b c) ≡ number
 by_number number true b c ea eb ec = let e = eqb-true number 65 ea in omega (arith, e)

@@ -251,7 +251,7 @@ text = codes "disk a 8\ndisk b 8\nmirror m a b reserve=1 records=1\nmemory none\
 
 -- the text says this scenario with a rescuer, and the run begins in the state in which its runs are opened
 module _ (memory : Global) where
-  tasks_are : tasks ≡ texts.tasks (scenario memory true)
+  tasks_are : tasks ≡ texts.opened_tasks (scenario memory true)
   unfolding tree_below over_shape
   tasks_are = refl
 

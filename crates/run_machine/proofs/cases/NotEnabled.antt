@@ -26,7 +26,7 @@ use Rattle.bioset_pools.specs.Sets.{waits_first}
 use Rattle.run_machine.specs.Submissions.{Takes, WantsPunt, after_miss, rests}
 use Rattle.run_machine.specs.Tasks.{Todo, TaskState, Writer, HasBio, Keeper, Keeps, Starts}
 use Rattle.run_machine.specs.Objects.{TallyState}
-use Rattle.run_machine.specs.Opened.{at}
+use Rattle.run_machine.specs.Opened.{device_at}
 use Rattle.run_machine.specs.Runs.{State, IsEnabled}
 use Rattle.run_machine.proofs.Turns.{follow}
 use Rattle.run_machine.proofs.Able.{not_next}
@@ -218,7 +218,7 @@ module _ (some : LedgerId) where
   nothing_was_punted = not_next _ _ _ 1 refl (λ can. absurd (omega (arith, can.needs.1)))
 
   -- Pushes: of the bio at hand, as it is. What is left of a bio that is cut comes behind its first piece.
-  rest_waits : IsEnabled cuts (cut_at 6) (cut.w some (what.Push (at 0) 7 1 0)) → ⊥
+  rest_waits : IsEnabled cuts (cut_at 6) (cut.w some (what.Push (device_at 0) 7 1 0)) → ⊥
   unfolding upd next next_member slot among
   rest_waits = not_next _ _ _ 0 refl (λ can. absurd (omega (arith, can.needs.1)))
 

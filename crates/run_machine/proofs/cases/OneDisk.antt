@@ -10,12 +10,12 @@ use Rattle.stack_base.specs.Tree.{Tree, Leaf, tree, tree_below, over_shape}
 use Rattle.stack_base.specs.declared.ids.DevId.{DevId}
 use Rattle.layout_model.specs.May.{bads_of}
 use Rattle.run_machine.specs.Scene.{rescuer_at}
-use Rattle.run_machine.specs.Opened.{records_of, reserve_of, at}
+use Rattle.run_machine.specs.Opened.{records_of, reserve_of, device_at}
 use Rattle.run_machine.proofs.Beginnings.{reserves_are}
 use Rattle.run_machine.proofs.Texts.{stack_of, disk}
 
 abbrev pub a : DevId
-a = at 0
+a = device_at 0
 
 abbrev pub tree_of : ℕ → ℕ → Tree
 tree_of sectors dev = slice_index_or (Leaf 0 sectors ∷ []) dev (Leaf dev 0)

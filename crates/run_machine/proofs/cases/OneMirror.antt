@@ -17,7 +17,7 @@ use Rattle.layout_model.specs.NeedCounts.{nodes as nodes_of}
 use Rattle.run_machine.specs.Scene.{Setup}
 use Rattle.run_machine.specs.Tasks.{Todo}
 use Rattle.run_machine.specs.Objects.{Objects, TallyState}
-use Rattle.run_machine.specs.Opened.{Scenario, at, reserve_of}
+use Rattle.run_machine.specs.Opened.{Scenario, device_at, reserve_of}
 use Rattle.run_machine.specs.Opened as texts
 use Rattle.run_machine.proofs.Beginnings.{IsOfScenario, objects_by, reserves_are, first_places}
 use Rattle.run_machine.proofs.Beginnings as begins
@@ -25,10 +25,10 @@ use Rattle.run_machine.proofs.Texts.{device, disk as disk_of, stack_of}
 use Rattle.run_machine.proofs.cases.OneDisk.{a}
 
 abbrev pub b : DevId
-b = at 1
+b = device_at 1
 
 abbrev pub m : DevId
-m = at 2
+m = device_at 2
 
 abbrev pub mirror : Tree
 mirror = Mirrored 2 (8 ∷ 8 ∷ []) (member_at 2 (Leaf 0 8 ∷ Leaf 1 8 ∷ []))
@@ -90,7 +90,7 @@ module _ (memory : Global) where
     tree_is (suc (suc zero)) = refl
     tree_is (suc (suc (suc n))) = let e : suc (suc (suc n)) + 1 ≡ suc (suc (suc (suc n))) = omega arith in rw e refl
 
-    rescuer_is : (dev : ℕ) → (setup rescuer).rescuer dev ≡ (texts.setup (scenario rescuer)).rescuer dev
+    rescuer_is : (dev : ℕ) → (setup rescuer).rescuer dev ≡ (texts.setup_in (scenario rescuer)).rescuer dev
     rescuer_is zero = refl
     rescuer_is (suc zero) = refl
     rescuer_is (suc (suc zero)) = refl
@@ -106,13 +106,13 @@ module _ (memory : Global) where
     bads_are (suc (suc zero)) = refl
     bads_are (suc (suc (suc n))) = refl
 
-    bios_are : (dev : ℕ) → reserve (Bios (at dev)) ≡ reserve_of (stack rescuer) (Bios (at dev))
+    bios_are : (dev : ℕ) → reserve (Bios (device_at dev)) ≡ reserve_of (stack rescuer) (Bios (device_at dev))
     bios_are zero = refl
     bios_are (suc zero) = refl
     bios_are (suc (suc zero)) = refl
     bios_are (suc (suc (suc n))) = refl
 
-    records_are : (dev : ℕ) → reserve (Records (at dev)) ≡ reserve_of (stack rescuer) (Records (at dev))
+    records_are : (dev : ℕ) → reserve (Records (device_at dev)) ≡ reserve_of (stack rescuer) (Records (device_at dev))
     records_are zero = refl
     records_are (suc zero) = refl
     records_are (suc (suc zero)) = refl
@@ -129,7 +129,7 @@ module _ (memory : Global) where
       tally_is = refl;
     }
 
-    pub setup_is : setup rescuer ≡ texts.setup (scenario rescuer)
+    pub setup_is : setup rescuer ≡ texts.setup_in (scenario rescuer)
     setup_is = begins.setup_is (setup rescuer) reserve tally (scenario rescuer) is_of_scenario
 
     pub objects_are : objects ≡ texts.objects (scenario rescuer)

@@ -165,7 +165,7 @@ module _ (memory : Global) where
   unfolding tree_below over_shape needed begun
   one_node = refl
 
-  tasks_are : tasks ≡ texts.tasks scenario
+  tasks_are : tasks ≡ texts.opened_tasks scenario
   unfolding tree_below over_shape
   tasks_are = refl
 

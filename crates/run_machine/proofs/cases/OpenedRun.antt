@@ -4,10 +4,10 @@ use Rattle.stack_base.specs.declared.ids.PoolId.TheVariants.{FsBios, FsVecs}
 use Rattle.stack_base.specs.declared.stack.Stack.{Stack}
 use Rattle.layout_model.specs.declared.write.Write.{Write}
 use Rattle.run_machine.specs.Tasks.{Todo, Resizes, Starts}
-use Rattle.run_machine.specs.Opened.{Scenario, at, todos, todos_of, writers, round_count, duties, keepers, objects}
+use Rattle.run_machine.specs.Opened.{Scenario, device_at, todos, todos_of, writers, round_count, duties, keepers, objects}
 
 abbrev write : ℕ → Write
-write task = record { task = task; dev = at 0; start = 0; count = 1; tag = 0 }
+write task = record { task = task; dev = device_at 0; start = 0; count = 1; tag = 0 }
 
 abbrev todo : ℕ → ℕ → ℕ → Todo
 todo number round task = record { number = number; round = round; write = write task }

@@ -235,7 +235,7 @@ module _ (memory : Global) where
   places_are : (writer : ℕ) → setup.places writer ≡ places_of scenario writer
   places_are writer = places_if (0 == writer) (1 == writer)
 
-  tasks_are : tasks ≡ texts.tasks scenario
+  tasks_are : tasks ≡ texts.opened_tasks scenario
   unfolding tree_below over_shape
   tasks_are = refl
 

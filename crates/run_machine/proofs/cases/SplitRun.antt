@@ -47,7 +47,7 @@ use Rattle.run_machine.specs.Requests.{HadBio, LinkedTo, Did, Completed, Dropped
 use Rattle.run_machine.specs.Submissions.{rests}
 use Rattle.run_machine.specs.Tasks.{Todo, TaskState, Writer, Completer, NoBio, Empty}
 use Rattle.run_machine.specs.Objects.{clear_bio, done_one, TallyState}
-use Rattle.run_machine.specs.Opened.{Scenario, at, reserve_of}
+use Rattle.run_machine.specs.Opened.{Scenario, device_at, reserve_of}
 use Rattle.run_machine.specs.Opened as texts
 use Rattle.run_machine.specs.Runs.{State, IsRun, HasEnded}
 use Rattle.run_machine.proofs.Beginnings.{IsOfScenario, objects_by, state_by, reserves_are, first_places}
@@ -71,13 +71,13 @@ setup = record {
 }
 
 abbrev write : Write
-write = record { task = 0; dev = at 3; start = 5; count = 5; tag = 7 }
+write = record { task = 0; dev = device_at 3; start = 5; count = 5; tag = 7 }
 
 abbrev todo : Todo
 todo = record { number = 0; round = 0; write = write }
 
 abbrev tasks : List TaskState
-tasks = Writer 0 (todo ∷ []) NoBio rests ∷ Completer (at 0) Empty ∷ Completer (at 1) Empty ∷ []
+tasks = Writer 0 (todo ∷ []) NoBio rests ∷ Completer (device_at 0) Empty ∷ Completer (device_at 1) Empty ∷ []
 
 -- the reserves of the writers' pools, and those of the bios of devices 2 and 3
 abbrev reserve : PoolId → ℕ
@@ -91,8 +91,8 @@ abbrev scripts : List (PoolId × Answers)
 scripts =
     (FsBios, only_tail false)
     ∷ (FsVecs, only_tail false)
-    ∷ (Bios (at 3), only_tail false)
-    ∷ (Bios (at 2), only_tail false)
+    ∷ (Bios (device_at 3), only_tail false)
+    ∷ (Bios (device_at 2), only_tail false)
     ∷ []
 
 abbrev pub tally : TallyState
@@ -115,7 +115,7 @@ module _ (some : LedgerId) where
       write = 0;
       writer = 0;
       node = node;
-      dev = at dev;
+      dev = device_at dev;
       range = record { start = first; len = len };
       word = word;
       at = record { segment = 0; done = place };
@@ -125,10 +125,10 @@ module _ (some : LedgerId) where
 
   -- sectors 5 and 6, sector 7, and the last two, which are sectors 0 and 1 of the other disk
   abbrev first : Item Pad
-  first = part 4 2 0 5 2 0 7 (Of (at 2))
+  first = part 4 2 0 5 2 0 7 (Of (device_at 2))
 
   abbrev second : Item Pad
-  second = part 6 1 0 7 1 2 135 (Of (at 3))
+  second = part 6 1 0 7 1 2 135 (Of (device_at 3))
 
   abbrev third : Item Pad
   third = record (part 65 0 1 0 2 3 199 Fs) { short = segments_of 7 5 }
@@ -175,17 +175,17 @@ module _ (some : LedgerId) where
   w what = record { task = id.Writer 0; what = what }
 
   abbrev pub c : ℕ → What → Event
-  c disk what = record { task = id.Completer (at disk); what = what }
+  c disk what = record { task = id.Completer (device_at disk); what = what }
 
   abbrev events : List Event
   events =
       w (what.Take FsBios Spare) ∷ w (what.Link 0 how.Write 0)
-      ∷ w (what.Take (Bios (at 3)) Spare) ∷ w (what.Link 0 how.Chain 1)
-      ∷ w (what.Take (Bios (at 2)) Spare) ∷ w (what.Link 0 how.Chain 2)
-      ∷ w (what.Push (at 0) 5 2 0) ∷ w (what.Push (at 0) 7 1 0) ∷ w (what.Push (at 1) 0 2 0)
-      ∷ c 0 (what.Complete (at 0) 0 Ok) ∷ c 0 (what.Drop 0 2 Ok left.Up) ∷ c 0 (what.Give (Bios (at 2))) ∷ c 0 (what.Drop 0 1 Ok left.Left)
-      ∷ c 0 (what.Complete (at 0) 0 Ok) ∷ c 0 (what.Drop 0 1 Ok left.Up) ∷ c 0 (what.Give (Bios (at 3))) ∷ c 0 (what.Drop 0 0 Ok left.Left)
-      ∷ c 1 (what.Complete (at 1) 0 Ok) ∷ c 1 (what.Drop 0 0 Ok left.Top) ∷ c 1 (what.Give FsBios) ∷ c 1 (what.Done 0 Ok)
+      ∷ w (what.Take (Bios (device_at 3)) Spare) ∷ w (what.Link 0 how.Chain 1)
+      ∷ w (what.Take (Bios (device_at 2)) Spare) ∷ w (what.Link 0 how.Chain 2)
+      ∷ w (what.Push (device_at 0) 5 2 0) ∷ w (what.Push (device_at 0) 7 1 0) ∷ w (what.Push (device_at 1) 0 2 0)
+      ∷ c 0 (what.Complete (device_at 0) 0 Ok) ∷ c 0 (what.Drop 0 2 Ok left.Up) ∷ c 0 (what.Give (Bios (device_at 2))) ∷ c 0 (what.Drop 0 1 Ok left.Left)
+      ∷ c 0 (what.Complete (device_at 0) 0 Ok) ∷ c 0 (what.Drop 0 1 Ok left.Up) ∷ c 0 (what.Give (Bios (device_at 3))) ∷ c 0 (what.Drop 0 0 Ok left.Left)
+      ∷ c 1 (what.Complete (device_at 1) 0 Ok) ∷ c 1 (what.Drop 0 0 Ok left.Top) ∷ c 1 (what.Give FsBios) ∷ c 1 (what.Done 0 Ok)
       ∷ []
 
   are_turns : AreTurns scene start turns events
@@ -297,7 +297,7 @@ module _ (memory : Global) where
   tree_is (suc (suc (suc zero))) = refl
   tree_is (suc (suc (suc (suc n)))) = let e : suc (suc (suc (suc n))) + 1 ≡ suc (suc (suc (suc (suc n)))) = omega arith in rw e refl
 
-  rescuer_is : (dev : ℕ) → setup.rescuer dev ≡ (texts.setup scenario).rescuer dev
+  rescuer_is : (dev : ℕ) → setup.rescuer dev ≡ (texts.setup_in scenario).rescuer dev
   rescuer_is zero = refl
   rescuer_is (suc zero) = refl
   rescuer_is (suc (suc zero)) = refl
@@ -315,21 +315,21 @@ module _ (memory : Global) where
   bads_are (suc (suc (suc zero))) = refl
   bads_are (suc (suc (suc (suc n)))) = refl
 
-  bios_are : (dev : ℕ) → reserve (Bios (at dev)) ≡ reserve_of stack (Bios (at dev))
+  bios_are : (dev : ℕ) → reserve (Bios (device_at dev)) ≡ reserve_of stack (Bios (device_at dev))
   bios_are zero = refl
   bios_are (suc zero) = refl
   bios_are (suc (suc zero)) = refl
   bios_are (suc (suc (suc zero))) = refl
   bios_are (suc (suc (suc (suc n)))) = refl
 
-  records_are : (dev : ℕ) → 0 ≡ reserve_of stack (Records (at dev))
+  records_are : (dev : ℕ) → 0 ≡ reserve_of stack (Records (device_at dev))
   records_are zero = refl
   records_are (suc zero) = refl
   records_are (suc (suc zero)) = refl
   records_are (suc (suc (suc zero))) = refl
   records_are (suc (suc (suc (suc n)))) = refl
 
-  tasks_are : tasks ≡ texts.tasks scenario
+  tasks_are : tasks ≡ texts.opened_tasks scenario
   unfolding tree_below over_shape
   tasks_are = refl
 

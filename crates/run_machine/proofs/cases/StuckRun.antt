@@ -79,7 +79,7 @@ module _ (some : LedgerId) where
 
 -- With `rescuer=no` the text is refused, since a mirror of two needs a rescuer. This is the state in which its runs would begin.
 module _ (memory : Global) where
-  tasks_are : tasks ≡ texts.tasks (mirrored.scenario memory false)
+  tasks_are : tasks ≡ texts.opened_tasks (mirrored.scenario memory false)
   unfolding tree_below over_shape
   tasks_are = refl
 

@@ -9,7 +9,7 @@ use Rattle.run_machine.specs.declared.event.Event.{Event}
 use Rattle.run_machine.specs.Laws.{Object, OfTally, object_of}
 use Rattle.run_machine.specs.Maps.{upd}
 use Rattle.run_machine.specs.Objects.{Objects, Serves}
-use Rattle.run_machine.specs.Opened.{Scenario, scene, start, setup, tasks}
+use Rattle.run_machine.specs.Opened.{Scenario, scene, start, setup_in, opened_tasks}
 use Rattle.run_machine.specs.Requests.{Request, Reply}
 use Rattle.run_machine.specs.Runs.{State, IsLet, Steps}
 use Rattle.run_machine.specs.Tasks.{TaskState, request, look_of, answered, is_broken}
@@ -37,10 +37,10 @@ use Rattle.run_merge.proofs.products.Served.{serves_all, struck_serves}
 -- a task that was let ask would break off with this reply of its object
 record WouldBreak (s : Scenario) (ledger : ℕ → LedgerId) (hs : Histories) (state : State) (place ticket : ℕ) (asked : Request) (reply : Reply) : Type 0 where
   object : StateAt (object_of asked)
-  asks : asked ≡ struck (request (setup s) (state.task place))
+  asks : asked ≡ struck (request (setup_in s) (state.task place))
   serves : ServesAt ledger (object_of asked) (get state.objects (object_of asked)) asked reply object
   looked : LetsAsk s ledger (history_of OfTally hs) ticket (state.task place) (look_of (state.task place))
-  broken : is_broken (answered (setup s) (state.task place) reply) ≡ true
+  broken : is_broken (answered (setup_in s) (state.task place) reply) ≡ true
 
 module _ (s : Scenario) (ledger : ℕ → LedgerId) (good : IsRunnable s) (naming : IsNaming ledger) where
   module _ (hs : Histories) (state : State) (shown : Shown s ledger hs state) (place ticket : ℕ) (asked : Request) (reply : Reply)
@@ -51,11 +51,11 @@ module _ (s : Scenario) (ledger : ℕ → LedgerId) (good : IsRunnable s) (namin
     abbrev new : Objects
     new = put_object state.objects (object_of asked) bad.object
 
-    serves : Serves ledger state.objects (request (setup s) (state.task place)) reply new
-    serves = struck_serves ledger state.objects (request (setup s) (state.task place)) reply new
+    serves : Serves ledger state.objects (request (setup_in s) (state.task place)) reply new
+    serves = struck_serves ledger state.objects (request (setup_in s) (state.task place)) reply new
         (subst (λ r. Serves ledger state.objects r reply new) bad.asks (serves_all ledger state.objects asked reply bad.object bad.serves))
 
-    inside : place < length (tasks s)
+    inside : place < length (opened_tasks s)
     inside = is_inside s ledger good.scenario naming (without_tickets (sorted_by_ticket (all_of hs))) state (behind_run s ledger (without_tickets (sorted_by_ticket (all_of hs))) state reached)
         place asked reply bad.object bad.asks bad.serves
 
@@ -65,16 +65,16 @@ module _ (s : Scenario) (ledger : ℕ → LedgerId) (good : IsRunnable s) (namin
         (sym (append-nil (sorted_by_ticket (all_of hs)))) tt refl place (state.task place) refl bad.looked
 
     abbrev next : State
-    next = record { objects = new; task = upd state.task place (answered (setup s) (state.task place) reply) }
+    next = record { objects = new; task = upd state.task place (answered (setup_in s) (state.task place) reply) }
 
     by_event : (event : Event) → Steps (scene s ledger) state place event next → ⊥
     by_event event steps =
         let more = one_event (scene s ledger) (start s) reached.0 state reached.1 place event next steps in
         let whole = no_task_breaks s ledger more.0 next good.scenario good.allowed naming more.1 in
-        let same : next.task place ≡ answered (setup s) (state.task place) reply = upd_same state.task place (answered (setup s) (state.task place) reply) in
+        let same : next.task place ≡ answered (setup_in s) (state.task place) reply = upd_same state.task place (answered (setup_in s) (state.task place) reply) in
         true≢false (sym bad.broken ∙ ap is_broken (sym same) ∙ whole.tasks place)
 
-    by_still : answered (setup s) (state.task place) reply ≡ state.task place → ⊥
+    by_still : answered (setup_in s) (state.task place) reply ≡ state.task place → ⊥
     by_still still =
         let whole = no_task_breaks s ledger reached.0 state good.scenario good.allowed naming reached.1 in
         true≢false (sym bad.broken ∙ ap is_broken still ∙ whole.tasks place)
@@ -86,20 +86,20 @@ module _ (s : Scenario) (ledger : ℕ → LedgerId) (good : IsRunnable s) (namin
         by_two (inl (event, steps)) = by_event event steps
         by_two (inr (same, still)) = by_still still
 
-  led_is : (es : List Entry) (t x : TaskState) → LeadsTask (setup s) t es x → x ≡ led_by (setup s) t es
+  led_is : (es : List Entry) (t x : TaskState) → LeadsTask (setup_in s) t es x → x ≡ led_by (setup_in s) t es
   led_is [] t x leads = leads
-  led_is (e ∷ es) t x leads = led_is es (answered (setup s) t e.reply) x leads.1
+  led_is (e ∷ es) t x leads = led_is es (answered (setup_in s) t e.reply) x leads.1
 
   pub not_refused : (hs : Histories) (left : State) → Shown s ledger hs left → (place : ℕ) (now : TaskState) → WasRefused s ledger hs place (left.task place) now → ⊥
   not_refused hs left shown place now r =
       none_breaks first at_call shown_call place r.ticket r.asked r.reply (record {
         object = r.object;
-        asks = r.asks ∙ ap (λ x. struck (request (setup s) x)) task_is;
+        asks = r.asks ∙ ap (λ x. struck (request (setup_in s) x)) task_is;
         serves = subst (λ o. ServesAt ledger name o r.asked r.reply r.object) (sym (get_put earlier.objects name r.object)) r.serves;
         looked = subst (λ l. LetsAsk s ledger l r.ticket (at_call.task place) (look_of (at_call.task place))) (sym (history_early r.ticket OfTally hs))
             (lets_early r.ticket s ledger (history_of OfTally hs) r.ticket (at_call.task place) (look_of (at_call.task place)) (omega arith)
             (subst (λ (x : TaskState). LetsAsk s ledger (history_of OfTally hs) r.ticket x (look_of x)) task_is r.looked));
-        broken = ap (λ x. is_broken (answered (setup s) x r.reply)) (sym task_is) ∙ ap is_broken (sym r.goes_on) ∙ r.broken;
+        broken = ap (λ x. is_broken (answered (setup_in s) x r.reply)) (sym task_is) ∙ ap is_broken (sym r.goes_on) ∙ r.broken;
       })
     where
       name : Object

@@ -5,7 +5,7 @@ use Rattle.std.proofs.lemmas.List.{append_assoc, map-append}
 use Rattle.std.proofs.lemmas.List.Elements.{All-head, All-tail, All-cons, All-nil, All-filter, filter-append}
 use Rattle.elem_ledger.specs.Ledger.{LedgerId}
 use Rattle.run_machine.specs.Laws.{Object, OfTally, object_of}
-use Rattle.run_machine.specs.Opened.{Scenario, start, setup}
+use Rattle.run_machine.specs.Opened.{Scenario, start, setup_in}
 use Rattle.run_machine.specs.Requests.{Request}
 use Rattle.run_machine.specs.Runs.{State}
 use Rattle.run_machine.specs.Tasks.{TaskState, look_of}
@@ -108,13 +108,13 @@ module _ (ticket : ℕ) where
         let r = object_split ledger name (without_tickets (early ticket (history_of name hs))) (without_tickets p.0) (get (start s).objects name) (get last.objects name) l in
         (r.0, subst (λ l. LeadsObject ledger name (get (start s).objects name) (without_tickets l) r.0) (sym (history_early name hs)) r.1)
 
-    task_then : (place : ℕ) → LeadsTask (setup s) ((start s).task place) (without_tickets (done_by place (early_histories ticket hs))) (task_behind s place (without_tickets (early ticket (done_by place hs))))
+    task_then : (place : ℕ) → LeadsTask (setup_in s) ((start s).task place) (without_tickets (done_by place (early_histories ticket hs))) (task_behind s place (without_tickets (early ticket (done_by place hs))))
     task_then place =
         let p = early_first ticket 0 (done_by place hs) (sorted_ordered (filter (is_by place) (all_of hs))) in
-        let l = subst (λ l. LeadsTask (setup s) ((start s).task place) l (last.task place))
+        let l = subst (λ l. LeadsTask (setup_in s) ((start s).task place) l (last.task place))
         (ap without_tickets p.1 ∙ map-append (λ (n : Ticketed). n.entry) (early ticket (done_by place hs)) p.0) (shown.tasks place) in
-        let r = task_split (setup s) (without_tickets (early ticket (done_by place hs))) (without_tickets p.0) ((start s).task place) (last.task place) l in
-        subst (λ l. LeadsTask (setup s) ((start s).task place) (without_tickets l) (task_behind s place (without_tickets (early ticket (done_by place hs))))) (sym (done_early place hs)) r.0
+        let r = task_split (setup_in s) (without_tickets (early ticket (done_by place hs))) (without_tickets p.0) ((start s).task place) (last.task place) l in
+        subst (λ l. LeadsTask (setup_in s) ((start s).task place) (without_tickets l) (task_behind s place (without_tickets (early ticket (done_by place hs))))) (sym (done_early place hs)) r.0
 
     -- where they lead
     pub then_state : State

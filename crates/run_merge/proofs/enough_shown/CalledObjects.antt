@@ -6,7 +6,7 @@ use Rattle.std.proofs.lemmas.Bool.{true≢false, or_parts}
 use Rattle.std.proofs.lemmas.List.Elements.{All-contains_itself, All-weaker}
 use Rattle.tick_clock.specs.Tickets.{PassState}
 use Rattle.run_machine.specs.Laws.{Object, OfNone, object_of}
-use Rattle.run_machine.specs.Opened.{Scenario, setup}
+use Rattle.run_machine.specs.Opened.{Scenario, setup_in}
 use Rattle.task_core.specs.declared.plain.Plain.{Plain}
 use Rattle.object_things.specs.Histories.{Call}
 use Rattle.object_things.specs.Stamps.{ThingState}
@@ -37,14 +37,14 @@ none_in : {X Y : Type 0} (x : X) → Contains [] x → Y
 none_in x (k, lt, at) = absurd (omega (arith, lt))
 
 module _ (s : Scenario) (plain : Plain) (names : List Object) (history : Object → List Call) (left : (name : Object) → ThingState (ThingAt name)) (tasks : List Returned)
-    (pass : PassState) (c : ClosesAs (setup s) plain names history left tasks pass) where
+    (pass : PassState) (c : ClosesAs (setup_in s) plain names history left tasks pass) where
   -- each call of a log asks some object, of which there is a history
   pub ask_some : (place : ℕ) (task : Returned) → slice_get tasks place ≡ Some task → AskSome task.log
   ask_some place task at = All-weaker (Contains task.log) (λ (call : Call). object_of call.asked ≡ OfNone → ⊥) none task.log (All-contains_itself task.log)
     where
       none : (call : Call) → Contains task.log call → object_of call.asked ≡ OfNone → ⊥
       none call there is =
-          none_in call (subst (λ l. Contains l call) (sym ((logged (setup s) plain names history left tasks pass c place task at).0.calls OfNone))
+          none_in call (subst (λ l. Contains l call) (sym ((logged (setup_in s) plain names history left tasks pass c place task at).0.calls OfNone))
           (filter_there (λ (x : Call). is_same_object OfNone (object_of x.asked)) task.log call there (ap (is_same_object OfNone) is)))
 
   pub named : (place : ℕ) (task : Returned) → slice_get tasks place ≡ Some task → (call : Call) → Contains task.log call
@@ -54,4 +54,4 @@ module _ (s : Scenario) (plain : Plain) (names : List Object) (history : Object 
       by_test : (b : Bool) → list_any (λ name. is_same_object name (object_of call.asked)) names ≡ b → b ≡ true
       by_test true is = refl
       by_test false is =
-          none_in call (subst (λ l. Contains l call) (c.others (object_of call.asked) (none_turned (object_of call.asked) names is)) (kept (setup s) plain names history left tasks pass c place task at call there))
+          none_in call (subst (λ l. Contains l call) (c.others (object_of call.asked) (none_turned (object_of call.asked) names is)) (kept (setup_in s) plain names history left tasks pass c place task at call there))

@@ -14,7 +14,7 @@ use Rattle.seat_lock.proofs.Histories.{count_one}
 use Rattle.tick_clock.specs.Tickets.{PassState, ticket_numbers}
 use Rattle.run_machine.specs.Laws.{Object, OfPool, OfRescuer, OfDisk, OfBook, OfTally, OfNone, object_of}
 use Rattle.run_machine.specs.Objects.{Objects, TallyState}
-use Rattle.run_machine.specs.Opened.{Scenario, at, setup, start, no_task}
+use Rattle.run_machine.specs.Opened.{Scenario, device_at, setup_in, start, no_task}
 use Rattle.run_machine.specs.Opened as opened
 use Rattle.run_machine.specs.Runs.{State}
 use Rattle.run_machine.specs.Tasks.{TaskState, look_of, is_broken}
@@ -114,7 +114,7 @@ none_by place (call ∷ calls) less =
 
 -- objects as they are opened
 list_bios : (found : Option (DevId × Rescue)) (dev : ℕ)
-    → option_map_or (λ (entry : DevId × Rescue). entry.1.bios) found [] ≡ (option_map_or (λ (entry : DevId × Rescue). entry.1) found (record { dev = at dev; bios = [] })).bios
+    → option_map_or (λ (entry : DevId × Rescue). entry.1.bios) found [] ≡ (option_map_or (λ (entry : DevId × Rescue). entry.1) found (record { dev = device_at dev; bios = [] })).bios
 list_bios None dev = refl
 list_bios (Some entry) dev = refl
 
@@ -127,7 +127,7 @@ opened_is plain OfTally = refl
 opened_is plain OfNone = refl
 
 module _ (s : Scenario) (plain : Plain) (names : List Object) (history : Object → List Call) (left : (name : Object) → ThingState (ThingAt name)) (tasks : List Returned)
-    (pass : PassState) (c : ClosesAs (setup s) plain names history left tasks pass) (firsts : map (λ (task : Returned). task.first) tasks ≡ opened.tasks s)
+    (pass : PassState) (c : ClosesAs (setup_in s) plain names history left tasks pass) (firsts : map (λ (task : Returned). task.first) tasks ≡ opened.opened_tasks s)
     (begins : (name : Object) → get (start s).objects name ≡ seen_at name (opened_at plain name))
     (found : All (λ (task : Returned). found_by task.desk.pass ≤ pass.known) tasks) where
   ready : (name : Object) → IsReady (stage_of plain).ledger name (opened_at plain name) (drawn_in (history name))
@@ -151,7 +151,7 @@ module _ (s : Scenario) (plain : Plain) (names : List Object) (history : Object 
   -- what is shown of the task at each place
   record IsShownAt (place : ℕ) : Type 0 where
     now : TaskState
-    leads : LeadsTask (setup s) ((start s).task place) (without_tickets (done_by place (event_histories names history))) now
+    leads : LeadsTask (setup_in s) ((start s).task place) (without_tickets (done_by place (event_histories names history))) now
     looks : (mine rest : List Ticketed) (n : Ticketed) → done_by place (event_histories names history) ≡ mine ++ n ∷ rest
         → let task = task_behind s place (without_tickets mine) in LetsAsk s (stage_of plain).ledger (history_of OfTally (event_histories names history)) n.ticket task (look_of task)
     comes : ((get_or (tasks_left tasks) place no_task ≡ now) × IsThrough s (stage_of plain).ledger (event_histories names history) now)
@@ -160,8 +160,8 @@ module _ (s : Scenario) (plain : Plain) (names : List Object) (history : Object 
   shown_task : (place : ℕ) (task : Returned) → slice_get tasks place ≡ Some task → IsShownAt place
   shown_task place task at = record {
     now = w.now;
-    leads = subst (λ t. LeadsTask (setup s) t (without_tickets (done_by place (event_histories names history))) w.now) (sym first)
-        (subst (λ ns. LeadsTask (setup s) task.first (without_tickets ns) w.now) (sym done) w.leads);
+    leads = subst (λ t. LeadsTask (setup_in s) t (without_tickets (done_by place (event_histories names history))) w.now) (sym first)
+        (subst (λ ns. LeadsTask (setup_in s) task.first (without_tickets ns) w.now) (sym done) w.leads);
     looks = λ mine rest n is. by_cut mine n (cut_at task.log mine rest n (sym done ∙ is));
     comes = subst (λ t. ((t ≡ w.now) × IsThrough s (stage_of plain).ledger (event_histories names history) w.now)
         ⊎ (WasRefused s (stage_of plain).ledger (event_histories names history) place w.now t ⊎ HasLast (ticket_numbers pass.drawn)))
@@ -169,7 +169,7 @@ module _ (s : Scenario) (plain : Plain) (names : List Object) (history : Object 
         (comes_to s plain names history left tasks pass c (stage_of plain).ledger begins ready found place task at done w.now w.end);
   }
     where
-      w : Walked (setup s) [] task.first task.log task.task
+      w : Walked (setup_in s) [] task.first task.log task.task
       w = walked s plain names history left tasks pass c firsts place task at
 
       first : (start s).task place ≡ task.first
@@ -182,10 +182,10 @@ module _ (s : Scenario) (plain : Plain) (names : List Object) (history : Object 
           → let task = task_behind s place (without_tickets mine) in LetsAsk s (stage_of plain).ledger (history_of OfTally (event_histories names history)) n.ticket task (look_of task)
       by_cut mine n cut =
           let within : Contains task.log cut.call = subst (λ l. Contains l cut.call) (sym cut.is) (Contains-append_right cut.before (cut.call ∷ cut.after) cut.call (0, omega arith, refl)) in
-          let led = λ (t : TaskState) (ns : List Ticketed). led_by (setup s) t (without_tickets ns) in
-          let looked = looks_there (setup s) [] task.first cut.before cut.after cut.call task.task cut.told
+          let led = λ (t : TaskState) (ns : List Ticketed). led_by (setup_in s) t (without_tickets ns) in
+          let looked = looks_there (setup_in s) [] task.first cut.before cut.after cut.call task.task cut.told
           (subst AskSome cut.is (ask_some s plain names history left tasks pass c place task at))
-          (subst (λ l. LogLeads (setup s) [] task.first l task.task) cut.is (logged (setup s) plain names history left tasks pass c place task at).0.leads) in
+          (subst (λ l. LogLeads (setup_in s) [] task.first l task.task) cut.is (logged (setup_in s) plain names history left tasks pass c place task at).0.leads) in
           let has = log_drew s plain names history left tasks pass c (stage_of plain).ledger begins ready found place task at cut.call within cut.told in
           let lets = lets_ask s plain names history left tasks pass c (stage_of plain).ledger begins ready place task at cut.before
           (λ x inside. subst (λ l. Contains l x) (sym cut.is) (Contains-append_left cut.before (cut.call ∷ cut.after) x inside))
@@ -198,7 +198,7 @@ module _ (s : Scenario) (plain : Plain) (names : List Object) (history : Object 
   shown_none : (place : ℕ) → length tasks ≤ place → IsShownAt place
   shown_none place le = record {
     now = no_task;
-    leads = subst (λ ns. LeadsTask (setup s) ((start s).task place) (without_tickets ns) no_task) (sym done) (sym first);
+    leads = subst (λ ns. LeadsTask (setup_in s) ((start s).task place) (without_tickets ns) no_task) (sym done) (sym first);
     looks = λ mine rest n is. nothing n rest mine (sym done ∙ is);
     comes = inl (image_none (λ (task : Returned). task.task) no_task tasks place le, inl refl);
   }
@@ -263,7 +263,7 @@ module _ (s : Scenario) (plain : Plain) (names : List Object) (history : Object 
     shown = shown;
     object = object_left;
     task = λ place. (shown_at place).comes;
-    row = in_row (setup s) plain names history left tasks pass c;
+    row = in_row (setup_in s) plain names history left tasks pass c;
     few = few_drawn s plain names history left tasks pass c firsts;
   }
 

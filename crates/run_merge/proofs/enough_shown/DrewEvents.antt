@@ -8,7 +8,7 @@ use Rattle.tick_clock.specs.Tickets.{PassState}
 use Rattle.run_machine.specs.declared.event.What.{What}
 use Rattle.run_machine.specs.Events.{what_of}
 use Rattle.run_machine.specs.Laws.{Object}
-use Rattle.run_machine.specs.Opened.{Scenario, setup}
+use Rattle.run_machine.specs.Opened.{Scenario, setup_in}
 use Rattle.run_machine.specs.Tasks.{is_broken}
 use Rattle.task_core.specs.declared.plain.Plain.{Plain}
 use Rattle.object_things.specs.Histories.{Call}
@@ -31,16 +31,16 @@ carries_all None (Some n) drew = absurd (true≢false drew)
 carries_all (Some what) drawn drew = refl
 
 module _ (s : Scenario) (plain : Plain) (names : List Object) (history : Object → List Call) (left : (name : Object) → ThingState (ThingAt name)) (tasks : List Returned)
-    (pass : PassState) (c : ClosesAs (setup s) plain names history left tasks pass)
+    (pass : PassState) (c : ClosesAs (setup_in s) plain names history left tasks pass)
     (whole : (place : ℕ) (task : Returned) → slice_get tasks place ≡ Some task → is_broken task.task ≡ false) where
   -- no call of a task stopped it
   goes_on : (place : ℕ) (task : Returned) → slice_get tasks place ≡ Some task → (call : Call) → Contains task.log call → is_stop call.asked call.told.reply ≡ false
   goes_on place task at call there = by_end led.stops
     where
-      led : IsLed (setup s) task.first task.log task.task
-      led = logs_lead (setup s) task.first task.task task.log task.desk (logged (setup s) plain names history left tasks pass c place task at).0
+      led : IsLed (setup_in s) task.first task.log task.task
+      led = logs_lead (setup_in s) task.first task.task task.log task.desk (logged (setup_in s) plain names history left tasks pass c place task at).0
 
-      by_end : ((task.task ≡ led.through) × All (λ (x : Call). is_stop x.asked x.told.reply ≡ false) task.log) ⊎ BrokeOff (setup s) task.log led.through task.task
+      by_end : ((task.task ≡ led.through) × All (λ (x : Call). is_stop x.asked x.told.reply ≡ false) task.log) ⊎ BrokeOff (setup_in s) task.log led.through task.task
           → is_stop call.asked call.told.reply ≡ false
       by_end (inl (is, goes)) = All-contains (λ (x : Call). is_stop x.asked x.told.reply ≡ false) task.log call goes there
       by_end (inr broke) = absurd (true≢false (sym broke.broken ∙ whole place task at))
@@ -49,11 +49,11 @@ module _ (s : Scenario) (plain : Plain) (names : List Object) (history : Object 
   drew_as name call there =
       let drew = by_ticket call.told.drawn p.answers.step in (drew, p.answers.ticket ∙ carries_all (what_of call.asked call.told.reply) call.told.drawn drew)
     where
-      p : IsInPlace (setup s) plain names history left tasks pass c name call
-      p = in_place (setup s) plain names history left tasks pass c name call there
+      p : IsInPlace (setup_in s) plain names history left tasks pass c name call
+      p = in_place (setup_in s) plain names history left tasks pass c name call there
 
-      o : IsCallOfTask (setup s) plain names history left tasks pass c name call
-      o = owner (setup s) plain names history left tasks pass c name call there
+      o : IsCallOfTask (setup_in s) plain names history left tasks pass c name call
+      o = owner (setup_in s) plain names history left tasks pass c name call there
 
       -- with a ticket it was served, so that it is an event or was refused, which stops its task
       by_event : (b : Bool) → is_told call ≡ b → serves_at name p.here.object call.asked call.told.reply p.next.object → true ≡ is_told call

@@ -16,7 +16,7 @@ use Rattle.run_machine.specs.Events.{id_of}
 use Rattle.run_machine.specs.Laws.{OfTally}
 use Rattle.run_machine.specs.Submissions.{rests}
 use Rattle.run_machine.specs.Objects.{TallyState}
-use Rattle.run_machine.specs.Opened.{Scenario, at, duties, keepers, round_count, tasks, todos_of, writers, writes_in}
+use Rattle.run_machine.specs.Opened.{Scenario, device_at, duties, keepers, round_count, opened_tasks, todos_of, writers, writes_in}
 use Rattle.run_machine.specs.Opened as opened
 use Rattle.run_machine.specs.Requests.{Request, Reply, Done, NextRound, Did, OutIs}
 use Rattle.run_machine.specs.Scene.{Setup, is_disk}
@@ -173,19 +173,19 @@ module _ (s : Scenario) where
   keeper_starts [] = refl
   keeper_starts (duty ∷ ds) = let more = sum_by-cons starts_left (Keeper (Keeps (duty ∷ ds))) [] in omega (arith, more)
 
-  pub tasks_start : sum_by starts_left (tasks s) ≡ round_count s - 1
+  pub tasks_start : sum_by starts_left (opened_tasks s) ≡ round_count s - 1
   tasks_start =
       let a = none_of (λ writer. Writer writer (todos_of s writer) NoBio rests) (writers s) (λ x. refl) in
-      let b = none_of (λ dev. Rescuer (at dev) rests) (filter (opened.setup s).rescuer (range_with_len 0 (opened.setup s).count)) (λ x. refl) in
-      let c = none_of (λ dev. Completer (at dev) Empty) (filter (is_disk (opened.setup s)) (range_with_len 0 (opened.setup s).count)) (λ x. refl) in
+      let b = none_of (λ dev. Rescuer (device_at dev) rests) (filter (opened.setup_in s).rescuer (range_with_len 0 (opened.setup_in s).count)) (λ x. refl) in
+      let c = none_of (λ dev. Completer (device_at dev) Empty) (filter (is_disk (opened.setup_in s)) (range_with_len 0 (opened.setup_in s).count)) (λ x. refl) in
       let d = keeper_starts (duties s) in
       let e = starts_all s 1 (round_count s - 1) in
       let x = sum_by-append starts_left (map (λ writer. Writer writer (todos_of s writer) NoBio rests) (writers s))
-      (map (λ dev. Rescuer (at dev) rests) (filter (opened.setup s).rescuer (range_with_len 0 (opened.setup s).count))
-      ++ (map (λ dev. Completer (at dev) Empty) (filter (is_disk (opened.setup s)) (range_with_len 0 (opened.setup s).count)) ++ keepers (duties s))) in
-      let y = sum_by-append starts_left (map (λ dev. Rescuer (at dev) rests) (filter (opened.setup s).rescuer (range_with_len 0 (opened.setup s).count)))
-      (map (λ dev. Completer (at dev) Empty) (filter (is_disk (opened.setup s)) (range_with_len 0 (opened.setup s).count)) ++ keepers (duties s)) in
-      let z = sum_by-append starts_left (map (λ dev. Completer (at dev) Empty) (filter (is_disk (opened.setup s)) (range_with_len 0 (opened.setup s).count))) (keepers (duties s)) in
+      (map (λ dev. Rescuer (device_at dev) rests) (filter (opened.setup_in s).rescuer (range_with_len 0 (opened.setup_in s).count))
+      ++ (map (λ dev. Completer (device_at dev) Empty) (filter (is_disk (opened.setup_in s)) (range_with_len 0 (opened.setup_in s).count)) ++ keepers (duties s))) in
+      let y = sum_by-append starts_left (map (λ dev. Rescuer (device_at dev) rests) (filter (opened.setup_in s).rescuer (range_with_len 0 (opened.setup_in s).count)))
+      (map (λ dev. Completer (device_at dev) Empty) (filter (is_disk (opened.setup_in s)) (range_with_len 0 (opened.setup_in s).count)) ++ keepers (duties s)) in
+      let z = sum_by-append starts_left (map (λ dev. Completer (device_at dev) Empty) (filter (is_disk (opened.setup_in s)) (range_with_len 0 (opened.setup_in s).count))) (keepers (duties s)) in
       omega (arith, a, b, c, d, e, x, y, z)
 
   pub rounds_there : length (opened.objects s).tally.left ≡ round_count s

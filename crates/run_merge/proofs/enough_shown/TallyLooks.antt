@@ -7,7 +7,7 @@ use Rattle.elem_ledger.specs.Ledger.{LedgerId}
 use Rattle.tick_clock.specs.Tickets.{PassState}
 use Rattle.run_machine.specs.Laws.{Object, OfTally, object_of}
 use Rattle.run_machine.specs.Objects.{TallyState}
-use Rattle.run_machine.specs.Opened.{Scenario, setup, start}
+use Rattle.run_machine.specs.Opened.{Scenario, setup_in, start}
 use Rattle.run_machine.specs.Requests.{Request, Reply, LookRound, LookLeft, Present, LeftOver}
 use Rattle.run_machine.specs.Tasks.{TaskState, look_of}
 use Rattle.run_machine.proofs.Looks.{task_looks}
@@ -69,14 +69,14 @@ is_look task look is = elim (task_looks task look is) [
 ]
 
 module _ (s : Scenario) (plain : Plain) (names : List Object) (history : Object → List Call) (left : (name : Object) → ThingState (ThingAt name)) (tasks : List Returned)
-    (pass : PassState) (c : ClosesAs (setup s) plain names history left tasks pass) (ledger : ℕ → LedgerId)
+    (pass : PassState) (c : ClosesAs (setup_in s) plain names history left tasks pass) (ledger : ℕ → LedgerId)
     (begins : (name : Object) → get (start s).objects name ≡ seen_at name (opened_at plain name))
     (ready : (name : Object) → IsReady ledger name (opened_at plain name) (drawn_in (history name))) where
   pub parts_ready : (name : Object) (before after : List Call) → history name ≡ before ++ after → IsReady ledger name (opened_at plain name) (drawn_in before ++ drawn_in after)
   parts_ready name before after is =
       subst (IsReady ledger name (opened_at plain name)) (ap drawn_in is ∙ filter-append (λ (call : Call). is_some call.told.drawn) before after) (ready name)
 
-  pub history_parts : (name : Object) (call : Call) (p : IsInPlace (setup s) plain names history left tasks pass c name call) → is_told call ≡ false
+  pub history_parts : (name : Object) (call : Call) (p : IsInPlace (setup_in s) plain names history left tasks pass c name call) → is_told call ≡ false
       → history_of name (event_histories names history) ≡ ticketed_events p.before ++ ticketed_events p.after
   history_parts name call p untold =
       history_is history name names (c.others name) ∙ ap ticketed_events p.is ∙ events_around p.before p.after call untold
@@ -107,8 +107,8 @@ module _ (s : Scenario) (plain : Plain) (names : List Object) (history : Object 
     found = told.1;
   }
     where
-      p : IsInPlace (setup s) plain names history left tasks pass c OfTally call
-      p = in_place (setup s) plain names history left tasks pass c OfTally call there
+      p : IsInPlace (setup_in s) plain names history left tasks pass c OfTally call
+      p = in_place (setup_in s) plain names history left tasks pass c OfTally call there
 
       untold : is_told call ≡ false
       untold = ap (λ a. is_event a call.told.reply) asks ∙ is.untold call.told.reply
@@ -134,7 +134,7 @@ module _ (s : Scenario) (plain : Plain) (names : List Object) (history : Object 
       look_is = is_look now look is
 
       in_history : Contains (history OfTally) seen
-      in_history = subst (λ o. Contains (history o) seen) (ap object_of asks ∙ look_is.tally) (kept (setup s) plain names history left tasks pass c place task at seen (inside seen there))
+      in_history = subst (λ o. Contains (history o) seen) (ap object_of asks ∙ look_is.tally) (kept (setup_in s) plain names history left tasks pass c place task at seen (inside seen there))
 
       was : IsSeen seen
       was = seen_then seen look asks look_is in_history

@@ -10,7 +10,7 @@ use Rattle.std.proofs.lemmas.List.Sums.{sum_by-cons}
 use Rattle.std.proofs.lemmas.Option.{slice_get_cases, slice_get_within, get_or_from_slice_get}
 use Rattle.tick_clock.specs.Tickets.{PassState, ticket_numbers}
 use Rattle.run_machine.specs.Laws.{Object, OfNone, OfTally, object_of}
-use Rattle.run_machine.specs.Opened.{Scenario, setup, start, no_task, round_count}
+use Rattle.run_machine.specs.Opened.{Scenario, setup_in, start, no_task, round_count}
 use Rattle.run_machine.specs.Opened as opened
 use Rattle.run_machine.specs.Scene.{Setup}
 use Rattle.run_machine.specs.Tasks.{TaskState, answered, is_broken}
@@ -106,15 +106,15 @@ image_none f none (y ∷ ys) zero le = absurd (omega (arith, le))
 image_none f none (y ∷ ys) (suc i) le = image_none f none ys i (omega (arith, le))
 
 module _ (s : Scenario) (plain : Plain) (names : List Object) (history : Object → List Call) (left : (name : Object) → ThingState (ThingAt name)) (tasks : List Returned)
-    (pass : PassState) (c : ClosesAs (setup s) plain names history left tasks pass) (firsts : map (λ (task : Returned). task.first) tasks ≡ opened.tasks s) where
-  pub walked : (place : ℕ) (task : Returned) → slice_get tasks place ≡ Some task → Walked (setup s) [] task.first task.log task.task
+    (pass : PassState) (c : ClosesAs (setup_in s) plain names history left tasks pass) (firsts : map (λ (task : Returned). task.first) tasks ≡ opened.opened_tasks s) where
+  pub walked : (place : ℕ) (task : Returned) → slice_get tasks place ≡ Some task → Walked (setup_in s) [] task.first task.log task.task
   walked place task at =
-      walk (setup s) [] task.first task.log task.task (ask_some s plain names history left tasks pass c place task at) (logged (setup s) plain names history left tasks pass c place task at).0.leads
+      walk (setup_in s) [] task.first task.log task.task (ask_some s plain names history left tasks pass c place task at) (logged (setup_in s) plain names history left tasks pass c place task at).0.leads
 
   pub first_is : (place : ℕ) (task : Returned) → slice_get tasks place ≡ Some task → (start s).task place ≡ task.first
   first_is place task at = ap (λ l. get_or l place no_task) (sym firsts) ∙ image_at (λ (task : Returned). task.first) no_task tasks place task at
 
-  pub long : length (opened.tasks s) ≡ length tasks
+  pub long : length (opened.opened_tasks s) ≡ length tasks
   long = ap (λ (l : List TaskState). length l) (sym firsts) ∙ length-map tasks (λ (task : Returned). task.first)
 
   number_some : (name : Object) → All (λ (call : Call). 0 < call.by) (history name)
@@ -132,11 +132,11 @@ module _ (s : Scenario) (plain : Plain) (names : List Object) (history : Object 
       All-weaker (Contains task.log) HasTicket
       (λ call within. All-contains HasTicket (history (object_of call.asked)) call
       (told_drew (object_of call.asked) (unasked (opened_at plain (object_of call.asked))) (left (object_of call.asked)) (history (object_of call.asked)) (c.things (object_of call.asked)))
-      (kept (setup s) plain names history left tasks pass c place task at call within)) task.log (All-contains_itself task.log)
+      (kept (setup_in s) plain names history left tasks pass c place task at call within)) task.log (All-contains_itself task.log)
 
   pub log_rises : (place : ℕ) (task : Returned) → slice_get tasks place ≡ Some task → RiseFrom 0 (ticketed_events task.log)
   log_rises place task at =
-      let l = (logged (setup s) plain names history left tasks pass c place task at).0 in rises_events 0 l.end task.log l.rises (log_drew place task at)
+      let l = (logged (setup_in s) plain names history left tasks pass c place task at).0 in rises_events 0 l.end task.log l.rises (log_drew place task at)
 
   -- what a task did, by tickets
   pub done_at : (place : ℕ) (task : Returned) → slice_get tasks place ≡ Some task → done_by place (event_histories names history) ≡ ticketed_events task.log
@@ -150,7 +150,7 @@ module _ (s : Scenario) (plain : Plain) (names : List Object) (history : Object 
 
   -- the keeper starts no more rounds than there are
   at_task : (place : ℕ) (task : Returned) → slice_get tasks place ≡ Some task
-      → length (filter (is_by place) (filter (λ (n : Ticketed). is_next_round n.entry.asked) (ticketed_events (history OfTally)))) ≤ starts_left (get_or (opened.tasks s) place no_task)
+      → length (filter (is_by place) (filter (λ (n : Ticketed). is_next_round n.entry.asked) (ticketed_events (history OfTally)))) ≤ starts_left (get_or (opened.opened_tasks s) place no_task)
   at_task place task at =
       let p = λ (n : Ticketed). is_next_round n.entry.asked in
       let events = ticketed_events task.log in
@@ -162,7 +162,7 @@ module _ (s : Scenario) (plain : Plain) (names : List Object) (history : Object 
       let entries : length (filter (λ (e : Entry). is_next_round e.asked) (without_tickets events)) ≡ length (filter p events) =
       ap (λ (l : List Entry). length l) (entries_filter (λ (e : Entry). is_next_round e.asked) events) ∙ length-map (filter p events) (λ (n : Ticketed). n.entry) in
       let w = walked place task at in
-      let most = task_starts (setup s) (without_tickets events) task.first w.now
+      let most = task_starts (setup_in s) (without_tickets events) task.first w.now
       (All-map (λ (e : Entry). IsTrue (is_event e.asked e.reply)) (λ (n : Ticketed). n.entry) events
       (All-map (λ (n : Ticketed). IsTrue (is_event n.entry.asked n.entry.reply)) drawn_entry (events_in task.log) (filter_passes is_told task.log))) w.leads in
       let first = ap starts_left (first_is place task at) in
@@ -175,18 +175,18 @@ module _ (s : Scenario) (plain : Plain) (names : List Object) (history : Object 
       let events = ticketed_events (history OfTally) in
       let told = tally_starts (history OfTally) (unasked (opened_at plain OfTally)) (left OfTally) (c.things OfTally) in
       let split = by_places (length tasks) (filter p events) (All-filter p (λ (x : Ticketed). x.entry.place < length tasks) events (placed OfTally)) in
-      let most = total_most (λ k. length (filter (is_by k) (filter p events))) (λ k. starts_left (get_or (opened.tasks s) k no_task)) (length tasks) each in
-      let list = total_list starts_left no_task (opened.tasks s) in
-      let same = ap (sum_of_places (λ k. starts_left (get_or (opened.tasks s) k no_task))) long in
+      let most = total_most (λ k. length (filter (is_by k) (filter p events))) (λ k. starts_left (get_or (opened.opened_tasks s) k no_task)) (length tasks) each in
+      let list = total_list starts_left no_task (opened.opened_tasks s) in
+      let same = ap (sum_of_places (λ k. starts_left (get_or (opened.opened_tasks s) k no_task))) long in
       let all = tasks_start s in
       omega (arith, told, split, most, list, same, all)
     where
       each : (k : ℕ) → k < length tasks
-          → length (filter (is_by k) (filter (λ (n : Ticketed). is_next_round n.entry.asked) (ticketed_events (history OfTally)))) ≤ starts_left (get_or (opened.tasks s) k no_task)
+          → length (filter (is_by k) (filter (λ (n : Ticketed). is_next_round n.entry.asked) (ticketed_events (history OfTally)))) ≤ starts_left (get_or (opened.opened_tasks s) k no_task)
       each k lt = by_two (slice_get_cases tasks k).1
         where
           by_two : ((x : Returned) × (k < length tasks) × (slice_get tasks k ≡ Some x) × (get_or tasks k x ≡ x)) ⊎ ((length tasks ≤ k) × (slice_get tasks k ≡ None))
-              → length (filter (is_by k) (filter (λ (n : Ticketed). is_next_round n.entry.asked) (ticketed_events (history OfTally)))) ≤ starts_left (get_or (opened.tasks s) k no_task)
+              → length (filter (is_by k) (filter (λ (n : Ticketed). is_next_round n.entry.asked) (ticketed_events (history OfTally)))) ≤ starts_left (get_or (opened.opened_tasks s) k no_task)
           by_two (inl (task, less, at, same)) = at_task k task at
           by_two (inr (le, none)) = absurd (omega (arith, lt, le))
 
@@ -202,8 +202,8 @@ module _ (s : Scenario) (plain : Plain) (names : List Object) (history : Object 
       name : Object
       name = object_of call.asked
 
-      p : IsInPlace (setup s) plain names history left tasks pass c (object_of call.asked) call
-      p = in_place (setup s) plain names history left tasks pass c (object_of call.asked) call (kept (setup s) plain names history left tasks pass c place task at call within)
+      p : IsInPlace (setup_in s) plain names history left tasks pass c (object_of call.asked) call
+      p = in_place (setup_in s) plain names history left tasks pass c (object_of call.asked) call (kept (setup_in s) plain names history left tasks pass c place task at call within)
 
       untold : is_told call ≡ false
       untold = (kinds call glance).0
@@ -217,17 +217,17 @@ module _ (s : Scenario) (plain : Plain) (names : List Object) (history : Object 
   one_more : (place : ℕ) (task : Returned) → slice_get tasks place ≡ Some task
       → length (ticket_numbers (drawn_of task)) ≤ length (filter (is_by place) (all_of (event_histories names history))) + 1
   one_more place task at =
-      let tickets = ap (λ (l : List ℕ). length l) (drew_of (setup s) plain names history left tasks pass c place task at) in
-      let few = few_tickets (setup s) [] task.first task.log task.task (ask_some s plain names history left tasks pass c place task at)
-      (All-weaker (Contains task.log) GlanceNone (glance_none place task at) task.log (All-contains_itself task.log)) (logged (setup s) plain names history left tasks pass c place task at).0.leads in
+      let tickets = ap (λ (l : List ℕ). length l) (drew_of (setup_in s) plain names history left tasks pass c place task at) in
+      let few = few_tickets (setup_in s) [] task.first task.log task.task (ask_some s plain names history left tasks pass c place task at)
+      (All-weaker (Contains task.log) GlanceNone (glance_none place task at) task.log (All-contains_itself task.log)) (logged (setup_in s) plain names history left tasks pass c place task at).0.leads in
       let events = length-map (events_in task.log) drawn_entry in
       let done = ap (λ (l : List Ticketed). length l) (done_at place task at) in
       let order = sorted_length (filter (is_by place) (all_of (event_histories names history))) in
       omega (arith, tickets, few, events, done, order)
 
-  pub few_drawn : length (ticket_numbers pass.drawn) ≤ length (all_of (event_histories names history)) + length (opened.tasks s)
+  pub few_drawn : length (ticket_numbers pass.drawn) ≤ length (all_of (event_histories names history)) + length (opened.opened_tasks s)
   few_drawn =
-      let all = ap (λ (l : List ℕ). length l) (numbers_is (setup s) plain names history left tasks pass c) ∙ length-flat_map (λ (task : Returned). ticket_numbers (drawn_of task)) tasks in
+      let all = ap (λ (l : List ℕ). length l) (numbers_is (setup_in s) plain names history left tasks pass c) ∙ length-flat_map (λ (task : Returned). ticket_numbers (drawn_of task)) tasks in
       let most = sum_most (λ (task : Returned). length (ticket_numbers (drawn_of task))) (λ place. length (filter (is_by place) (all_of (event_histories names history)))) tasks one_more in
       let split = by_places (length tasks) (all_of (event_histories names history)) (all_placed names) in
       let same = long in

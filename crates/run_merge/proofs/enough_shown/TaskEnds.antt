@@ -8,7 +8,7 @@ use Rattle.std.proofs.lemmas.List.Elements.{All-weaker, All-contains, All-contai
 use Rattle.elem_ledger.specs.Ledger.{LedgerId}
 use Rattle.tick_clock.specs.Tickets.{PassState, ticket_numbers}
 use Rattle.run_machine.specs.Laws.{Object, object_of}
-use Rattle.run_machine.specs.Opened.{Scenario, setup, start}
+use Rattle.run_machine.specs.Opened.{Scenario, setup_in, start}
 use Rattle.run_machine.specs.Requests.{Reply, LookLeft, NoTicket}
 use Rattle.run_machine.specs.Tasks.{TaskState, look_of}
 use Rattle.task_core.specs.declared.plain.Plain.{Plain}
@@ -34,7 +34,7 @@ use Rattle.run_merge.proofs.enough_shown.NoTicketCalls.{found_none, none_served,
 use Rattle.run_merge.proofs.enough_shown.LogLeads.{IsStopped}
 
 module _ (s : Scenario) (plain : Plain) (names : List Object) (history : Object → List Call) (left : (name : Object) → ThingState (ThingAt name)) (tasks : List Returned)
-    (pass : PassState) (c : ClosesAs (setup s) plain names history left tasks pass) (ledger : ℕ → LedgerId)
+    (pass : PassState) (c : ClosesAs (setup_in s) plain names history left tasks pass) (ledger : ℕ → LedgerId)
     (begins : (name : Object) → get (start s).objects name ≡ seen_at name (opened_at plain name))
     (ready : (name : Object) → IsReady ledger name (opened_at plain name) (drawn_in (history name)))
     (found : All (λ (task : Returned). found_by task.desk.pass ≤ pass.known) tasks) where
@@ -42,18 +42,18 @@ module _ (s : Scenario) (plain : Plain) (names : List Object) (history : Object 
   pub said_last : (name : Object) (call : Call) → Contains (history name) call → is_spent call.told.reply ≡ true → HasLast (ticket_numbers pass.drawn)
   said_last name call there spent = by_ticket call.told.drawn refl p.answers.step
     where
-      p : IsInPlace (setup s) plain names history left tasks pass c name call
-      p = in_place (setup s) plain names history left tasks pass c name call there
+      p : IsInPlace (setup_in s) plain names history left tasks pass c name call
+      p = in_place (setup_in s) plain names history left tasks pass c name call there
 
       spent_is : (reply : Reply) → is_spent reply ≡ true → reply ≡ NoTicket
       spent_is NoTicket is = refl
       spent_is reply is = absurd (true≢false (sym is))
 
       by_object : (b : Bool) → p.here.spent ≡ b → call.told.drawn ≡ None → HasLast (ticket_numbers pass.drawn)
-      by_object false had none = last_drawn (setup s) plain names history left tasks pass c found name call there (spent, p.answers.drew ∙ ap not had, none)
+      by_object false had none = last_drawn (setup_in s) plain names history left tasks pass c found name call there (spent, p.answers.drew ∙ ap not had, none)
       by_object true had none =
           let f = found_none name (unasked (opened_at plain name)) p.here p.before p.leads refl had in
-          last_drawn (setup s) plain names history left tasks pass c found name f.0 (subst (λ l. Contains l f.0) (sym p.is) (Contains-append_left p.before (call ∷ p.after) f.0 f.1)) f.2
+          last_drawn (setup_in s) plain names history left tasks pass c found name f.0 (subst (λ l. Contains l f.0) (sym p.is) (Contains-append_left p.before (call ∷ p.after) f.0 f.1)) f.2
 
       by_ticket : (ticket : Option ℕ) → call.told.drawn ≡ ticket → StepOf (serves_at name) (looks_at name) p.here call.asked call.told.reply ticket p.next → HasLast (ticket_numbers pass.drawn)
       by_ticket (Some n) t step =
@@ -63,26 +63,26 @@ module _ (s : Scenario) (plain : Plain) (names : List Object) (history : Object 
   pub object_last : (name : Object) → (left name).spent ≡ true → HasLast (ticket_numbers pass.drawn)
   object_last name spent =
       let f = found_none name (unasked (opened_at plain name)) (left name) (history name) (c.things name) refl spent in
-      last_drawn (setup s) plain names history left tasks pass c found name f.0 f.1 f.2
+      last_drawn (setup_in s) plain names history left tasks pass c found name f.0 f.1 f.2
 
   -- each event of a log has a ticket
   pub log_drew : (place : ℕ) (task : Returned) → slice_get tasks place ≡ Some task → (call : Call) → Contains task.log call → HasTicket call
   log_drew place task at call within =
       let name = object_of call.asked in
       All-contains HasTicket (history name) call (told_drew name (unasked (opened_at plain name)) (left name) (history name) (c.things name))
-      (kept (setup s) plain names history left tasks pass c place task at call within)
+      (kept (setup_in s) plain names history left tasks pass c place task at call within)
 
   module _ (place : ℕ) (task : Returned) (at : slice_get tasks place ≡ Some task) (done : done_by place (event_histories names history) ≡ ticketed_events task.log)
       (now : TaskState) where
-    module _ (st : IsStopped (setup s) [] task.log now task.task) where
+    module _ (st : IsStopped (setup_in s) [] task.log now task.task) where
       inside : Contains task.log st.call
       inside = subst (λ l. Contains l st.call) (sym st.log_is) (Contains-append_right st.here (st.call ∷ st.later) st.call (first_there st.call st.later))
 
       there : Contains (history (object_of st.call.asked)) st.call
-      there = kept (setup s) plain names history left tasks pass c place task at st.call inside
+      there = kept (setup_in s) plain names history left tasks pass c place task at st.call inside
 
-      p : IsInPlace (setup s) plain names history left tasks pass c (object_of st.call.asked) st.call
-      p = in_place (setup s) plain names history left tasks pass c (object_of st.call.asked) st.call there
+      p : IsInPlace (setup_in s) plain names history left tasks pass c (object_of st.call.asked) st.call
+      p = in_place (setup_in s) plain names history left tasks pass c (object_of st.call.asked) st.call there
 
       refused : (n : ℕ) → st.call.told.drawn ≡ Some n
           → WasRefused s ledger (event_histories names history) place now task.task
@@ -143,7 +143,7 @@ module _ (s : Scenario) (plain : Plain) (names : List Object) (history : Object 
 
           mine_few : All (λ (x : Ticketed). x.ticket < n) (ticketed_events task.log)
           mine_few =
-              let l = (logged (setup s) plain names history left tasks pass c place task at).0 in
+              let l = (logged (setup_in s) plain names history left tasks pass c place task at).0 in
               let parts = rises_parts 0 l.end st.here (st.call ∷ st.later) (subst (λ log. TicketsRise 0 log l.end) st.log_is l.rises) in
               let lt : parts.0 < n = subst (IsNextTicket parts.0) ticket parts.2.0 in
               let events : ticketed_events task.log ≡ ticketed_events st.here =
@@ -164,17 +164,17 @@ module _ (s : Scenario) (plain : Plain) (names : List Object) (history : Object 
               inr (said_last (object_of st.call.asked) st.call there (stop_spent (object_of st.call.asked) p.here p.next st.call.asked st.call.told.reply step.0 st.stop))
 
     -- it has nothing to ask for, or saw no unfinished write
-    through : HasStopped (setup s) task.log now → IsThrough s ledger (event_histories names history) now
+    through : HasStopped (setup_in s) task.log now → IsThrough s ledger (event_histories names history) now
     through (inl rests) = inl rests
     through (inr (call, within, asks, says)) =
         inr (seen.was, sym (subst (λ r. TallyMachine seen.was.shown LookLeft r seen.was.shown) says (subst (λ a. TallyMachine seen.was.shown a call.told.reply seen.was.shown) asks seen.serves)).0)
       where
         seen : IsSeen s plain names history left tasks pass c ledger begins ready call
         seen = seen_then s plain names history left tasks pass c ledger begins ready call LookLeft asks left_look
-            (subst (λ a. Contains (history (object_of a)) call) asks (kept (setup s) plain names history left tasks pass c place task at call within))
+            (subst (λ a. Contains (history (object_of a)) call) asks (kept (setup_in s) plain names history left tasks pass c place task at call within))
 
-    pub comes_to : (task.task ≡ now) ⊎ IsStopped (setup s) [] task.log now task.task
+    pub comes_to : (task.task ≡ now) ⊎ IsStopped (setup_in s) [] task.log now task.task
         → ((task.task ≡ now) × IsThrough s ledger (event_histories names history) now)
         ⊎ (WasRefused s ledger (event_histories names history) place now task.task ⊎ HasLast (ticket_numbers pass.drawn))
-    comes_to (inl is) = inl (is, through (subst (HasStopped (setup s) task.log) is (logged (setup s) plain names history left tasks pass c place task at).1))
+    comes_to (inl is) = inl (is, through (subst (HasStopped (setup_in s) task.log) is (logged (setup_in s) plain names history left tasks pass c place task at).1))
     comes_to (inr st) = inr (stopped st)

@@ -14,7 +14,7 @@ use Rattle.stack_base.specs.Stack.{IsStack}
 use Rattle.stack_base.specs.Tree.{Tree, over, over_shape, tree}
 use Rattle.stack_base.proofs.Unfolded.{tree_is}
 use Rattle.run_machine.specs.Named as kinds
-use Rattle.run_machine.specs.Opened.{at}
+use Rattle.run_machine.specs.Opened.{device_at}
 use Rattle.run_machine.specs.Scene.{is_device, is_disk, has_set, is_mirror, keeps_data}
 use Rattle.task_core.specs.Leaving.{disk_at, disks_from, falling_from, pools_at}
 use Rattle.task_core.proofs.opened.Filling.{filter_more}
@@ -75,7 +75,7 @@ module _ (r : Routing) (n : ℕ) (past : length r.stack.devices.items ≤ n) whe
 -- the disks of devices are those that tests find
 pub disks_found : (is : ℕ → Bool) (n : ℕ) (devices : List Device)
     → ((i : ℕ) (device : Device) → slice_get devices i ≡ Some device → is (n + i) ≡ kinds.is_disk_kind device.kind)
-    → disks_from n devices ≡ map at (filter is (range_with_len n (length devices)))
+    → disks_from n devices ≡ map device_at (filter is (range_with_len n (length devices)))
 unfolding disks_from
 disks_found is n [] each = refl
 disks_found is n (device ∷ more) each =
@@ -88,11 +88,11 @@ disks_found is n (device ∷ more) each =
     rest : List ℕ
     rest = filter is (range_with_len (n + 1) (length more))
 
-    with_test : (b c : Bool) → b ≡ c → {ds : List DevId} → ds ≡ map at (cond c (n ∷ rest) rest) → ds ≡ map at (cond b (n ∷ rest) rest)
-    with_test b c is {ds} alike = subst (λ (b : Bool). ds ≡ map at (cond b (n ∷ rest) rest)) (sym is) alike
+    with_test : (b c : Bool) → b ≡ c → {ds : List DevId} → ds ≡ map device_at (cond c (n ∷ rest) rest) → ds ≡ map device_at (cond b (n ∷ rest) rest)
+    with_test b c is {ds} alike = subst (λ (b : Bool). ds ≡ map device_at (cond b (n ∷ rest) rest)) (sym is) alike
 
-    by_kind : (k : Kind) (b : Bool) → b ≡ kinds.is_disk_kind k → disks_from (n + 1) more ≡ map at rest → disk_at n k ++ disks_from (n + 1) more ≡ map at (cond b (n ∷ rest) rest)
-    by_kind (kind.Disk sectors bad) b is rests = with_test b true is (ap (λ ds. at n ∷ ds) rests)
+    by_kind : (k : Kind) (b : Bool) → b ≡ kinds.is_disk_kind k → disks_from (n + 1) more ≡ map device_at rest → disk_at n k ++ disks_from (n + 1) more ≡ map device_at (cond b (n ∷ rest) rest)
+    by_kind (kind.Disk sectors bad) b is rests = with_test b true is (ap (λ ds. device_at n ∷ ds) rests)
     by_kind kind.Linear b is rests = with_test b false is rests
     by_kind (kind.Stripe chunk) b is rests = with_test b false is rests
     by_kind (kind.Zoned chunk) b is rests = with_test b false is rests
@@ -131,15 +131,15 @@ module _ {A : Type 0} (has : ℕ → Bool) (entry : ℕ → A) where
 module _ (pools : DevicePools) where
   -- one device more
   by_kind : (n : ℕ) (k : Kind) (set mirror : Bool) → set ≡ kinds.is_stacked_kind k → mirror ≡ kinds.is_mirror_kind k
-      → cond mirror (with_facts pools (Records (at n)) ∷ []) [] ++ (cond set (with_facts pools (Bios (at n)) ∷ []) [] ++ falling_below pools n)
+      → cond mirror (with_facts pools (Records (device_at n)) ∷ []) [] ++ (cond set (with_facts pools (Bios (device_at n)) ∷ []) [] ++ falling_below pools n)
       ≡ map (with_facts pools) (pools_at n k) ++ falling_below pools n
   by_kind n k set mirror set_is mirror_is =
-      ap (λ b. cond mirror (with_facts pools (Records (at n)) ∷ []) [] ++ (cond b (with_facts pools (Bios (at n)) ∷ []) [] ++ falling_below pools n)) set_is
-      ∙ ap (λ b. cond b (with_facts pools (Records (at n)) ∷ []) [] ++ (cond (kinds.is_stacked_kind k) (with_facts pools (Bios (at n)) ∷ []) [] ++ falling_below pools n)) mirror_is
+      ap (λ b. cond mirror (with_facts pools (Records (device_at n)) ∷ []) [] ++ (cond b (with_facts pools (Bios (device_at n)) ∷ []) [] ++ falling_below pools n)) set_is
+      ∙ ap (λ b. cond b (with_facts pools (Records (device_at n)) ∷ []) [] ++ (cond (kinds.is_stacked_kind k) (with_facts pools (Bios (device_at n)) ∷ []) [] ++ falling_below pools n)) mirror_is
       ∙ of_kind k
     where
-      of_kind : (k : Kind) → cond (kinds.is_mirror_kind k) (with_facts pools (Records (at n)) ∷ []) []
-          ++ (cond (kinds.is_stacked_kind k) (with_facts pools (Bios (at n)) ∷ []) [] ++ falling_below pools n) ≡ map (with_facts pools) (pools_at n k) ++ falling_below pools n
+      of_kind : (k : Kind) → cond (kinds.is_mirror_kind k) (with_facts pools (Records (device_at n)) ∷ []) []
+          ++ (cond (kinds.is_stacked_kind k) (with_facts pools (Bios (device_at n)) ∷ []) [] ++ falling_below pools n) ≡ map (with_facts pools) (pools_at n k) ++ falling_below pools n
       of_kind (kind.Disk sectors bad) = refl
       of_kind kind.Linear = refl
       of_kind (kind.Stripe chunk) = refl
@@ -190,6 +190,6 @@ module _ (pools : DevicePools) where
     where
       by_two : (n ≤ k) ⊎ (n ≡ suc k) → (n ≤ k → falling_below pools k ≡ falling_below pools n) → falling_below pools (suc k) ≡ falling_below pools n
       by_two (inl less) rest =
-          ap (λ b. at_number pools.is_mirror (λ n. with_facts pools (Records (at n))) k ++ (cond b (with_facts pools (Bios (at k)) ∷ []) [] ++ falling_below pools k)) (none k less).0
-          ∙ ap (λ b. cond b (with_facts pools (Records (at k)) ∷ []) [] ++ falling_below pools k) (none k less).1 ∙ rest less
+          ap (λ b. at_number pools.is_mirror (λ n. with_facts pools (Records (device_at n))) k ++ (cond b (with_facts pools (Bios (device_at k)) ∷ []) [] ++ falling_below pools k)) (none k less).0
+          ∙ ap (λ b. cond b (with_facts pools (Records (device_at k)) ∷ []) [] ++ falling_below pools k) (none k less).1 ∙ rest less
       by_two (inr last) rest = ap (falling_below pools) (sym last)

@@ -5,7 +5,7 @@ use Rattle.std.proofs.lemmas.List.{length-map}
 use Rattle.std.proofs.lemmas.List.Sums.{sum_by-cons}
 use Rattle.tick_clock.specs.Tickets.{PassState}
 use Rattle.run_machine.specs.Laws.{Object}
-use Rattle.run_machine.specs.Opened.{Scenario, setup}
+use Rattle.run_machine.specs.Opened.{Scenario, setup_in}
 use Rattle.run_machine.specs.Opened as opened
 use Rattle.task_core.specs.declared.plain.Plain.{Plain}
 use Rattle.object_things.specs.Histories.{Call}
@@ -31,7 +31,7 @@ total_same f g (x ∷ xs) each =
     omega (arith, here, rest, more)
 
 module _ (s : Scenario) (plain : Plain) (names : List Object) (history : Object → List Call) (left : (name : Object) → ThingState (ThingAt name)) (tasks : List Returned)
-    (pass : PassState) (c : ClosesAs (setup s) plain names history left tasks pass) (firsts : map (λ (task : Returned). task.first) tasks ≡ opened.tasks s) where
+    (pass : PassState) (c : ClosesAs (setup_in s) plain names history left tasks pass) (firsts : map (λ (task : Returned). task.first) tasks ≡ opened.opened_tasks s) where
   one_task : (place : ℕ) (task : Returned) → slice_get tasks place ≡ Some task
       → length (events_in task.log) ≡ length (filter (is_by place) (all_of (event_histories names history)))
   one_task place task at =

@@ -13,7 +13,7 @@ use Rattle.stack_base.specs.declared.ids.SetId.{SetId}
 use Rattle.stack_base.specs.declared.ids.SetId.TheVariants.{Fs, Of}
 use Rattle.stack_base.proofs.ListLemmas.{first_or, behind_first}
 use Rattle.mempool_core.specs.declared.Facts.{Facts}
-use Rattle.run_machine.specs.Opened.{at}
+use Rattle.run_machine.specs.Opened.{device_at}
 use Rattle.run_merge.specs.Falling.{DevicePools, row_of, at_number, below, sets_below, records_below, with_facts, falling_below, MovesLast, MovesIf}
 
 -- a list is empty or has a last element
@@ -90,14 +90,14 @@ module _ {K X : Type 0} (facts : X → Facts) (has : ℕ → Bool) (key : ℕ �
         by_test false is (inl (move, keyed)) = absurd (not_there (is ∙ append-nil (below has entry n)) move keyed)
         by_test false is (inr (none, same, stays)) = (ap (row_of facts) same ∙ is ∙ append-nil (below has entry n), stays ∙ sym (append-nil before))
 
-sets_apart : (m n : ℕ) → Of (at m) ≡ Of (at n) → m ≡ n
+sets_apart : (m n : ℕ) → Of (device_at m) ≡ Of (device_at n) → m ≡ n
 sets_apart m n is = ap number is
   where
     number : SetId → ℕ
     number Fs = 0
     number (Of dev) = dev.0
 
-devices_apart : (m n : ℕ) → at m ≡ at n → m ≡ n
+devices_apart : (m n : ℕ) → device_at m ≡ device_at n → m ≡ n
 devices_apart m n is = ap (λ (dev : DevId). dev.0) is
 
 -- all pools of the devices from a number on are behind others, and those below it are still in their rows
@@ -117,20 +117,20 @@ module _ {X Y : Type 0} (bio_facts : X → Facts) (record_facts : Y → Facts) (
   none_reached pools sets slips = record { sets = sets; slips = slips; added = refl }
 
   pub one_reached : (n m : ℕ) → m ≡ n + 1 → (bios_left bios_new : List (SetId × X)) (records_left records_new : List (DevId × Y)) (now between new : List (PoolId × Facts))
-      → Reaches m bios_left records_left now → MovesIf record_facts (at n) (Records (at n)) records_left now records_new between
-      → MovesIf bio_facts (Of (at n)) (Bios (at n)) bios_left between bios_new new → Reaches n bios_new records_new new
+      → Reaches m bios_left records_left now → MovesIf record_facts (device_at n) (Records (device_at n)) records_left now records_new between
+      → MovesIf bio_facts (Of (device_at n)) (Bios (device_at n)) bios_left between bios_new new → Reaches n bios_new records_new new
   unfolding falling_below
   one_reached n m next bios_left bios_new records_left records_new now between new reaches record_moves bio_moves pools sets slips =
       let was = subst (λ k. AreReached pools k bios_left records_left now) is_next (reaches pools sets slips) in
-      let records_are = one_step record_facts pools.is_mirror at (λ k. pools.facts (Records (at k))) (λ k. Records (at k)) devices_apart n records_left records_new now between was.slips record_moves in
-      let bios_are = one_step bio_facts pools.has_set (λ k. Of (at k)) (λ k. pools.facts (Bios (at k))) (λ k. Bios (at k)) sets_apart n bios_left bios_new between new was.sets bio_moves in
+      let records_are = one_step record_facts pools.is_mirror device_at (λ k. pools.facts (Records (device_at k))) (λ k. Records (device_at k)) devices_apart n records_left records_new now between was.slips record_moves in
+      let bios_are = one_step bio_facts pools.has_set (λ k. Of (device_at k)) (λ k. pools.facts (Bios (device_at k))) (λ k. Bios (device_at k)) sets_apart n bios_left bios_new between new was.sets bio_moves in
       record {
         sets = bios_are.0;
         slips = records_are.0;
-        added = ap (λ l. l ++ falling_below pools n) (bios_are.1 ∙ ap (λ l. l ++ at_number pools.has_set (λ k. with_facts pools (Bios (at k))) n) records_are.1)
-            ∙ append_assoc (now ++ at_number pools.is_mirror (λ k. with_facts pools (Records (at k))) n) (at_number pools.has_set (λ k. with_facts pools (Bios (at k))) n) (falling_below pools n)
-            ∙ append_assoc now (at_number pools.is_mirror (λ k. with_facts pools (Records (at k))) n)
-            (at_number pools.has_set (λ k. with_facts pools (Bios (at k))) n ++ falling_below pools n)
+        added = ap (λ l. l ++ falling_below pools n) (bios_are.1 ∙ ap (λ l. l ++ at_number pools.has_set (λ k. with_facts pools (Bios (device_at k))) n) records_are.1)
+            ∙ append_assoc (now ++ at_number pools.is_mirror (λ k. with_facts pools (Records (device_at k))) n) (at_number pools.has_set (λ k. with_facts pools (Bios (device_at k))) n) (falling_below pools n)
+            ∙ append_assoc now (at_number pools.is_mirror (λ k. with_facts pools (Records (device_at k))) n)
+            (at_number pools.has_set (λ k. with_facts pools (Bios (device_at k))) n ++ falling_below pools n)
             ∙ was.added;
       }
     where

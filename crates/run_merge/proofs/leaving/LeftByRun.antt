@@ -15,7 +15,7 @@ use Rattle.stack_base.specs.PoolId.{pool_number}
 use Rattle.stack_base.specs.Stack.{IsStack}
 use Rattle.mempool_core.specs.declared.Facts.{Facts}
 use Rattle.mempool_core.specs.Pool.{LedgerPool}
-use Rattle.run_machine.specs.Opened.{at, opened_disk}
+use Rattle.run_machine.specs.Opened.{device_at, opened_disk}
 use Rattle.run_machine.specs.Named as kinds
 use Rattle.run_machine.specs.Scene.{has_set, is_disk}
 use Rattle.task_core.specs.Leaving.{disks_of, falling_from, falling_pools}
@@ -49,15 +49,15 @@ module _ (all : DevicePools) where
   unfolding falling_below below
   fall_length zero = refl
   fall_length (suc n) =
-      let mirrors = at_number all.is_mirror (λ n. with_facts all (Records (at n))) n in
-      let sets = at_number all.has_set (λ n. with_facts all (Bios (at n))) n in
+      let mirrors = at_number all.is_mirror (λ n. with_facts all (Records (device_at n))) n in
+      let sets = at_number all.has_set (λ n. with_facts all (Bios (device_at n))) n in
       let a = length-append mirrors (sets ++ falling_below all n) in
       let b = length-append sets (falling_below all n) in
-      let c = length-append (sets_below all n) (at_number all.has_set (λ number. (Of (at number), all.facts (Bios (at number)))) n) in
-      let d = length-append (records_below all n) (at_number all.is_mirror (λ number. (at number, all.facts (Records (at number)))) n) in
+      let c = length-append (sets_below all n) (at_number all.has_set (λ number. (Of (device_at number), all.facts (Bios (device_at number)))) n) in
+      let d = length-append (records_below all n) (at_number all.is_mirror (λ number. (device_at number, all.facts (Records (device_at number)))) n) in
       let rest = fall_length n in
-      let one = one_length {C = SetId × Facts} {D = DevId × Facts} (all.is_mirror n) (all.has_set n) (with_facts all (Records (at n))) (with_facts all (Bios (at n)))
-      (Of (at n), all.facts (Bios (at n))) (at n, all.facts (Records (at n))) (length (records_below all n)) (length (sets_below all n)) in
+      let one = one_length {C = SetId × Facts} {D = DevId × Facts} (all.is_mirror n) (all.has_set n) (with_facts all (Records (device_at n))) (with_facts all (Bios (device_at n)))
+      (Of (device_at n), all.facts (Bios (device_at n))) (device_at n, all.facts (Records (device_at n))) (length (records_below all n)) (length (sets_below all n)) in
       omega (arith, a, b, c, d, rest, one)
 
 module _ (closed : Closed) (has : HasClosed closed) where
@@ -87,15 +87,15 @@ module _ (closed : Closed) (has : HasClosed closed) where
   small : (is : ℕ → Bool) → All (λ n. n < 32) (filter is (range_with_len 0 count))
   small is = All-filter is (λ n. n < 32) (range_with_len 0 count) (all_small 0 count 32 (let le = few in omega (arith, le)))
 
-  sets_are : sets_below pools_in 32 ≡ map (λ n. (Of (at n), pools_in.facts (Bios (at n)))) (filter (has_set (routing_setup routing)) (range_with_len 0 count))
+  sets_are : sets_below pools_in 32 ≡ map (λ n. (Of (device_at n), pools_in.facts (Bios (device_at n)))) (filter (has_set (routing_setup routing)) (range_with_len 0 count))
   sets_are =
-      below_past (has_set (routing_setup routing)) (λ n. (Of (at n), pools_in.facts (Bios (at n)))) count 32 (λ m past. no_set routing m past) few
-      ∙ below_is (has_set (routing_setup routing)) (λ n. (Of (at n), pools_in.facts (Bios (at n)))) count
+      below_past (has_set (routing_setup routing)) (λ n. (Of (device_at n), pools_in.facts (Bios (device_at n)))) count 32 (λ m past. no_set routing m past) few
+      ∙ below_is (has_set (routing_setup routing)) (λ n. (Of (device_at n), pools_in.facts (Bios (device_at n)))) count
 
-  records_are : records_below pools_in 32 ≡ map (λ n. (at n, pools_in.facts (Records (at n)))) (filter (has_mirror_in routing) (range_with_len 0 count))
+  records_are : records_below pools_in 32 ≡ map (λ n. (device_at n, pools_in.facts (Records (device_at n)))) (filter (has_mirror_in routing) (range_with_len 0 count))
   records_are =
-      below_past (has_mirror_in routing) (λ n. (at n, pools_in.facts (Records (at n)))) count 32 (λ m past. no_records routing m past) few
-      ∙ below_is (has_mirror_in routing) (λ n. (at n, pools_in.facts (Records (at n)))) count
+      below_past (has_mirror_in routing) (λ n. (device_at n, pools_in.facts (Records (device_at n)))) count 32 (λ m past. no_records routing m past) few
+      ∙ below_is (has_mirror_in routing) (λ n. (device_at n, pools_in.facts (Records (device_at n)))) count
 
   -- what was found of each pool
   abbrev vecs_left : ThingState LedgerPool
@@ -108,22 +108,22 @@ module _ (closed : Closed) (has : HasClosed closed) where
   slips_left = look_up (λ entry. slip_key entry.0) (λ entry. thing_of entry.1.thing) (λ n. unasked (no_pool plain.stage.value.stack plain.vecs.ledger n)) closed.records.items
 
   abbrev set_found : ℕ → SetId × Facts
-  set_found n = (Of (at n), (sets_left (2 * n)).object.state.facts)
+  set_found n = (Of (device_at n), (sets_left (2 * n)).object.state.facts)
 
   abbrev set_named : ℕ → SetId × Facts
-  set_named n = (Of (at n), pools_in.facts (Bios (at n)))
+  set_named n = (Of (device_at n), pools_in.facts (Bios (device_at n)))
 
   abbrev slips_found : ℕ → DevId × Facts
-  slips_found n = (at n, (slips_left (2 * n + 1)).object.state.facts)
+  slips_found n = (device_at n, (slips_left (2 * n + 1)).object.state.facts)
 
   abbrev slips_named : ℕ → DevId × Facts
-  slips_named n = (at n, pools_in.facts (Records (at n)))
+  slips_named n = (device_at n, pools_in.facts (Records (device_at n)))
 
   set_same : (n : ℕ) → n < 32 → set_found n ≡ set_named n
-  set_same n lt = ap {B = SetId × Facts} (λ (thing : ThingState LedgerPool). (Of (at n), thing.object.state.facts)) (sym (of_bios vecs_left sets_left slips_left n lt))
+  set_same n lt = ap {B = SetId × Facts} (λ (thing : ThingState LedgerPool). (Of (device_at n), thing.object.state.facts)) (sym (of_bios vecs_left sets_left slips_left n lt))
 
   slips_same : (n : ℕ) → n < 32 → slips_found n ≡ slips_named n
-  slips_same n lt = ap {B = DevId × Facts} (λ (thing : ThingState LedgerPool). (at n, thing.object.state.facts)) (sym (of_records vecs_left sets_left slips_left n lt))
+  slips_same n lt = ap {B = DevId × Facts} (λ (thing : ThingState LedgerPool). (device_at n, thing.object.state.facts)) (sym (of_records vecs_left sets_left slips_left n lt))
 
   -- the rows
   pub bios_row : row_of facts_left closed.bios.items ≡ (Fs, pools_in.facts FsBios) ∷ sets_below pools_in 32
@@ -200,7 +200,7 @@ module _ (closed : Closed) (has : HasClosed closed) where
       (all_disks routing (λ shut. shut.thing.object.dev.0) (λ shut. thing_of shut.thing) (λ n. unasked (opened_disk plain.stage.value.stack n)) closed.disks.items
       (has.order.disks ∙ has.opened.rows.disks.order))
       ∙ map-map _ _ (filter (is_disk (routing_setup routing)) (range_with_len 0 count))
-      ∙ sym (map-map (λ (dev : DevId). (state_in closed).objects.disk dev.0) at (filter (is_disk (routing_setup routing)) (range_with_len 0 count)))
+      ∙ sym (map-map (λ (dev : DevId). (state_in closed).objects.disk dev.0) device_at (filter (is_disk (routing_setup routing)) (range_with_len 0 count)))
       ∙ ap (map (λ (dev : DevId). (state_in closed).objects.disk dev.0)) (sym (disks_found (is_disk (routing_setup routing)) 0 routing.stack.devices.items each_disk))
       ∙ ap (λ (stack : Stack). map (λ (dev : DevId). (state_in closed).objects.disk dev.0) (disks_of stack)) has.opened.stack
 

@@ -6,7 +6,7 @@ use Rattle.std.proofs.lemmas.List.Elements.{All-weaker, filter-append}
 use Rattle.std.proofs.lemmas.Option.{IfSome_then, slice_get_cases, slice_get_within, get_or_from_slice_get}
 use Rattle.stack_base.specs.declared.ids.PoolId.TheVariants.{FsBios, FsVecs}
 use Rattle.run_machine.specs.Laws.{Object}
-use Rattle.run_machine.specs.Opened.{no_task, setup as setup_in}
+use Rattle.run_machine.specs.Opened.{no_task, setup_in}
 use Rattle.run_machine.specs.Opened as opened
 use Rattle.run_machine.specs.Runs.{State}
 use Rattle.run_machine.specs.Scene.{Setup}
@@ -85,7 +85,7 @@ module _ (closed : Closed) (has : HasClosed closed) where
       subst (λ setup. ClosesAs setup closed.told.value.objects (names_in closed) (history_in closed) (object_left_in closed closed.told.value.objects) has.returned closed.pass.value)
       has.opened.setup has.closes
 
-  firsts_in : map (λ (task : Returned). task.first) has.returned ≡ opened.tasks (shared_scenario closed)
+  firsts_in : map (λ (task : Returned). task.first) has.returned ≡ opened.opened_tasks (shared_scenario closed)
   firsts_in = has.firsts ∙ has.opened.tasks
 
   some_by : (name : Object) → All (λ (call : Call). 0 < call.by) (history_in closed name)

@@ -9,7 +9,7 @@ use Rattle.stack_base.specs.declared.ids.DevId.{DevId}
 use Rattle.stack_base.specs.declared.ids.SetId.{SetId}
 use Rattle.stack_base.specs.declared.ids.SetId.TheVariants.{Fs, Of}
 use Rattle.stack_base.proofs.ListLemmas.{first_or, behind_first}
-use Rattle.run_machine.specs.Opened.{at}
+use Rattle.run_machine.specs.Opened.{device_at}
 use Rattle.run_machine.specs.Scene.{has_set, is_disk}
 use Rattle.task_core.specs.Plains.{is_bios_number, by_kind}
 use Rattle.task_core.specs.Tables.{look_up}
@@ -28,9 +28,9 @@ twice_apart m n lt same = omega (arith, lt, same)
 odd_apart : (m n : ℕ) → m < n → 2 * m + 1 ≢ 2 * n + 1
 odd_apart m n lt same = omega (arith, lt, same)
 
-set_named : (set : SetId) (n : ℕ) → set_key set ≡ 2 * n → set ≡ Of (at n)
+set_named : (set : SetId) (n : ℕ) → set_key set ≡ 2 * n → set ≡ Of (device_at n)
 set_named Fs n is = absurd (omega (arith, is))
-set_named (Of dev) n is = ap (λ k. Of (at k)) same
+set_named (Of dev) n is = ap (λ k. Of (device_at k)) same
   where
     same : dev.0 ≡ n
     same = omega (arith, is)
@@ -39,8 +39,8 @@ first_named : (set : SetId) → set_key set ≡ 65 → set ≡ Fs
 first_named Fs is = refl
 first_named (Of dev) is = absurd (omega (arith, is))
 
-slip_named : (dev : DevId) (n : ℕ) → slip_key dev ≡ 2 * n + 1 → dev ≡ at n
-slip_named dev n is = ap at same
+slip_named : (dev : DevId) (n : ℕ) → slip_key dev ≡ 2 * n + 1 → dev ≡ device_at n
+slip_named dev n is = ap device_at same
   where
     same : dev.0 ≡ n
     same = omega (arith, is)
@@ -132,18 +132,18 @@ module _ (r : Routing) where
 
     -- the writers' set first, and then those of devices
     pub all_sets : {F : Type 0} (final : Y → F) → map {B = SetId × F} (λ (e : SetId × X). (e.0, final (value e.1))) row
-        ≡ (Fs, final (set_of 65)) ∷ map {B = SetId × F} (λ n. (Of (at n), final (set_of (2 * n)))) devices
+        ≡ (Fs, final (set_of 65)) ∷ map {B = SetId × F} (λ n. (Of (device_at n), final (set_of (2 * n)))) devices
     all_sets {F} final = by_row row keys_are values_are
       where
         by_row : (es : List (SetId × X)) → map (λ (e : SetId × X). set_key e.0) es ≡ 65 ∷ map (λ d. 2 * d) devices
             → map (λ (e : SetId × X). value e.1) es ≡ map set_of (65 ∷ map (λ d. 2 * d) devices)
             → map {B = SetId × F} (λ (e : SetId × X). (e.0, final (value e.1))) es
-            ≡ (Fs, final (set_of 65)) ∷ map {B = SetId × F} (λ n. (Of (at n), final (set_of (2 * n)))) devices
+            ≡ (Fs, final (set_of 65)) ∷ map {B = SetId × F} (λ n. (Of (device_at n), final (set_of (2 * n)))) devices
         by_row [] keyed valued = absurd (true≢false (sym (ap has_some keyed)))
         by_row (e ∷ es) keyed valued =
             let named = first_named e.0 (ap (first_or 65) keyed) in
             let is = ap final (ap (first_or (value e.1)) valued) in
-            let rest = pairs (λ (e : SetId × X). set_key e.0) (λ (e : SetId × X). e.0) (λ (e : SetId × X). final (value e.1)) (λ d. 2 * d) (λ n. Of (at n)) (λ n. final (set_of (2 * n)))
+            let rest = pairs (λ (e : SetId × X). set_key e.0) (λ (e : SetId × X). e.0) (λ (e : SetId × X). final (value e.1)) (λ d. 2 * d) (λ n. Of (device_at n)) (λ n. final (set_of (2 * n)))
             (λ e n is. set_named e.0 n is) es devices (ap behind_first keyed)
             (sym (map-map final (λ (e : SetId × X). value e.1) es) ∙ ap (λ l. map final (behind_first l)) valued
             ∙ map-map final set_of (map (λ d. 2 * d) devices) ∙ map-map (λ n. final (set_of n)) (λ d. 2 * d) devices) in
@@ -162,9 +162,9 @@ module _ (r : Routing) where
     records_apart = subst AreDistinct (sym keys) (numbers_apart (λ d. 2 * d + 1) odd_apart (has_mirror_in r) 0 count)
 
     pub all_records : {F : Type 0} (final : Y → F) → map {B = DevId × F} (λ (e : DevId × X). (e.0, final (value e.1))) row
-        ≡ map {B = DevId × F} (λ n. (at n, final (records_of (2 * n + 1)))) mirrors
+        ≡ map {B = DevId × F} (λ n. (device_at n, final (records_of (2 * n + 1)))) mirrors
     all_records {F} final =
-        pairs (λ (e : DevId × X). slip_key e.0) (λ (e : DevId × X). e.0) (λ (e : DevId × X). final (value e.1)) (λ d. 2 * d + 1) at (λ n. final (records_of (2 * n + 1)))
+        pairs (λ (e : DevId × X). slip_key e.0) (λ (e : DevId × X). e.0) (λ (e : DevId × X). final (value e.1)) (λ d. 2 * d + 1) device_at (λ n. final (records_of (2 * n + 1)))
         (λ e n is. slip_named e.0 n is) row mirrors keys
         (sym (map-map final (λ (e : DevId × X). value e.1) row)
         ∙ ap (map final) (looked (λ (e : DevId × X). slip_key e.0) (λ (e : DevId × X). value e.1) none row records_apart ∙ ap (map records_of) keys)

@@ -5,7 +5,7 @@ use Rattle.std.specs.List.{flat_map}
 use Rattle.std.specs.List.Sorted.{IsNonDecreasingBy}
 use Rattle.std.proofs.lemmas.Option.{slice_get_cases, get_or_from_slice_get}
 use Rattle.run_machine.specs.declared.event.Event.{Event}
-use Rattle.run_machine.specs.Opened.{setup as setup_in}
+use Rattle.run_machine.specs.Opened.{setup_in}
 use Rattle.run_machine.specs.Runs.{State}
 use Rattle.run_machine.specs.Scene.{Setup}
 use Rattle.task_core.specs.Plains.{stage_of}

@@ -7,7 +7,7 @@ use Rattle.std.proofs.lemmas.List.Elements.{All-map, filter-append}
 use Rattle.elem_ledger.specs.Ledger.{LedgerId}
 use Rattle.run_machine.specs.Laws.{OfTally, object_of}
 use Rattle.run_machine.specs.Submissions.{Doing, Rests}
-use Rattle.run_machine.specs.Opened.{Scenario, scene, start, setup}
+use Rattle.run_machine.specs.Opened.{Scenario, scene, start, setup_in}
 use Rattle.run_machine.specs.Requests.{Present, LeftOver}
 use Rattle.run_machine.specs.Runs.{State, IsLet}
 use Rattle.run_machine.specs.Tasks.{TaskState, Writer, Rescuer, Completer, Keeper, Keeps, Stops, Todo, Gathered, NoBio, request, look_of, writer_look, later_of}
@@ -99,10 +99,10 @@ module _ (s : Scenario) (ledger : ℕ → LedgerId) (good : IsScenario s) (namin
       let task = task_behind s place (without_tickets mine) in
       let task_is : state.task place ≡ task =
       b.mine place ∙ ap (task_behind s place) (ap (entries_by place) (sym entries) ∙ entries_filter (λ (e : Entry). place == e.place) before) in
-      let led = subst (λ l. LeadsTask (setup s) ((start s).task place) l (last.task place))
+      let led = subst (λ l. LeadsTask (setup_in s) ((start s).task place) l (last.task place))
       (ap without_tickets own ∙ map-append (λ (n : Ticketed). n.entry) mine (here ∷ filter (is_by place) after)) (shown.tasks place) in
-      let asks : here.entry.asked ≡ struck (request (setup s) task) =
-      (task_split (setup s) (without_tickets mine) (here.entry ∷ without_tickets (filter (is_by place) after)) ((start s).task place) (last.task place) led).1.0 in
+      let asks : here.entry.asked ≡ struck (request (setup_in s) task) =
+      (task_split (setup_in s) (without_tickets mine) (here.entry ∷ without_tickets (filter (is_by place) after)) ((start s).task place) (last.task place) led).1.0 in
       let above = (ordered_split 0 before (here ∷ after) (subst (Ordered 0) all (sorted_ordered (all_of hs)))).1.1 in
       let may = still_let between state reached here.ticket before (here ∷ after) all (omega arith, above) entries place task task_is
       (shown.looks place mine (filter (is_by place) after) here own) in
@@ -121,7 +121,7 @@ module _ (s : Scenario) (ledger : ℕ → LedgerId) (good : IsScenario s) (namin
       (All-map (λ (e : Entry). IsTrue (is_event e.asked e.reply)) (λ (n : Ticketed). n.entry) (sorted_by_ticket (all_of hs))
       (all_sorted (λ (n : Ticketed). IsTrue (is_event n.entry.asked n.entry.reply)) (all_of hs) shown.events))
       (λ name. subst (λ l. LeadsObject ledger name (get (start s).objects name) l (get last.objects name)) (sym (merge_entries_at hs shown.apart shown.tagged shown.rises name)) (shown.objects name))
-      (λ place. subst (λ l. LeadsTask (setup s) ((start s).task place) l (last.task place)) (sym (merge_entries_by hs place)) (shown.tasks place))
+      (λ place. subst (λ l. LeadsTask (setup_in s) ((start s).task place) l (last.task place)) (sym (merge_entries_by hs place)) (shown.tasks place))
       comes
 
 pub merges_are_runs : MergesAreRuns

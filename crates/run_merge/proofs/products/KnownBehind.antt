@@ -4,7 +4,7 @@ use Rattle.std.specs.Prelude.{sum, slice_index_or}
 use Rattle.std.specs.List.{list_any}
 use Rattle.elem_ledger.specs.Ledger.{LedgerId}
 use Rattle.run_machine.specs.Scene.{Scene}
-use Rattle.run_machine.specs.Opened.{Scenario, scene, start, writes_from, setup as setup_in}
+use Rattle.run_machine.specs.Opened.{Scenario, scene, start, writes_from, setup_in}
 use Rattle.run_machine.specs.Tasks.{Keeper, Keeps, Duty, Resizes, Starts, later_of}
 use Rattle.run_machine.specs.Runs.{State}
 use Rattle.block_core.specs.Rounds.{round_of, is_of_round}

@@ -8,7 +8,7 @@ use Rattle.elem_ledger.specs.Ledger.{LedgerId}
 use Rattle.run_machine.specs.Laws.{OfTally, object_of}
 use Rattle.run_machine.specs.Submissions.{Doing, Rests}
 use Rattle.run_machine.specs.Objects.{TallyState, Objects, Serves}
-use Rattle.run_machine.specs.Opened.{Scenario, setup}
+use Rattle.run_machine.specs.Opened.{Scenario, setup_in}
 use Rattle.run_machine.specs.Requests as requests
 use Rattle.run_machine.specs.Requests.{Request, Reply, Resize, NextRound, Did, Present, LeftOver}
 use Rattle.run_machine.specs.Runs.{State, IsLet}
@@ -103,7 +103,7 @@ module _ (s : Scenario) (ledger : ℕ → LedgerId) (before : List Entry) (state
       let none = known.home (subst (λ n. AreDone s (n + 1) before) count done) in
       omega (arith, known.sums, none, later)
 
-  pub lets : (place : ℕ) (x : TaskState) → state.task place ≡ x → ComesBehind s before x (struck (request (setup s) x)) → IsLet ledger state.objects x (look_of x)
+  pub lets : (place : ℕ) (x : TaskState) → state.task place ≡ x → ComesBehind s before x (struck (request (setup_in s) x)) → IsLet ledger state.objects x (look_of x)
   -- writers: the round of a write that begins has come
   lets place (Writer number todo taken submission) at comes = by_writer todo taken submission.doing comes.takes
     where
@@ -130,10 +130,10 @@ module _ (s : Scenario) (ledger : ℕ → LedgerId) (before : List Entry) (state
   )
   lets place (Keeper (Stops breach)) at comes = tt
 
-  pub comes_by : (place : ℕ) (x : TaskState) → state.task place ≡ x → IsLet ledger state.objects x (look_of x) → ComesBehind s before x (struck (request (setup s) x))
+  pub comes_by : (place : ℕ) (x : TaskState) → state.task place ≡ x → IsLet ledger state.objects x (look_of x) → ComesBehind s before x (struck (request (setup_in s) x))
   comes_by place (Writer number todo taken submission) at may =
-      no_keeper s before (Writer number todo taken submission) (struck (request (setup s) (Writer number todo taken submission)))
-      (by_writer todo taken submission.doing may) (writer_keeps_none (setup s) number todo taken submission.doing submission)
+      no_keeper s before (Writer number todo taken submission) (struck (request (setup_in s) (Writer number todo taken submission)))
+      (by_writer todo taken submission.doing may) (writer_keeps_none (setup_in s) number todo taken submission.doing submission)
     where
       by_round : (round now : ℕ) → now ≡ state.objects.tally.round → nat_le round now ≡ true → round ≤ rounds_started before
       by_round round now at le = let few = leb-true round now le in omega (arith, at, few, count)
@@ -146,9 +146,9 @@ module _ (s : Scenario) (ledger : ℕ → LedgerId) (before : List Entry) (state
       by_writer (todo ∷ later) NoBio doing may = tt
       by_writer (todo ∷ later) taken doing may = tt
   comes_by place (Rescuer dev submission) at may =
-      no_keeper s before (Rescuer dev submission) (struck (request (setup s) (Rescuer dev submission))) tt (rescuer_keeps_none (setup s) dev submission.doing submission)
+      no_keeper s before (Rescuer dev submission) (struck (request (setup_in s) (Rescuer dev submission))) tt (rescuer_keeps_none (setup_in s) dev submission.doing submission)
   comes_by place (Completer disk carried) at may =
-      no_keeper s before (Completer disk carried) (struck (request (setup s) (Completer disk carried))) tt (completer_keeps_none disk carried)
+      no_keeper s before (Completer disk carried) (struck (request (setup_in s) (Completer disk carried))) tt (completer_keeps_none disk carried)
   comes_by place (Keeper (Keeps [])) at may = record { takes = tt; rounds = λ starts. absurd (true≢false (sym starts)); resizes = λ changes. absurd (true≢false (sym changes)) }
   comes_by place (Keeper (Keeps (duty ∷ duties))) at (LeftOver many, serves, same) =
       let done = all_done place duty duties at (sym serves.0 ∙ eqb-true many (later_of duty) same) in

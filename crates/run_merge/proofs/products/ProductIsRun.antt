@@ -13,7 +13,7 @@ use Rattle.run_machine.specs.Events.{id_of, what_of}
 use Rattle.run_machine.specs.Laws.{Object, object_of}
 use Rattle.run_machine.specs.Maps.{upd}
 use Rattle.run_machine.specs.Objects.{Serves}
-use Rattle.run_machine.specs.Opened.{Scenario, scene, setup, tasks}
+use Rattle.run_machine.specs.Opened.{Scenario, scene, setup_in, opened_tasks}
 use Rattle.run_machine.specs.Requests.{Request, Reply, Rest}
 use Rattle.run_machine.specs.Runs.{State, Steps}
 use Rattle.run_machine.specs.Scene.{Scene}
@@ -50,19 +50,19 @@ module _ (s : Scenario) (ledger : ℕ → LedgerId) (good : IsScenario s) (namin
 
   -- a task behind the last asks for nothing
   pub is_inside : (before : List Entry) (state : State) → Behind s ledger before state → (place : ℕ) (asked : Request) (reply : Reply) (v : StateAt (object_of asked))
-      → asked ≡ struck (request (setup s) (state.task place)) → ServesAt ledger (object_of asked) (get state.objects (object_of asked)) asked reply v → place < length (tasks s)
-  is_inside before state b place asked reply v is serves = by_two (below_or place (length (tasks s)))
+      → asked ≡ struck (request (setup_in s) (state.task place)) → ServesAt ledger (object_of asked) (get state.objects (object_of asked)) asked reply v → place < length (opened_tasks s)
+  is_inside before state b place asked reply v is serves = by_two (below_or place (length (opened_tasks s)))
     where
-      by_two : (place < length (tasks s)) ⊎ (length (tasks s) ≤ place) → place < length (tasks s)
+      by_two : (place < length (opened_tasks s)) ⊎ (length (opened_tasks s) ≤ place) → place < length (opened_tasks s)
       by_two (inl lt) = lt
       by_two (inr le) =
-          let rests : asked ≡ Rest = is ∙ ap (λ x. struck (request (setup s) x)) (b.outside place le) in
+          let rests : asked ≡ Rest = is ∙ ap (λ x. struck (request (setup_in s) x)) (b.outside place le) in
           let all : Serves ledger state.objects asked reply (put_object state.objects (object_of asked) v) = serves_all ledger state.objects asked reply v serves in
           absurd (subst (λ r. Serves ledger state.objects r reply (put_object state.objects (object_of asked) v)) rests all)
 
   pub leads : (before es : List Entry) (state last : State) → Behind s ledger before state → AreEvents es
       → ((name : Object) → LeadsObject ledger name (get state.objects name) (entries_at name es) (get last.objects name))
-      → ((place : ℕ) → LeadsTask (setup s) (state.task place) (entries_by place es) (last.task place))
+      → ((place : ℕ) → LeadsTask (setup_in s) (state.task place) (entries_by place es) (last.task place))
       → AreOrdered before es → AreOfRun s ledger (before ++ es) last
   leads before [] state last b events objects tasks ordered =
       let same : last ≡ state = λ i. record { objects = all_same last.objects state.objects objects i; task = fun_ext tasks i } in
@@ -78,19 +78,19 @@ module _ (s : Scenario) (ledger : ℕ → LedgerId) (good : IsScenario s) (namin
       place = e.place
 
       asks : Request
-      asks = request (setup s) (state.task place)
+      asks = request (setup_in s) (state.task place)
 
       here : LeadsObject ledger name (get state.objects name) (e ∷ entries_at name es) (get last.objects name)
       here = subst (λ b. LeadsObject ledger name (get state.objects name) (cond b (e ∷ entries_at name es) (entries_at name es)) (get last.objects name)) (same_self name) (objects name)
 
-      mine : LeadsTask (setup s) (state.task place) (e ∷ entries_by place es) (last.task place)
-      mine = subst (λ b. LeadsTask (setup s) (state.task place) (cond b (e ∷ entries_by place es) (entries_by place es)) (last.task place)) (eq-eqb place place refl) (tasks place)
+      mine : LeadsTask (setup_in s) (state.task place) (e ∷ entries_by place es) (last.task place)
+      mine = subst (λ b. LeadsTask (setup_in s) (state.task place) (cond b (e ∷ entries_by place es) (entries_by place es)) (last.task place)) (eq-eqb place place refl) (tasks place)
 
       o : StateAt name
       o = here.0
 
       next : State
-      next = record { objects = put_object state.objects name o; task = upd state.task place (answered (setup s) (state.task place) e.reply) }
+      next = record { objects = put_object state.objects name o; task = upd state.task place (answered (setup_in s) (state.task place) e.reply) }
 
       asked_is : e.asked ≡ struck asks
       asked_is = mine.0
@@ -138,19 +138,19 @@ module _ (s : Scenario) (ledger : ℕ → LedgerId) (good : IsScenario s) (namin
               subst (λ v. LeadsObject ledger other v (entries_at other es) (get last.objects other)) (sym (get_other state.objects name other o same))
               (subst (λ b. LeadsObject ledger other (get state.objects other) (cond b (e ∷ entries_at other es) (entries_at other es)) (get last.objects other)) same (objects other))
 
-      tasks_rest : (other : ℕ) → LeadsTask (setup s) (next.task other) (entries_by other es) (last.task other)
+      tasks_rest : (other : ℕ) → LeadsTask (setup_in s) (next.task other) (entries_by other es) (last.task other)
       tasks_rest other = by_test (other == place) refl
         where
           x : TaskState
-          x = answered (setup s) (state.task place) e.reply
+          x = answered (setup_in s) (state.task place) e.reply
 
-          by_test : (b : Bool) → (other == place) ≡ b → LeadsTask (setup s) (next.task other) (entries_by other es) (last.task other)
+          by_test : (b : Bool) → (other == place) ≡ b → LeadsTask (setup_in s) (next.task other) (entries_by other es) (last.task other)
           by_test true same =
-              subst (λ k. LeadsTask (setup s) (next.task k) (entries_by k es) (last.task k)) (sym (eqb-true other place same))
-              (subst (λ v. LeadsTask (setup s) v (entries_by place es) (last.task place)) (sym (upd_same state.task place x)) mine.1)
+              subst (λ k. LeadsTask (setup_in s) (next.task k) (entries_by k es) (last.task k)) (sym (eqb-true other place same))
+              (subst (λ v. LeadsTask (setup_in s) v (entries_by place es) (last.task place)) (sym (upd_same state.task place x)) mine.1)
           by_test false same =
-              subst (λ v. LeadsTask (setup s) v (entries_by other es) (last.task other)) (sym (upd_other state.task place x other (eqb-false other place same)))
-              (subst (λ b. LeadsTask (setup s) (state.task other) (cond b (e ∷ entries_by other es) (entries_by other es)) (last.task other)) same (tasks other))
+              subst (λ v. LeadsTask (setup_in s) v (entries_by other es) (last.task other)) (sym (upd_other state.task place x other (eqb-false other place same)))
+              (subst (λ b. LeadsTask (setup_in s) (state.task other) (cond b (e ∷ entries_by other es) (entries_by other es)) (last.task other)) same (tasks other))
 
       ordered_rest : AreOrdered (before ++ e ∷ []) es
       ordered_rest between after other is at_state reached =

@@ -7,7 +7,7 @@ use Rattle.run_machine.specs.declared.event.Event.{Event}
 use Rattle.run_machine.specs.declared.event.What.{What}
 use Rattle.run_machine.specs.declared.event.What.TheVariants as what
 use Rattle.run_machine.specs.Objects.{Objects}
-use Rattle.run_machine.specs.Opened.{Scenario, scene, start, setup}
+use Rattle.run_machine.specs.Opened.{Scenario, scene, start, setup_in}
 use Rattle.run_machine.specs.Requests.{Request, TakeBio, NextRound}
 use Rattle.run_machine.specs.Runs.{State, IsRun}
 use Rattle.run_machine.specs.Tasks.{TaskState, Writer, Rescuer, Completer, Keeper, Keeps, Stops, Resizes, Starts, request}
@@ -44,14 +44,14 @@ none b is not = absurd (true≢false (sym is ∙ not))
 
 module _ (s : Scenario) (before : List Entry) (state : State) (known : Known s before state) where
   -- which is the one behind the present round
-  number_is : (place number : ℕ) (x : TaskState) → state.task place ≡ x → request (setup s) x ≡ NextRound number → number ≡ state.objects.tally.round + 1
+  number_is : (place number : ℕ) (x : TaskState) → state.task place ≡ x → request (setup_in s) x ≡ NextRound number → number ≡ state.objects.tally.round + 1
   unfolding round_number
   number_is place number (Writer writer todo taken submission) at is =
-      none (is_keeping (struck (request (setup s) (Writer writer todo taken submission)))) (ap (λ r. is_keeping (struck r)) is) (writer_keeps_none (setup s) writer todo taken submission.doing submission)
+      none (is_keeping (struck (request (setup_in s) (Writer writer todo taken submission)))) (ap (λ r. is_keeping (struck r)) is) (writer_keeps_none (setup_in s) writer todo taken submission.doing submission)
   number_is place number (Rescuer dev submission) at is =
-      none (is_keeping (struck (request (setup s) (Rescuer dev submission)))) (ap (λ r. is_keeping (struck r)) is) (rescuer_keeps_none (setup s) dev submission.doing submission)
+      none (is_keeping (struck (request (setup_in s) (Rescuer dev submission)))) (ap (λ r. is_keeping (struck r)) is) (rescuer_keeps_none (setup_in s) dev submission.doing submission)
   number_is place number (Completer disk carried) at is =
-      none (is_keeping (struck (request (setup s) (Completer disk carried)))) (ap (λ r. is_keeping (struck r)) is) (completer_keeps_none disk carried)
+      none (is_keeping (struck (request (setup_in s) (Completer disk carried)))) (ap (λ r. is_keeping (struck r)) is) (completer_keeps_none disk carried)
   number_is place number (Keeper (Keeps [])) at is = none false (ap is_keeping is) refl
   number_is place number (Keeper (Keeps (Resizes pool min later ∷ duties))) at is = none false (ap is_next_round is) refl
   number_is place number (Keeper (Keeps (Starts round later ∷ duties))) at is = sym (ap round_number is) ∙ known.next place round later duties at
@@ -62,17 +62,17 @@ module _ (s : Scenario) (ledger : ℕ → LedgerId) (good : IsScenario s) (namin
       → rounds_told events ≡ range_with_len (state.objects.tally.round + 1) (length (rounds_told events))
   numbered before state b [] last run = refl
   numbered before state b (event ∷ events) last (next, (place, steps), run) =
-      by_request (request (setup s) (state.task place)) refl
+      by_request (request (setup_in s) (state.task place)) refl
       (numbered (before ++ entry_of (scene s ledger) state place event next steps ∷ []) next (one_more s ledger before state b place event next steps) events last run)
     where
-      needs : Needs state.objects (request (setup s) (state.task place)) event.what
+      needs : Needs state.objects (request (setup_in s) (state.task place)) event.what
       needs = (can_of (scene s ledger) state next place event steps).needs
 
-      started : round_told event.what ≡ numbers (request (setup s) (state.task place))
-      started = asked_is state.objects (request (setup s) (state.task place)) event.what needs
+      started : round_told event.what ≡ numbers (request (setup_in s) (state.task place))
+      started = asked_is state.objects (request (setup_in s) (state.task place)) event.what needs
 
-      round_is : next.objects.tally.round ≡ state.objects.tally.round + (if is_next_round (request (setup s) (state.task place)) then 1 else 0)
-      round_is = round_after ledger state.objects (request (setup s) (state.task place)) steps.reply next.objects steps.serves
+      round_is : next.objects.tally.round ≡ state.objects.tally.round + (if is_next_round (request (setup_in s) (state.task place)) then 1 else 0)
+      round_is = round_after ledger state.objects (request (setup_in s) (state.task place)) steps.reply next.objects steps.serves
 
       Goes : List ℕ → Type 0
       Goes here = here ++ rounds_told events ≡ range_with_len (state.objects.tally.round + 1) (length (here ++ rounds_told events))
@@ -80,7 +80,7 @@ module _ (s : Scenario) (ledger : ℕ → LedgerId) (good : IsScenario s) (namin
       Rest : ℕ → Type 0
       Rest round = rounds_told events ≡ range_with_len (round + 1) (length (rounds_told events))
 
-      by_request : (asks : Request) → request (setup s) (state.task place) ≡ asks → Rest next.objects.tally.round → Goes (round_told event.what)
+      by_request : (asks : Request) → request (setup_in s) (state.task place) ≡ asks → Rest next.objects.tally.round → Goes (round_told event.what)
       by_request (NextRound number) is rest =
           let n = number_is s before state (known s ledger good naming before state b.reached) place number (state.task place) refl is in
           let more : next.objects.tally.round ≡ state.objects.tally.round + 1 = round_is ∙ ap (λ r. state.objects.tally.round + (if is_next_round r then 1 else 0)) is in

@@ -9,7 +9,7 @@ use Rattle.elem_ledger.specs.Ledger.{LedgerId}
 use Rattle.run_machine.specs.declared.event.Event.{Event}
 use Rattle.run_machine.specs.Laws.{Object, object_of}
 use Rattle.run_machine.specs.Objects.{Objects}
-use Rattle.run_machine.specs.Opened.{Scenario, scene, start, setup}
+use Rattle.run_machine.specs.Opened.{Scenario, scene, start, setup_in}
 use Rattle.run_machine.specs.Runs.{State, Steps, IsRun}
 use Rattle.run_machine.specs.Scene.{Scene}
 use Rattle.run_machine.specs.Tasks.{TaskState, request, answered}
@@ -137,7 +137,7 @@ cut scene old (event ∷ events) new (next, (place, steps), run) (b ∷ before) 
 module _ (s : Scenario) (ledger : ℕ → LedgerId) (good : IsScenario s) (naming : IsNaming ledger) where
   -- what stands before an entry, by the entries of its task
   abbrev StandsBehind : List Entry → Entry → Type 0
-  StandsBehind before e = ComesBehind s before (led_by (setup s) ((start s).task e.place) (entries_by e.place before)) e.asked
+  StandsBehind before e = ComesBehind s before (led_by (setup_in s) ((start s).task e.place) (entries_by e.place before)) e.asked
 
   stands_in : (entries : List Entry) (last : State) → AreOfRun s ledger entries last → AtEach entries StandsBehind
   stands_in entries last (events, run, is) before after e at =
@@ -154,7 +154,7 @@ module _ (s : Scenario) (ledger : ℕ → LedgerId) (good : IsScenario s) (namin
         events = subst AreEvents is (run_events (scene s ledger) (start s) events last run);
         objects = λ name. subst (λ l. LeadsObject ledger name (get (start s).objects name) (entries_at name l) (get last.objects name)) is
             (run_objects (scene s ledger) name (start s) events last run);
-        tasks = λ place. subst (λ l. LeadsTask (setup s) ((start s).task place) (entries_by place l) (last.task place)) is
+        tasks = λ place. subst (λ l. LeadsTask (setup_in s) ((start s).task place) (entries_by place l) (last.task place)) is
             (run_tasks (scene s ledger) place (start s) events last run);
         takes = λ before after e at. (stands before after e at).takes;
         rounds = λ before after e at. (stands before after e at).rounds;

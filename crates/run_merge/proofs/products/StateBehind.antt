@@ -7,7 +7,7 @@ use mathlib.Core.Path.{path_j'}
 use Rattle.elem_ledger.specs.Ledger.{LedgerId}
 use Rattle.run_machine.specs.declared.event.Event.{Event}
 use Rattle.run_machine.specs.Scene.{Setup, Scene}
-use Rattle.run_machine.specs.Opened.{Scenario, scene, start, setup, tasks, no_task}
+use Rattle.run_machine.specs.Opened.{Scenario, scene, start, setup_in, opened_tasks, no_task}
 use Rattle.run_machine.specs.Tasks.{TaskState, request, answered}
 use Rattle.run_machine.specs.Runs.{State, Steps, IsRun}
 use Rattle.run_machine.proofs.Frames.{upd_same, upd_other}
@@ -43,8 +43,8 @@ pub record Behind (s : Scenario) (ledger : ℕ → LedgerId) (before : List Entr
   -- as many rounds have started as the tally says
   pub count : rounds_started before ≡ state.objects.tally.round
   -- each task is behind its own entries, and there is none behind the last
-  pub mine : (place : ℕ) → state.task place ≡ led_by (setup s) ((start s).task place) (entries_by place before)
-  pub outside : (place : ℕ) → length (tasks s) ≤ place → state.task place ≡ no_task
+  pub mine : (place : ℕ) → state.task place ≡ led_by (setup_in s) ((start s).task place) (entries_by place before)
+  pub outside : (place : ℕ) → length (opened_tasks s) ≤ place → state.task place ≡ no_task
 
 module _ (s : Scenario) (ledger : ℕ → LedgerId) where
   abbrev sc : Scene
@@ -55,7 +55,7 @@ module _ (s : Scenario) (ledger : ℕ → LedgerId) where
     reached = ([], refl, refl);
     count = refl;
     mine = λ place. refl;
-    outside = λ place le. get_or_past (tasks s) place no_task le;
+    outside = λ place le. get_or_past (opened_tasks s) place no_task le;
   }
 
   module _ (before : List Entry) (state : State) (b : Behind s ledger before state) (place : ℕ) (event : Event) (next : State) (steps : Steps sc state place event next) where
@@ -65,28 +65,28 @@ module _ (s : Scenario) (ledger : ℕ → LedgerId) where
     by_more : (other : ℕ) (same : Bool) → (other == place) ≡ same → entries_by other (before ++ e ∷ []) ≡ entries_by other before ++ cond same (e ∷ []) []
     by_more other same is = filter-append (λ (x : Entry). other == x.place) before (e ∷ []) ∙ ap (λ b. entries_by other before ++ cond b (e ∷ []) []) is
 
-    mine_more : (other : ℕ) (same : Bool) → (other == place) ≡ same → next.task other ≡ led_by (setup s) ((start s).task other) (entries_by other (before ++ e ∷ []))
+    mine_more : (other : ℕ) (same : Bool) → (other == place) ≡ same → next.task other ≡ led_by (setup_in s) ((start s).task other) (entries_by other (before ++ e ∷ []))
     mine_more other true same =
         let is = eqb-true other place same in
-        subst (λ p. next.task p ≡ led_by (setup s) ((start s).task p) (entries_by p (before ++ e ∷ []))) (sym is)
-        (ap (λ (f : ℕ → TaskState). f place) steps.goes_on ∙ upd_same state.task place (answered (setup s) (state.task place) steps.reply)
-        ∙ ap (λ x. answered (setup s) x steps.reply) (b.mine place)
-        ∙ sym (led_more (setup s) ((start s).task place) (entries_by place before) e)
-        ∙ ap (led_by (setup s) ((start s).task place)) (sym (by_more place true (eq-eqb place place refl))))
+        subst (λ p. next.task p ≡ led_by (setup_in s) ((start s).task p) (entries_by p (before ++ e ∷ []))) (sym is)
+        (ap (λ (f : ℕ → TaskState). f place) steps.goes_on ∙ upd_same state.task place (answered (setup_in s) (state.task place) steps.reply)
+        ∙ ap (λ x. answered (setup_in s) x steps.reply) (b.mine place)
+        ∙ sym (led_more (setup_in s) ((start s).task place) (entries_by place before) e)
+        ∙ ap (led_by (setup_in s) ((start s).task place)) (sym (by_more place true (eq-eqb place place refl))))
     mine_more other false same =
         ap (λ (f : ℕ → TaskState). f other) steps.goes_on
-        ∙ upd_other state.task place (answered (setup s) (state.task place) steps.reply) other (eqb-false other place same) ∙ b.mine other
-        ∙ ap (led_by (setup s) ((start s).task other)) (sym (by_more other false same ∙ append-nil (entries_by other before)))
+        ∙ upd_other state.task place (answered (setup_in s) (state.task place) steps.reply) other (eqb-false other place same) ∙ b.mine other
+        ∙ ap (led_by (setup_in s) ((start s).task other)) (sym (by_more other false same ∙ append-nil (entries_by other before)))
 
-    outside_more : (other : ℕ) (same : Bool) → (other == place) ≡ same → length (tasks s) ≤ other → next.task other ≡ no_task
+    outside_more : (other : ℕ) (same : Bool) → (other == place) ≡ same → length (opened_tasks s) ≤ other → next.task other ≡ no_task
     outside_more other true same le = let is = eqb-true other place same in let lt = steps.here in absurd (omega (arith, is, lt, le))
     outside_more other false same le =
         ap (λ (f : ℕ → TaskState). f other) steps.goes_on
-        ∙ upd_other state.task place (answered (setup s) (state.task place) steps.reply) other (eqb-false other place same) ∙ b.outside other le
+        ∙ upd_other state.task place (answered (setup_in s) (state.task place) steps.reply) other (eqb-false other place same) ∙ b.outside other le
 
     count_more : rounds_started (before ++ e ∷ []) ≡ next.objects.tally.round
     count_more =
-        let serves = serves_struck ledger state.objects (request (setup s) (state.task place)) steps.reply next.objects steps.serves in
+        let serves = serves_struck ledger state.objects (request (setup_in s) (state.task place)) steps.reply next.objects steps.serves in
         omega (arith, started_more before e, b.count, round_after ledger state.objects e.asked steps.reply next.objects serves)
 
     pub one_more : Behind s ledger (before ++ e ∷ []) next

@@ -12,7 +12,7 @@ use Rattle.tick_clock.specs.declared.ticking.Ticket.{Ticket}
 use Rattle.tick_clock.specs.Tickets.{PassState, hit, ticket_count, ticket_numbers}
 use Rattle.tick_clock.proofs.Rows.{pass_once}
 use Rattle.run_machine.specs.Laws.{Object}
-use Rattle.run_machine.specs.Opened.{Scenario, setup}
+use Rattle.run_machine.specs.Opened.{Scenario, setup_in}
 use Rattle.run_machine.specs.Opened as opened
 use Rattle.task_core.specs.declared.plain.Plain.{Plain}
 use Rattle.object_things.specs.Histories.{Call, or_last}
@@ -107,7 +107,7 @@ ordered_falls last (n ∷ ns) ordered =
     )
 
 module _ (s : Scenario) (plain : Plain) (names : List Object) (history : Object → List Call) (left : (name : Object) → ThingState (ThingAt name)) (tasks : List Returned)
-    (pass : PassState) (c : ClosesAs (setup s) plain names history left tasks pass) (firsts : map (λ (task : Returned). task.first) tasks ≡ opened.tasks s) where
+    (pass : PassState) (c : ClosesAs (setup_in s) plain names history left tasks pass) (firsts : map (λ (task : Returned). task.first) tasks ≡ opened.opened_tasks s) where
   abbrev pub merged : List Ticketed
   merged = sorted_by_ticket (all_of (event_histories names history))
 
@@ -117,7 +117,7 @@ module _ (s : Scenario) (plain : Plain) (names : List Object) (history : Object 
 
   pub drawn_once : (number : ℕ) → sum_by (drew number) tasks ≤ 1
   drawn_once number =
-      let all = ap (hits number) (numbers_is (setup s) plain names history left tasks pass c) in
+      let all = ap (hits number) (numbers_is (setup_in s) plain names history left tasks pass c) in
       let parts = hits_flat (λ (task : Returned). ticket_numbers (drawn_of task)) tasks number in
       let same = times_is number pass.drawn in
       let once = (pass_once pass c.all.1).0 number in
@@ -126,7 +126,7 @@ module _ (s : Scenario) (plain : Plain) (names : List Object) (history : Object 
   pub few_at : (number place : ℕ) (task : Returned) → slice_get tasks place ≡ Some task → hits number (tickets_of (ticketed_events task.log)) ≤ drew number task
   few_at number place task at =
       let few = events_fewer number task.log (log_drew s plain names history left tasks pass c firsts place task at) in
-      let same = ap (hits number) (drew_of (setup s) plain names history left tasks pass c place task at) in
+      let same = ap (hits number) (drew_of (setup_in s) plain names history left tasks pass c place task at) in
       omega (arith, few, same)
 
   pub merged_placed : All (λ (n : Ticketed). n.entry.place < length tasks) merged

@@ -12,7 +12,7 @@ use Rattle.elem_ledger.specs.Ledger.{LedgerId}
 use Rattle.tick_clock.specs.Tickets.{PassState}
 use Rattle.run_machine.specs.declared.event.Event.{Event}
 use Rattle.run_machine.specs.Laws.{Object}
-use Rattle.run_machine.specs.Opened.{Scenario, scene, setup, start}
+use Rattle.run_machine.specs.Opened.{Scenario, scene, setup_in, start}
 use Rattle.run_machine.specs.Opened as opened
 use Rattle.run_machine.specs.Runs.{State, IsRun}
 use Rattle.task_core.specs.declared.plain.Plain.{Plain}
@@ -70,69 +70,69 @@ once_in_order all ordered same once number =
     omega (arith, few, hits_keys number all, hits_keys number ordered, sum_by-IsPermutation (λ (e : ℕ × Event). is_hit number e.0) all ordered same)
 
 module _ (s : Scenario) (ledger : ℕ → LedgerId) (plain : Plain) (names : List Object) (history : Object → List Call) (left : (name : Object) → ThingState (ThingAt name))
-    (tasks : List Returned) (pass : PassState) (c : ClosesAs (setup s) plain names history left tasks pass) (firsts : map (λ (task : Returned). task.first) tasks ≡ opened.tasks s) where
+    (tasks : List Returned) (pass : PassState) (c : ClosesAs (setup_in s) plain names history left tasks pass) (firsts : map (λ (task : Returned). task.first) tasks ≡ opened.opened_tasks s) where
   abbrev entries : List Ticketed
   entries = merged s plain names history left tasks pass c firsts
 
   abbrev led : List (ℕ × Event)
-  led = led_notes (setup s) (start s).task entries
+  led = led_notes (setup_in s) (start s).task entries
 
-  noted_by : (place : ℕ) (task : Returned) → slice_get tasks place ≡ Some task → notes_of (setup s) task.first task.log ≡ own_notes (setup s) task.first (ticketed_events task.log)
+  noted_by : (place : ℕ) (task : Returned) → slice_get tasks place ≡ Some task → notes_of (setup_in s) task.first task.log ≡ own_notes (setup_in s) task.first (ticketed_events task.log)
   noted_by place task at =
-      log_notes (setup s) [] task.first task.log task.task (ask_some s plain names history left tasks pass c place task at) (logged (setup s) plain names history left tasks pass c place task at).0.leads
+      log_notes (setup_in s) [] task.first task.log task.task (ask_some s plain names history left tasks pass c place task at) (logged (setup_in s) plain names history left tasks pass c place task at).0.leads
 
   -- along them tickets rise, as along the events of its log, which are those of the merge that are its own
-  pub notes_rise : (place : ℕ) (task : Returned) → slice_get tasks place ≡ Some task → IsNonDecreasingBy (λ (e : ℕ × Event). e.0) (notes_of (setup s) task.first task.log)
+  pub notes_rise : (place : ℕ) (task : Returned) → slice_get tasks place ≡ Some task → IsNonDecreasingBy (λ (e : ℕ × Event). e.0) (notes_of (setup_in s) task.first task.log)
   notes_rise place task at =
       let own = done_at s plain names history left tasks pass c firsts place task at in
       let falls = (ordered_falls 0 (done_by place (event_histories names history)) (sorted_ordered (filter (is_by place) (all_of (event_histories names history))))).1 in
       subst (IsNonDecreasingBy (λ (e : ℕ × Event). e.0)) (sym (noted_by place task at))
-      (falls_rises (λ (e : ℕ × Event). e.0) (own_notes (setup s) task.first (ticketed_events task.log))
-      (own_falls (setup s) task.first (ticketed_events task.log) (subst (λ ns. NoneFalls (tickets_of ns)) own falls)))
+      (falls_rises (λ (e : ℕ × Event). e.0) (own_notes (setup_in s) task.first (ticketed_events task.log))
+      (own_falls (setup_in s) task.first (ticketed_events task.log) (subst (λ ns. NoneFalls (tickets_of ns)) own falls)))
 
   -- what a task noted is what is noted of it along the merge
   notes_at : (place : ℕ) (task : Returned) → slice_get tasks place ≡ Some task
-      → notes_of (setup s) task.first task.log ≡ own_notes (setup s) ((start s).task place) (filter (is_by place) entries)
+      → notes_of (setup_in s) task.first task.log ≡ own_notes (setup_in s) ((start s).task place) (filter (is_by place) entries)
   notes_at place task at =
-      noted_by place task at ∙ ap (λ first. own_notes (setup s) first (ticketed_events task.log)) (sym (first_is s plain names history left tasks pass c firsts place task at))
-      ∙ ap (own_notes (setup s) ((start s).task place))
+      noted_by place task at ∙ ap (λ first. own_notes (setup_in s) first (ticketed_events task.log)) (sym (first_is s plain names history left tasks pass c firsts place task at))
+      ∙ ap (own_notes (setup_in s) ((start s).task place))
       (sym (merge_by (event_histories names history) place ∙ done_at s plain names history left tasks pass c firsts place task at))
 
-  noted_led : (x : ℕ × Event) → Contains (notes_in (setup s) tasks) x → Contains led x
+  noted_led : (x : ℕ × Event) → Contains (notes_in (setup_in s) tasks) x → Contains led x
   noted_led x there =
-      let from = flat_from (λ (task : Returned). notes_of (setup s) task.first task.log) tasks x there in
-      of_task (setup s) (start s).task entries from.place x (subst (λ l. Contains l x) (notes_at from.place from.part from.at) from.there)
+      let from = flat_from (λ (task : Returned). notes_of (setup_in s) task.first task.log) tasks x there in
+      of_task (setup_in s) (start s).task entries from.place x (subst (λ l. Contains l x) (notes_at from.place from.part from.at) from.there)
 
-  led_noted : (x : ℕ × Event) → Contains led x → Contains (notes_in (setup s) tasks) x
+  led_noted : (x : ℕ × Event) → Contains led x → Contains (notes_in (setup_in s) tasks) x
   led_noted x there = by_two (slice_get_cases tasks o.place).1
     where
-      o : IsNotedOf (setup s) (start s).task entries (length tasks) x
-      o = task_of (setup s) (start s).task entries (length tasks) x (merged_placed s plain names history left tasks pass c firsts) there
+      o : IsNotedOf (setup_in s) (start s).task entries (length tasks) x
+      o = task_of (setup_in s) (start s).task entries (length tasks) x (merged_placed s plain names history left tasks pass c firsts) there
 
       by_two : ((task : Returned) × (o.place < length tasks) × (slice_get tasks o.place ≡ Some task) × (get_or tasks o.place task ≡ task)) ⊎ ((length tasks ≤ o.place) × (slice_get tasks o.place ≡ None))
-          → Contains (notes_in (setup s) tasks) x
+          → Contains (notes_in (setup_in s) tasks) x
       by_two (inl (task, less, at, same)) =
-          flat_there (λ (task : Returned). notes_of (setup s) task.first task.log) tasks o.place task x at (subst (λ l. Contains l x) (sym (notes_at o.place task at)) o.there)
+          flat_there (λ (task : Returned). notes_of (setup_in s) task.first task.log) tasks o.place task x at (subst (λ l. Contains l x) (sym (notes_at o.place task at)) o.there)
       by_two (inr (le, none)) = let lt = o.less in absurd (omega (arith, lt, le))
 
-  noted_once : AreOnce (keys_of (notes_in (setup s) tasks))
+  noted_once : AreOnce (keys_of (notes_in (setup_in s) tasks))
   noted_once =
-      subst AreOnce (sym (keys_flat (λ (task : Returned). notes_of (setup s) task.first task.log) tasks))
-      (parts_once s plain names history left tasks pass c firsts (λ (task : Returned). keys_of (notes_of (setup s) task.first task.log))
+      subst AreOnce (sym (keys_flat (λ (task : Returned). notes_of (setup_in s) task.first task.log) tasks))
+      (parts_once s plain names history left tasks pass c firsts (λ (task : Returned). keys_of (notes_of (setup_in s) task.first task.log))
       (λ number place task at.
       let same = ap (λ l. hits number (keys_of l)) (noted_by place task at) in
-      let few = keys_fewer (setup s) number task.first (ticketed_events task.log) in
+      let few = keys_fewer (setup_in s) number task.first (ticketed_events task.log) in
       omega (arith, same, few)))
 
-  module _ (joined : List Event) (j : IsJoinedByTicket (notes_in (setup s) tasks) joined) (events : List Event) (last : State) (run : IsRun (scene s ledger) (start s) events last)
+  module _ (joined : List Event) (j : IsJoinedByTicket (notes_in (setup_in s) tasks) joined) (events : List Event) (last : State) (run : IsRun (scene s ledger) (start s) events last)
       (is : entries_in (scene s ledger) (start s) events last run ≡ without_tickets entries) where
     in_order : j.ordered ≡ led
     in_order =
         same_climbing (λ (e : ℕ × Event). e.0) j.ordered led
-        (climbs (keys_of j.ordered) (none_falls (λ (e : ℕ × Event). e.0) j.ordered j.rises) (once_in_order (notes_in (setup s) tasks) j.ordered j.same noted_once))
+        (climbs (keys_of j.ordered) (none_falls (λ (e : ℕ × Event). e.0) j.ordered j.rises) (once_in_order (notes_in (setup_in s) tasks) j.ordered j.same noted_once))
         (subst Climbs (sym (run_notes (scene s ledger) (start s) events last run entries is).0) (merged_climbs s plain names history left tasks pass c firsts))
-        (λ x there. noted_led x (Contains-permutation j.ordered (notes_in (setup s) tasks) x (IsPermutation-sym (notes_in (setup s) tasks) j.ordered j.same) there))
-        (λ x there. Contains-permutation (notes_in (setup s) tasks) j.ordered x j.same (led_noted x there))
+        (λ x there. noted_led x (Contains-permutation j.ordered (notes_in (setup_in s) tasks) x (IsPermutation-sym (notes_in (setup_in s) tasks) j.ordered j.same) there))
+        (λ x there. Contains-permutation (notes_in (setup_in s) tasks) j.ordered x j.same (led_noted x there))
 
     pub joined_is : events ≡ joined
     joined_is = sym (run_notes (scene s ledger) (start s) events last run entries is).1 ∙ ap events_of (sym in_order) ∙ sym j.values

@@ -6,7 +6,7 @@ use Rattle.tick_clock.specs.Tickets.{PassState}
 use Rattle.seat_lock.specs.Seats.{LockId, SeatState, IsOf}
 use Rattle.stack_base.specs.declared.ids.DevId.{DevId}
 use Rattle.run_machine.specs.Laws.{OfRescuer, OfDisk, OfBook, OfTally, object_of}
-use Rattle.run_machine.specs.Opened.{at}
+use Rattle.run_machine.specs.Opened.{device_at}
 use Rattle.run_machine.specs.Requests.{Request}
 use Rattle.task_steps.specs.Stage.{RequestFits, Owes, has_book, has_disk, has_rescuer}
 use Rattle.object_things.specs.declared.book.BookThing.{BookThing}
@@ -85,7 +85,7 @@ module _ (locks : Locks) (seats : TaskSeats) (holds : DeskHolds locks seats) whe
           (λ m s. BookSays ask s) (λ m pass replied owed. owed.says)
 
   -- disks
-  module _ (rows : List (DevId × LockId DiskThing)) (rows_are : rows ≡ locks.disks.items) (n place : ℕ) (is : IsTrue (has_disk (stage_at locks) (at n))) (there : place ≡ slice_index_or locks.index.disks n 0) (ask : DiskAsk)
+  module _ (rows : List (DevId × LockId DiskThing)) (rows_are : rows ≡ locks.disks.items) (n place : ℕ) (is : IsTrue (has_disk (stage_at locks) (device_at n))) (there : place ≡ slice_index_or locks.index.disks n 0) (ask : DiskAsk)
       (named : object_of (disk_asked ask) ≡ OfDisk n) where
     pub disk_seated : AreSeatedAt rows seats.disks.items place
     disk_seated = has_seat rows_are holds.locked.disks holds.seated.disks n place is there
@@ -131,7 +131,7 @@ module _ (locks : Locks) (seats : TaskSeats) (holds : DeskHolds locks seats) whe
           (λ m s. DiskSays (stage_in m.common) ask s) (λ m pass replied owed. owed.says)
 
   -- lists of rescuers
-  module _ (rows : List (DevId × LockId ListThing)) (rows_are : rows ≡ locks.lists.items) (n place : ℕ) (is : IsTrue (has_rescuer (stage_at locks) (at n))) (there : place ≡ slice_index_or locks.index.lists n 0) (ask : ListAsk)
+  module _ (rows : List (DevId × LockId ListThing)) (rows_are : rows ≡ locks.lists.items) (n place : ℕ) (is : IsTrue (has_rescuer (stage_at locks) (device_at n))) (there : place ≡ slice_index_or locks.index.lists n 0) (ask : ListAsk)
       (named : object_of (list_asked ask) ≡ OfRescuer n) where
     pub list_seated : AreSeatedAt rows seats.lists.items place
     list_seated = has_seat rows_are holds.locked.lists holds.seated.lists n place is there

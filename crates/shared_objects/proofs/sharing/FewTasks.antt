@@ -15,7 +15,7 @@ use Rattle.decl_text.specs.Accepting.{what_of_kind}
 use Rattle.decl_text.specs.Fit.{HasReserves, IsFitStack}
 use Rattle.decl_text.proofs.Fits.{accepted_fit}
 use Rattle.run_machine.specs.Submissions.{rests}
-use Rattle.run_machine.specs.Opened.{Scenario, at, duties, is_by, keepers, most_writers, setup, tasks, todos, todos_of, writers}
+use Rattle.run_machine.specs.Opened.{Scenario, device_at, duties, is_by, keepers, most_writers, setup_in, opened_tasks, todos, todos_of, writers}
 use Rattle.run_machine.specs.Scene.{is_device, is_disk, keeps_data, rescuer_at}
 use Rattle.run_machine.specs.Tasks.{NoBio, Empty, Writer, Rescuer, Completer}
 use Rattle.run_machine.proofs.Apart.{one_keeper}
@@ -57,33 +57,33 @@ module _ (stack : Stack) (good : IsStack stack) (fit : IsFitStack stack) (number
   disks_have_none = by_found (slice_get stack.devices.items number) refl
 
 -- the tasks of a scenario by their kinds
-pub tasks_counted : (s : Scenario) → let all = range_with_len 0 (setup s).count in
-    length (tasks s) ≤ most_writers + length (filter (setup s).rescuer all) + length (filter (is_disk (setup s)) all) + 1
+pub tasks_counted : (s : Scenario) → let all = range_with_len 0 (setup_in s).count in
+    length (opened_tasks s) ≤ most_writers + length (filter (setup_in s).rescuer all) + length (filter (is_disk (setup_in s)) all) + 1
 tasks_counted s =
-    let all = range_with_len 0 (setup s).count in
+    let all = range_with_len 0 (setup_in s).count in
     let ws = map (λ writer. Writer writer (todos_of s writer) NoBio rests) (writers s) in
-    let rs = map (λ dev. Rescuer (at dev) rests) (filter (setup s).rescuer all) in
-    let cs = map (λ dev. Completer (at dev) Empty) (filter (is_disk (setup s)) all) in
+    let rs = map (λ dev. Rescuer (device_at dev) rests) (filter (setup_in s).rescuer all) in
+    let cs = map (λ dev. Completer (device_at dev) Empty) (filter (is_disk (setup_in s)) all) in
     omega (
       arith,
       length-append ws (rs ++ (cs ++ keepers (duties s))),
       length-append rs (cs ++ keepers (duties s)),
       length-append cs (keepers (duties s)),
       length-map (writers s) (λ writer. Writer writer (todos_of s writer) NoBio rests),
-      length-map (filter (setup s).rescuer all) (λ dev. Rescuer (at dev) rests),
-      length-map (filter (is_disk (setup s)) all) (λ dev. Completer (at dev) Empty),
+      length-map (filter (setup_in s).rescuer all) (λ dev. Rescuer (device_at dev) rests),
+      length-map (filter (is_disk (setup_in s)) all) (λ dev. Completer (device_at dev) Empty),
       few_of (λ writer. list_any (is_by writer) (todos s)) (range_with_len 0 most_writers),
       length-range_with_len 0 most_writers,
       one_keeper (duties s),
     )
 
-few_in : (s : Scenario) → IsStack s.stack → IsFitStack s.stack → length (tasks s) ≤ most_tasks
+few_in : (s : Scenario) → IsStack s.stack → IsFitStack s.stack → length (opened_tasks s) ≤ most_tasks
 few_in s good fit =
-    let all = range_with_len 0 (setup s).count in
-    let apart = few_of_both (setup s).rescuer (is_disk (setup s))
-    (λ dev rescuer is. disks_have_none s.stack good fit dev rescuer (and_parts (is_device (setup s) dev) (keeps_data (tree s.stack dev)) is).1) all in
+    let all = range_with_len 0 (setup_in s).count in
+    let apart = few_of_both (setup_in s).rescuer (is_disk (setup_in s))
+    (λ dev rescuer is. disks_have_none s.stack good fit dev rescuer (and_parts (is_device (setup_in s) dev) (keeps_data (tree s.stack dev)) is).1) all in
     let devices = good.few in
-    omega (arith, tasks_counted s, apart, length-range_with_len 0 (setup s).count, devices)
+    omega (arith, tasks_counted s, apart, length-range_with_len 0 (setup_in s).count, devices)
 
 pub few_tasks : (o : Opened) → IsOpened o → length o.tasks.items ≤ most_tasks
 few_tasks o opened =

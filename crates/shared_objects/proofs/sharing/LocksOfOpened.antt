@@ -10,7 +10,7 @@ use Rattle.model_disks.specs.Disks.{DiskState}
 use Rattle.stack_base.specs.declared.ids.DevId.{DevId}
 use Rattle.stack_base.specs.declared.ids.SetId.{SetId}
 use Rattle.run_machine.specs.Laws.{Object, OfPool, OfRescuer, OfDisk, OfBook, OfTally}
-use Rattle.run_machine.specs.Opened.{at}
+use Rattle.run_machine.specs.Opened.{device_at}
 use Rattle.task_core.specs.declared.plain.index.ObjectIndex.{ObjectIndex}
 use Rattle.task_core.specs.declared.plain.Plain.{Plain}
 use Rattle.task_core.specs.Plains.{book_number, disk_number, list_number, records_number, set_number, stage_of}
@@ -84,13 +84,13 @@ module _ (locks : Locks) (can : CanShare locks.common.value.opened) (round : Are
     records = row_locked slip_key pool_mark OfPool (λ (p : LedgerPool). p.ledger.no) common (λ o. refl) plain.records.items locks.records.items round.records
         (is_slips (stage_of plain)) locks.index.records (tables (λ i. AreAt records_number (is_slips (stage_of plain)) i.records plain.records.items) can.holds.entered.records) (λ k d lt. (can.records k d lt).1);
     lists = row_locked dev_key list_mark OfRescuer (λ (r : Rescue). r.dev.0) common (λ o. refl) plain.lists.items locks.lists.items round.lists
-        (λ dev. has_rescuer (stage_of plain) (at dev)) locks.index.lists
-        (tables (λ i. AreAt list_number (λ dev. has_rescuer (stage_of plain) (at dev)) i.lists plain.lists.items) can.holds.entered.lists) (λ k d lt. (can.lists k d lt).1);
+        (λ dev. has_rescuer (stage_of plain) (device_at dev)) locks.index.lists
+        (tables (λ i. AreAt list_number (λ dev. has_rescuer (stage_of plain) (device_at dev)) i.lists plain.lists.items) can.holds.entered.lists) (λ k d lt. (can.lists k d lt).1);
     disks = are_locked dev_key disk_mark OfDisk (λ (disk : DiskState). disk.dev.0) common (λ o. refl) (disks_by_device plain.disks.items) locks.disks.items round.disks
-        disk_number (λ dev. has_disk (stage_of plain) (at dev)) locks.index.disks plain.disks.items
+        disk_number (λ dev. has_disk (stage_of plain) (device_at dev)) locks.index.disks plain.disks.items
         (weaker_two _ (λ (disk : DiskState) (lock : DevId × LockId (Stamped DiskState)). dev_key lock.0 ≡ disk_number disk) (λ disk lock is. ap dev_key is.0) plain.disks.items locks.disks.items
         (of_made (λ (disk : DiskState). (disk.dev, disk)) _ plain.disks.items locks.disks.items round.disks))
-        (tables (λ i. AreAt disk_number (λ dev. has_disk (stage_of plain) (at dev)) i.disks plain.disks.items) can.holds.entered.disks)
+        (tables (λ i. AreAt disk_number (λ dev. has_disk (stage_of plain) (device_at dev)) i.disks plain.disks.items) can.holds.entered.disks)
         (All-map (λ (entry : DevId × DiskState). entry.1.dev.0 ≡ dev_key entry.0) (λ (disk : DiskState). (disk.dev, disk)) plain.disks.items (λ k d lt. refl));
     books = row_locked writer_key book_mark OfBook (λ (b : BookState). b.writer) common (λ o. refl) plain.books.items locks.books.items round.books
         (has_book (stage_of plain)) locks.index.books (tables (λ i. AreAt book_number (has_book (stage_of plain)) i.books plain.books.items) can.holds.entered.books) (λ k d lt. (can.books k d lt).1);

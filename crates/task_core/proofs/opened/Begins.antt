@@ -30,12 +30,12 @@ run_begins o is =
 -- and all that stays is that of the scenario, with the ledgers of the pools that were opened
 pub scene_is : (o : Opened) → IsOpened o → scene_of_objects o.objects (length o.tasks.items) ≡ scene (scenario_in o) (stage_of o.objects).ledger
 scene_is o is =
-    let count : length o.tasks.items ≡ length (opened.tasks (scenario_in o)) =
+    let count : length o.tasks.items ≡ length (opened.opened_tasks (scenario_in o)) =
     sym (length-map o.tasks.items (λ (task : TaskOf). task.state)) ∙ ap length is.tasks in
     let ledger = (stage_of o.objects).ledger in
     ap (λ setup. scene_with ledger setup (length o.tasks.items) (stage_of o.objects).writes) is.setup
-    ∙ ap (λ tasks. scene_with ledger (opened.setup (scenario_in o)) tasks (stage_of o.objects).writes) count
-    ∙ ap (scene_with ledger (opened.setup (scenario_in o)) (length (opened.tasks (scenario_in o)))) is.writes
+    ∙ ap (λ tasks. scene_with ledger (opened.setup_in (scenario_in o)) tasks (stage_of o.objects).writes) count
+    ∙ ap (scene_with ledger (opened.setup_in (scenario_in o)) (length (opened.opened_tasks (scenario_in o)))) is.writes
 
 pub opened_begins : OpenedBegins
 opened_begins = record { state = run_begins; scene_is = scene_is }

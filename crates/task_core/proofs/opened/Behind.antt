@@ -29,7 +29,7 @@ use Rattle.work_text.specs.declared.Work.{Work}
 use Rattle.work_text.proofs.Fit.{work_is_fit}
 use Rattle.task_core.specs.opened.NewTasks.{AreServableWrites, reserves_in}
 use Rattle.run_machine.specs.ReadBehind.{IsReadBehind}
-use Rattle.run_machine.specs.Opened.{at, records_of as records_at, reserve_of}
+use Rattle.run_machine.specs.Opened.{device_at, records_of as records_at, reserve_of}
 use Rattle.task_core.specs.opened.Openings.{has_set_at}
 use Rattle.task_steps.specs.Stage.{has_mirror_in}
 use Rattle.task_steps.specs.Routed.{Routing, copies_bios, keeps, routing_setup}
@@ -41,31 +41,31 @@ pub use Rattle.task_core.proofs.opened.ScriptsBehind.{scripts_alone, scripts_of_
 
 -- reserves
 module _ (routing : Routing) (good : IsStack routing.stack) (fit : IsFitStack routing.stack) where
-  device_at : (dev : ℕ) → nat_lt dev (length routing.stack.devices.items) ≡ true
+  device_there : (dev : ℕ) → nat_lt dev (length routing.stack.devices.items) ≡ true
       → (device : Device) × (slice_get routing.stack.devices.items dev ≡ Some device)
-  device_at dev below = elim (slice_get_cases routing.stack.devices.items dev).1 [
+  device_there dev below = elim (slice_get_cases routing.stack.devices.items dev).1 [
     | inl there ↦ (there.0, there.2)
     | inr past ↦ let lt = ltb-true dev (length routing.stack.devices.items) below in absurd (omega (arith, lt, past.0))
   ]
 
-  pub sets_kept : (dev : ℕ) → has_set_at routing (suc dev) ≡ true → 1 ≤ reserve_of routing.stack (Bios (at dev))
+  pub sets_kept : (dev : ℕ) → has_set_at routing (suc dev) ≡ true → 1 ≤ reserve_of routing.stack (Bios (device_at dev))
   sets_kept dev used =
       let parts = and_parts (nat_lt dev (length routing.stack.devices.items)) (not (keeps_data (tree routing.stack dev))) used in
-      let device = device_at dev parts.0 in
+      let device = device_there dev parts.0 in
       let keeps_none = sym (data_by routing.stack good dev device.0 device.1 (shape_of device.0.kind) refl) ∙ not-true (keeps_data (tree routing.stack dev)) parts.1 in
       subst (λ n. 1 ≤ n) (sym (ap (λ o. option_map_or (λ (d : Device). d.reserve) o 0) device.1))
       (bios_kept device.0.kind device.0.reserve device.0.rescuer keeps_none (fit.devices dev device.0 device.1).reserves)
 
-  pub slips_are_kept : (dev : ℕ) → has_mirror_in routing dev ≡ true → 1 ≤ reserve_of routing.stack (Records (at dev))
+  pub slips_are_kept : (dev : ℕ) → has_mirror_in routing dev ≡ true → 1 ≤ reserve_of routing.stack (Records (device_at dev))
   slips_are_kept dev used =
       let parts = and_parts (nat_lt dev (length routing.stack.devices.items)) (is_mirror (tree routing.stack dev)) used in
-      let device = device_at dev parts.0 in
+      let device = device_there dev parts.0 in
       let copies_all = sym (mirror_by routing.stack good dev device.0 device.1 (shape_of device.0.kind) refl) ∙ parts.1 in
       subst (λ n. 1 ≤ n) (sym (ap (λ o. option_map_or (λ (d : Device). records_at d.kind) o 0) device.1))
       (slips_kept device.0.kind device.0.reserve device.0.rescuer copies_all (fit.devices dev device.0 device.1).reserves)
 
   -- and what has no pool keeps nothing
-  pub no_set_keeps : (dev : ℕ) → has_set (routing_setup routing) dev ≡ false → reserve_of routing.stack (Bios (at dev)) ≡ 0
+  pub no_set_keeps : (dev : ℕ) → has_set (routing_setup routing) dev ≡ false → reserve_of routing.stack (Bios (device_at dev)) ≡ 0
   no_set_keeps dev none = by_found (slice_get routing.stack.devices.items dev) refl
     where
       keeps_it : (device : Device) → slice_get routing.stack.devices.items dev ≡ Some device → (b : Bool) → keeps (shape_of device.kind) ≡ b → b ≡ true
@@ -75,13 +75,13 @@ module _ (routing : Routing) (good : IsStack routing.stack) (fit : IsFitStack ro
           let keeps_none = data_by routing.stack good dev device q (shape_of device.kind) refl ∙ e in
           absurd (both_ways (has_set (routing_setup routing) dev) none (rw (below, keeps_none) refl))
 
-      by_found : (o : Option Device) → slice_get routing.stack.devices.items dev ≡ o → reserve_of routing.stack (Bios (at dev)) ≡ 0
+      by_found : (o : Option Device) → slice_get routing.stack.devices.items dev ≡ o → reserve_of routing.stack (Bios (device_at dev)) ≡ 0
       by_found None q = ap (λ o. option_map_or (λ (d : Device). d.reserve) o 0) q
       by_found (Some device) q =
           ap (λ o. option_map_or (λ (d : Device). d.reserve) o 0) q
           ∙ disks_keep_none device.kind device.reserve device.rescuer (keeps_it device q (keeps (shape_of device.kind)) refl) (fit.devices dev device q).reserves
 
-  pub no_slips_keep : (dev : ℕ) → has_mirror_in routing dev ≡ false → reserve_of routing.stack (Records (at dev)) ≡ 0
+  pub no_slips_keep : (dev : ℕ) → has_mirror_in routing dev ≡ false → reserve_of routing.stack (Records (device_at dev)) ≡ 0
   no_slips_keep dev none = by_found (slice_get routing.stack.devices.items dev) refl
     where
       copies_none : (device : Device) → slice_get routing.stack.devices.items dev ≡ Some device → (b : Bool) → copies_bios (shape_of device.kind) ≡ b → b ≡ false
@@ -91,7 +91,7 @@ module _ (routing : Routing) (good : IsStack routing.stack) (fit : IsFitStack ro
           let copies_all = mirror_by routing.stack good dev device q (shape_of device.kind) refl ∙ e in
           absurd (both_ways (has_mirror_in routing dev) none (rw (below, copies_all) refl))
 
-      by_found : (o : Option Device) → slice_get routing.stack.devices.items dev ≡ o → reserve_of routing.stack (Records (at dev)) ≡ 0
+      by_found : (o : Option Device) → slice_get routing.stack.devices.items dev ≡ o → reserve_of routing.stack (Records (device_at dev)) ≡ 0
       by_found None q = ap (λ o. option_map_or (λ (d : Device). records_at d.kind) o 0) q
       by_found (Some device) q =
           ap (λ o. option_map_or (λ (d : Device). records_at d.kind) o 0) q

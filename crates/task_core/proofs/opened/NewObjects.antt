@@ -31,7 +31,7 @@ use Rattle.run_machine.specs.Events.{pool_of}
 use Rattle.task_core.specs.opened.Filled.{AreMade}
 use Rattle.run_machine.specs.Objects.{Objects, TallyState}
 use Rattle.task_core.specs.ObjectsOf.{AreObjectsOf, IsNodeOf}
-use Rattle.run_machine.specs.Opened.{at, reserve_of, script_at, opened_disk, opened_objects}
+use Rattle.run_machine.specs.Opened.{device_at, reserve_of, script_at, opened_disk, opened_objects}
 use Rattle.task_core.specs.opened.Openings.{has_pool, widest, AreOpened, IsNewPool, set_at, set_index, has_set_at, IsNewSet, AreSets, slip_index, IsNewRecords, AreRecords, itself, IsNewDisk, AreDisks, IsNewList, AreLists, IsNewBook, AreBooks}
 use Rattle.task_core.specs.Plains.{set_number, records_number, no_pool, list_number, disk_number, book_number, no_book, by_kind, pool_at, tally_of, objects_of, stage_of, AreEntered}
 use Rattle.task_steps.specs.Routed.{Routing, places_at, routing_setup}
@@ -193,7 +193,7 @@ module _ (routing : Routing) (good : IsStack routing.stack) (scripts : List (Poo
         subst (λ n. IsPoolOf routing scripts reserves n (records_found records n)) is
         (look_used records_number slip_index (has_mirror_in routing) (IsNewRecords routing scripts reserves) (length routing.stack.devices.items) records table all
         (IsPoolOf routing scripts reserves (slip_index dev)) (λ entry. entry.1) (no_pool routing.stack some) dev lt used
-        (λ entry made. made_is (Records (at dev)) entry.1 (omega (arith, lt, few)) made))
+        (λ entry made. made_is (Records (device_at dev)) entry.1 (omega (arith, lt, few)) made))
 
     unused_slips : (number : ℕ) → has_mirror_in routing (number / 2) ≡ false → has_pool routing number ≡ false
         → IsPoolOf routing scripts reserves number (records_found records number)
@@ -324,7 +324,7 @@ module _ (plain : Plain) (good : IsStack plain.stage.value.stack) (scripts : Lis
       dev_is = refl;
       sectors = length-replicate (size (tree routing.stack dev)) zero_sector;
       bads = refl;
-      pending = All-nil (λ item. IsServed stage item × (item.bio.dev ≡ at dev));
+      pending = All-nil (λ item. IsServed stage item × (item.bio.dev ≡ device_at dev));
     };
     book = λ writer. record {
       writer_is = refl;

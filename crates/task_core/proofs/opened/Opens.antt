@@ -34,7 +34,7 @@ use Rattle.task_core.specs.opened.OpenTasks.{AreTasksOf}
 use Rattle.run_machine.specs.Objects.{Objects, TallyState}
 use Rattle.task_core.specs.opened.OfOne.{states, AreOfOne, IsOpened, scenario_in}
 use Rattle.run_machine.specs.ReadBehind.{IsReadBehind}
-use Rattle.run_machine.specs.Opened.{Change, Scenario, at, is_by, todos, todos_of, writers, places_of, reserve_of, script_at, keepers, duties, duties_of, writes_from, round_count, tasks, writers_of, tally_in}
+use Rattle.run_machine.specs.Opened.{Change, Scenario, device_at, is_by, todos, todos_of, writers, places_of, reserve_of, script_at, keepers, duties, duties_of, writes_from, round_count, opened_tasks, writers_of, tally_in}
 use Rattle.run_machine.specs.Opened as opened
 use Rattle.task_core.specs.opened.Openings.{widest, AreOpened, AreRows}
 use Rattle.task_core.specs.Plains.{objects_of, stage_of}
@@ -83,7 +83,7 @@ all_passing p (x ∷ xs) = by_test (all_passing p xs) (p x) refl
     by_test rest false q = let is : filter p xs ≡ filter p (x ∷ xs) = rw (q) refl in subst (All (λ x. p x ≡ true)) is rest
 
 -- the tasks of a scenario are at home in objects of it
-module _ (s : Scenario) (stage : Stage) (stacks : stage.routing.stack ≡ s.stack) (setups : routing_setup stage.routing ≡ opened.setup s)
+module _ (s : Scenario) (stage : Stage) (stacks : stage.routing.stack ≡ s.stack) (setups : routing_setup stage.routing ≡ opened.setup_in s)
     (many : stage.writes ≡ length s.writes) (paired : length s.rounds ≡ length s.writes) (served : All (IsWrite s.stack) s.writes)
     (segments : All (λ (write : Write). write.count ≤ 2048) s.writes) (changes : All (λ (change : Change). IsTrue (is_pool stage change.pool) × (1 ≤ change.min) × (change.min ≤ stage.most (pool_number change.pool))) s.changes) where
   new_submission : IsSubmissionOf stage rests
@@ -117,25 +117,25 @@ module _ (s : Scenario) (stage : Stage) (stacks : stage.routing.stack ≡ s.stac
       (λ writer is. (writer_booked writer is, All-filter (is_by writer) (TodoFits stage) (todos s) todos_fit, tt, new_submission))
       (writers s) (all_passing (λ writer. list_any (is_by writer) (todos s)) (range_with_len 0 8)))
 
-  rescuers_home : All (IsTaskOf stage) (map (λ dev. Rescuer (at dev) rests) (filter (opened.setup s).rescuer (range_with_len 0 (opened.setup s).count)))
+  rescuers_home : All (IsTaskOf stage) (map (λ dev. Rescuer (device_at dev) rests) (filter (opened.setup_in s).rescuer (range_with_len 0 (opened.setup_in s).count)))
   rescuers_home =
-      All-map (IsTaskOf stage) (λ dev. Rescuer (at dev) rests) (filter (opened.setup s).rescuer (range_with_len 0 (opened.setup s).count))
+      All-map (IsTaskOf stage) (λ dev. Rescuer (device_at dev) rests) (filter (opened.setup_in s).rescuer (range_with_len 0 (opened.setup_in s).count))
       (λ k d lt.
-      let devices = filter (opened.setup s).rescuer (range_with_len 0 (opened.setup s).count) in
-      let has : (opened.setup s).rescuer (get_or devices k d) ≡ true = all_passing (opened.setup s).rescuer (range_with_len 0 (opened.setup s).count) k d lt in
-      let below = All-filter (opened.setup s).rescuer (λ dev. dev < (opened.setup s).count) (range_with_len 0 (opened.setup s).count)
-      (below_all (opened.setup s).count) k d lt in
-      let known = lt-ltb (get_or devices k d) (opened.setup s).count below in
-      let both : (nat_lt (get_or devices k d) (opened.setup s).count && (opened.setup s).rescuer (get_or devices k d)) ≡ true =
-      ap (λ b. b && (opened.setup s).rescuer (get_or devices k d)) known ∙ has in
+      let devices = filter (opened.setup_in s).rescuer (range_with_len 0 (opened.setup_in s).count) in
+      let has : (opened.setup_in s).rescuer (get_or devices k d) ≡ true = all_passing (opened.setup_in s).rescuer (range_with_len 0 (opened.setup_in s).count) k d lt in
+      let below = All-filter (opened.setup_in s).rescuer (λ dev. dev < (opened.setup_in s).count) (range_with_len 0 (opened.setup_in s).count)
+      (below_all (opened.setup_in s).count) k d lt in
+      let known = lt-ltb (get_or devices k d) (opened.setup_in s).count below in
+      let both : (nat_lt (get_or devices k d) (opened.setup_in s).count && (opened.setup_in s).rescuer (get_or devices k d)) ≡ true =
+      ap (λ b. b && (opened.setup_in s).rescuer (get_or devices k d)) known ∙ has in
       (ap (λ (su : Setup). nat_lt (get_or devices k d) su.count && su.rescuer (get_or devices k d)) setups ∙ both, new_submission))
 
-  completers_home : All (IsTaskOf stage) (map (λ dev. Completer (at dev) Empty) (filter (is_disk (opened.setup s)) (range_with_len 0 (opened.setup s).count)))
+  completers_home : All (IsTaskOf stage) (map (λ dev. Completer (device_at dev) Empty) (filter (is_disk (opened.setup_in s)) (range_with_len 0 (opened.setup_in s).count)))
   completers_home =
-      All-map (IsTaskOf stage) (λ dev. Completer (at dev) Empty) (filter (is_disk (opened.setup s)) (range_with_len 0 (opened.setup s).count))
-      (All-weaker (λ dev. is_disk (opened.setup s) dev ≡ true) (λ dev. IsTaskOf stage (Completer (at dev) Empty))
-      (λ dev is. (ap (λ (su : Setup). is_disk su dev) setups ∙ is, tt)) (filter (is_disk (opened.setup s)) (range_with_len 0 (opened.setup s).count))
-      (all_passing (is_disk (opened.setup s)) (range_with_len 0 (opened.setup s).count)))
+      All-map (IsTaskOf stage) (λ dev. Completer (device_at dev) Empty) (filter (is_disk (opened.setup_in s)) (range_with_len 0 (opened.setup_in s).count))
+      (All-weaker (λ dev. is_disk (opened.setup_in s) dev ≡ true) (λ dev. IsTaskOf stage (Completer (device_at dev) Empty))
+      (λ dev is. (ap (λ (su : Setup). is_disk su dev) setups ∙ is, tt)) (filter (is_disk (opened.setup_in s)) (range_with_len 0 (opened.setup_in s).count))
+      (all_passing (is_disk (opened.setup_in s)) (range_with_len 0 (opened.setup_in s).count)))
 
   abbrev at_round : ℕ → Change → Bool
   at_round round change = change.round == round
@@ -152,11 +152,11 @@ module _ (s : Scenario) (stage : Stage) (stacks : stage.routing.stack ≡ s.stac
   keepers_home [] all = All-nil (IsTaskOf stage)
   keepers_home (duty ∷ given) all = All-cons (IsTaskOf stage) (Keeper (Keeps (duty ∷ given))) [] all (All-nil (IsTaskOf stage))
 
-  tasks_home : All (IsTaskOf stage) (tasks s)
+  tasks_home : All (IsTaskOf stage) (opened_tasks s)
   tasks_home =
       All-append (IsTaskOf stage) (map (λ writer. Writer writer (todos_of s writer) NoBio rests) (writers s)) _ writers_home
-      (All-append (IsTaskOf stage) (map (λ dev. Rescuer (at dev) rests) (filter (opened.setup s).rescuer (range_with_len 0 (opened.setup s).count))) _ rescuers_home
-      (All-append (IsTaskOf stage) (map (λ dev. Completer (at dev) Empty) (filter (is_disk (opened.setup s)) (range_with_len 0 (opened.setup s).count))) _ completers_home
+      (All-append (IsTaskOf stage) (map (λ dev. Rescuer (device_at dev) rests) (filter (opened.setup_in s).rescuer (range_with_len 0 (opened.setup_in s).count))) _ rescuers_home
+      (All-append (IsTaskOf stage) (map (λ dev. Completer (device_at dev) Empty) (filter (is_disk (opened.setup_in s)) (range_with_len 0 (opened.setup_in s).count))) _ completers_home
       (keepers_home (duties s) (all_flat (DutyFits stage) (duties_of s) (range_with_len 1 (round_count s - 1))
       (λ k d lt. round_home (get_or (range_with_len 1 (round_count s - 1)) k d))))))
 
@@ -165,7 +165,7 @@ abbrev objects_by : Stack → (ℕ → ℕ) → List (PoolId × Answers) → Tal
 objects_by stack places scripts tally = record {
   pool = λ number. pool.opened (reserve_of stack (pool_of number)) (script_at scripts number);
   rescue = λ dev. [];
-  disk = λ dev. disk.blank_disk (at dev) (size (tree stack dev)) (bads_of stack dev);
+  disk = λ dev. disk.blank_disk (device_at dev) (size (tree stack dev)) (bads_of stack dev);
   book = λ writer. record { writer = writer; nodes = replicate (places writer) None };
   tally = tally;
 }
@@ -192,7 +192,7 @@ module _ (o : Opened) (routing : Routing) (counts : List ℕ) (read : IsReadBehi
   all_places : ◌≡◌ {A = ℕ → ℕ} (places_at routing.places) (places_of s)
   all_places = shown.all_places s.stack s.scripts o.work.value sharing routing o.tasks.items counts are
 
-  setup_here : routing_setup stage.routing ≡ opened.setup s
+  setup_here : routing_setup stage.routing ≡ opened.setup_in s
   setup_here = ap routing_setup objects.routing_is ∙ shown.setup_is s.stack s.scripts o.work.value sharing routing o.tasks.items counts are
 
   stack_here : stage.routing.stack ≡ s.stack
@@ -206,7 +206,7 @@ module _ (o : Opened) (routing : Routing) (counts : List ℕ) (read : IsReadBehi
       objects.objects ∙ ap (λ (st : Stack). objects_by st (places_at routing.places) s.scripts (tally_in s.rounds s.writes)) same
       ∙ ap (λ places. objects_by s.stack places s.scripts (tally_in s.rounds s.writes)) all_places
 
-  states_are : states o.tasks.items ≡ tasks s
+  states_are : states o.tasks.items ≡ opened_tasks s
   states_are = shown.states_are s.stack s.scripts o.work.value sharing routing o.tasks.items counts are
 
   -- the changes of reserves

@@ -22,7 +22,7 @@ use Rattle.decl_text.specs.Refusals.{known_after}
 use Rattle.decl_text.specs.declared.item.What.{What}
 use Rattle.decl_text.specs.declared.item.What.TheVariants as what
 use Rattle.work_text.specs.Fit.{IsPoolIn}
-use Rattle.run_machine.specs.Opened.{at, is_numbered, script_at}
+use Rattle.run_machine.specs.Opened.{device_at, is_numbered, script_at}
 use Rattle.task_core.specs.opened.Openings.{has_pool}
 use Rattle.task_steps.specs.Routed.{Routing}
 use Rattle.task_core.proofs.opened.PoolsBehind.{pool_there, number_small, of_stack}
@@ -51,12 +51,12 @@ device_in devices number device found does e = by_kind does e
     by_kind : (does : What) → device.what ≡ does → All (IsPoolIn devices) (device_pools number does)
     by_kind (what.Disk sectors) e = All-nil (IsPoolIn devices)
     by_kind (what.Mirror records) e =
-        All-cons (IsPoolIn devices) (Records (at number)) (Bios (at number) ∷ []) (slips e)
-        (All-cons (IsPoolIn devices) (Bios (at number)) [] (set e) (All-nil (IsPoolIn devices)))
-    by_kind what.Linear e = All-cons (IsPoolIn devices) (Bios (at number)) [] (set e) (All-nil (IsPoolIn devices))
-    by_kind (what.Stripe chunk) e = All-cons (IsPoolIn devices) (Bios (at number)) [] (set e) (All-nil (IsPoolIn devices))
-    by_kind (what.Zoned chunk) e = All-cons (IsPoolIn devices) (Bios (at number)) [] (set e) (All-nil (IsPoolIn devices))
-    by_kind (what.Limit longest chunk) e = All-cons (IsPoolIn devices) (Bios (at number)) [] (set e) (All-nil (IsPoolIn devices))
+        All-cons (IsPoolIn devices) (Records (device_at number)) (Bios (device_at number) ∷ []) (slips e)
+        (All-cons (IsPoolIn devices) (Bios (device_at number)) [] (set e) (All-nil (IsPoolIn devices)))
+    by_kind what.Linear e = All-cons (IsPoolIn devices) (Bios (device_at number)) [] (set e) (All-nil (IsPoolIn devices))
+    by_kind (what.Stripe chunk) e = All-cons (IsPoolIn devices) (Bios (device_at number)) [] (set e) (All-nil (IsPoolIn devices))
+    by_kind (what.Zoned chunk) e = All-cons (IsPoolIn devices) (Bios (device_at number)) [] (set e) (All-nil (IsPoolIn devices))
+    by_kind (what.Limit longest chunk) e = All-cons (IsPoolIn devices) (Bios (device_at number)) [] (set e) (All-nil (IsPoolIn devices))
 
 abbrev numbered : List Declared → List (ℕ × Declared)
 numbered devices = zip (range_with_len 0 (length devices)) devices

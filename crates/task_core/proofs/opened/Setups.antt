@@ -11,7 +11,7 @@ use Rattle.stack_base.specs.declared.stack.Stack.{Stack}
 use Rattle.layout_model.specs.declared.write.Write.{Write}
 use Rattle.layout_model.specs.NeedCounts.{nodes}
 use Rattle.work_text.specs.declared.Work.{Work}
-use Rattle.run_machine.specs.Opened.{Scenario, is_by, places_of, tasks, todos, writers_of}
+use Rattle.run_machine.specs.Opened.{Scenario, is_by, places_of, opened_tasks, todos, writers_of}
 use Rattle.run_machine.specs.Opened as opened
 use Rattle.run_machine.specs.Scenario.{scenario_by}
 use Rattle.run_machine.specs.Scene.{setup_of}
@@ -55,10 +55,10 @@ module _ (stack : Stack) (scripts : List (PoolId × Answers)) (work : Work) (sha
     pub all_places : ◌≡◌ {A = ℕ → ℕ} (places_at routing.places) (places_of s)
     all_places = λ i writer. places_are writer i
 
-    pub setup_is : routing_setup routing ≡ opened.setup s
+    pub setup_is : routing_setup routing ≡ opened.setup_in s
     setup_is = ap (λ (st : Stack). setup_of st (places_at routing.places)) are.stack ∙ ap (setup_of s.stack) all_places
 
-    pub states_are : states all ≡ tasks s
+    pub states_are : states all ≡ opened_tasks s
     states_are =
         ap states are.tasks
         ∙ shown_states routing (writers_of s.rounds s.writes (range_with_len 0 8) ++ others_in (routing_setup routing) work)

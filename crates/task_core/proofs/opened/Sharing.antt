@@ -18,7 +18,7 @@ use Rattle.task_core.specs.declared.opening.tasks.DeviceTasks.{DeviceTasks}
 use Rattle.task_core.specs.declared.opening.tasks.DeviceTasks.TheVariants as of_devices
 use Rattle.task_core.specs.opened.NewTasks.{device_tasks, writer_with, shown_tasks, AddsTasks, AreServableWrites, ArePlaced}
 use Rattle.run_machine.specs.Scene.{Setup, is_disk}
-use Rattle.run_machine.specs.Opened.{at, is_by, numbered, numbered_from, todos_by, nodes_of, is_writer, writers_of}
+use Rattle.run_machine.specs.Opened.{device_at, is_by, numbered, numbered_from, todos_by, nodes_of, is_writer, writers_of}
 use Rattle.run_machine.specs.Tasks.{Todo, TaskState, NoBio, Empty, Writer, Rescuer, Completer}
 use Rattle.run_machine.proofs.Passing.{filter_sum, none_passes}
 use Rattle.stack_base.proofs.NumberLemmas.{below_or_last}
@@ -155,8 +155,8 @@ kept_split f p n = ap (map f) (fill.filter_more p n) ∙ map-append f (filter p 
 
 pub device_split : (which : DeviceTasks) (setup : Setup) (n : ℕ)
     → device_tasks which setup (range_with_len 0 (n + 1)) ≡ device_tasks which setup (range_with_len 0 n) ++ device_tasks which setup (n ∷ [])
-device_split of_devices.Rescuers setup n = kept_split (λ dev. Rescuer (at dev) rests) setup.rescuer n
-device_split of_devices.Completers setup n = kept_split (λ dev. Completer (at dev) Empty) (is_disk setup) n
+device_split of_devices.Rescuers setup n = kept_split (λ dev. Rescuer (device_at dev) rests) setup.rescuer n
+device_split of_devices.Completers setup n = kept_split (λ dev. Completer (device_at dev) Empty) (is_disk setup) n
 
 -- there is a writer exactly where it has a write
 pub record IsSome {X : Type 0} (xs : List X) : Type 0 where

@@ -20,7 +20,7 @@ use Rattle.run_machine.specs.Maps.{upd}
 use Rattle.task_core.specs.Tables.{look_up}
 use Rattle.run_machine.specs.Requests.{Request, Reply}
 use Rattle.run_machine.specs.Objects.{Objects, MovesPool, Serves}
-use Rattle.run_machine.specs.Opened.{at, opened_disk}
+use Rattle.run_machine.specs.Opened.{device_at, opened_disk}
 use Rattle.task_steps.specs.Stage.{Stage, has_rescuer, has_disk, has_book, is_bios, is_slips, RequestFits, Owes}
 use Rattle.task_core.specs.ObjectsOf.{AreObjectsOf, AreNumbered}
 use Rattle.task_core.specs.Plains.{set_number, records_number, list_number, disk_number, book_number, no_pool, no_book, by_kind, bios_at, records_at, pool_at, objects_of, stage_of, AreEntered, Holds}
@@ -179,7 +179,7 @@ module _ (plain : Plain) (x : LedgerPool) (move : PoolMove) (moves : pool.PoolMo
   }
 
 -- one list of a rescuer
-module _ (plain : Plain) (holds : Holds plain) (d i : ℕ) (is : IsTrue (has_rescuer (stage_of plain) (at d))) (place : i ≡ slice_index_or plain.index.lists d 0)
+module _ (plain : Plain) (holds : Holds plain) (d i : ℕ) (is : IsTrue (has_rescuer (stage_of plain) (device_at d))) (place : i ≡ slice_index_or plain.index.lists d 0)
     (entry : DevId × Rescue) (value : entry ≡ get_or plain.lists.items i entry) where
   pub list_there : (objects_of plain).rescue d ≡ entry.1.bios
   list_there = looked list_number plain.index.lists plain.lists.items d i (holds.entered.lists d is) place entry value (λ e. e.1.bios) (λ m. [])
@@ -198,14 +198,14 @@ module _ (plain : Plain) (holds : Holds plain) (d i : ℕ) (is : IsTrue (has_res
       bios = holds.entered.bios;
       records = holds.entered.records;
       lists = places_stay list_number plain.index.lists plain.lists.items d i (holds.entered.lists d is) place entry value (entry.0, x) refl
-          (λ m. has_rescuer (stage_of plain) (at m)) holds.entered.lists;
+          (λ m. has_rescuer (stage_of plain) (device_at m)) holds.entered.lists;
       disks = holds.entered.disks;
       books = holds.entered.books;
       order = holds.entered.order;
     }
 
 -- one disk
-module _ (plain : Plain) (holds : Holds plain) (d i : ℕ) (is : IsTrue (has_disk (stage_of plain) (at d))) (place : i ≡ slice_index_or plain.index.disks d 0)
+module _ (plain : Plain) (holds : Holds plain) (d i : ℕ) (is : IsTrue (has_disk (stage_of plain) (device_at d))) (place : i ≡ slice_index_or plain.index.disks d 0)
     (entry : DiskState) (value : entry ≡ get_or plain.disks.items i entry) where
   pub disk_there : (objects_of plain).disk d ≡ entry
   disk_there =
@@ -227,7 +227,7 @@ module _ (plain : Plain) (holds : Holds plain) (d i : ℕ) (is : IsTrue (has_dis
       records = holds.entered.records;
       lists = holds.entered.lists;
       disks = places_stay disk_number plain.index.disks plain.disks.items d i (holds.entered.disks d is) place entry value x (ap (λ (dev : DevId). dev.0) same)
-          (λ m. has_disk (stage_of plain) (at m)) holds.entered.disks;
+          (λ m. has_disk (stage_of plain) (device_at m)) holds.entered.disks;
       books = holds.entered.books;
       order = numbers_stay disk_number plain.index.disks plain.disks.items d i (holds.entered.disks d is) place entry value x (ap (λ (dev : DevId). dev.0) same)
           ∙ holds.entered.order;

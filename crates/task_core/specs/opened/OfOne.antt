@@ -9,7 +9,7 @@ use Rattle.task_steps.specs.Homes.{IsTaskOf}
 use Rattle.task_core.specs.Leaving.{IsReservedForRun}
 use Rattle.task_core.specs.opened.NewTasks.{reserves_in}
 use Rattle.task_core.specs.opened.Openings.{AreRows, AreOpened}
-use Rattle.run_machine.specs.Opened.{Scenario, objects, tasks, no_task, tally_in}
+use Rattle.run_machine.specs.Opened.{Scenario, objects, opened_tasks, no_task, tally_in}
 use Rattle.run_machine.specs.Opened as opened
 use Rattle.task_core.specs.Plains.{objects_of, stage_of, Holds}
 use Rattle.task_core.specs.PlainSteps.{state_of_objects}
@@ -52,9 +52,9 @@ pub record IsOpened (o : Opened) : Type 0 where
   pub one : AreOfOne o.objects o.tasks.items
   pub routes : o.routes.value ≡ (stage_of o.objects).routing
   pub stack : (stage_of o.objects).routing.stack ≡ (scenario_in o).stack
-  pub setup : routing_setup (stage_of o.objects).routing ≡ opened.setup (scenario_in o)
+  pub setup : routing_setup (stage_of o.objects).routing ≡ opened.setup_in (scenario_in o)
   pub writes : (stage_of o.objects).writes ≡ length (scenario_in o).writes
   pub objects : objects_of o.objects ≡ objects (scenario_in o)
-  pub tasks : states o.tasks.items ≡ tasks (scenario_in o)
+  pub tasks : states o.tasks.items ≡ opened_tasks (scenario_in o)
   pub rows : AreRows (stage_of o.objects).routing o.accepted.value.scripts.items (reserves_in o.work.value.resizes.items) o.objects
   pub room : IsReservedForRun (scenario_in o).stack (length (scenario_in o).writes) o.room

@@ -18,7 +18,7 @@ use Rattle.task_core.specs.declared.plain.Plain.{Plain}
 use Rattle.run_machine.specs.Events.{pool_of}
 use Rattle.task_core.specs.opened.Filled.{AreMade, IsNext}
 use Rattle.run_machine.specs.Objects.{TallyState}
-use Rattle.run_machine.specs.Opened.{at, reserve_of, script_at, opened_disk, opened_objects}
+use Rattle.run_machine.specs.Opened.{device_at, reserve_of, script_at, opened_disk, opened_objects}
 use Rattle.task_core.specs.Plains.{set_number, records_number, list_number, disk_number, book_number, objects_of, stage_of, Holds}
 use Rattle.task_steps.specs.Routed.{Routing, places_at, routing_setup}
 use Rattle.task_steps.specs.Stage.{has_book_in, has_disk_in, has_mirror_in, has_rescuer_in}
@@ -44,7 +44,7 @@ NextDisk routing dev disks table more after = IsNext disk_number itself (has_dis
 
 -- the lists of rescuers, which are empty
 abbrev pub IsNewList : ℕ → DevId × Rescue → Type 0
-IsNewList dev entry = entry ≡ (at dev, record { dev = at dev; bios = [] })
+IsNewList dev entry = entry ≡ (device_at dev, record { dev = device_at dev; bios = [] })
 
 abbrev pub AreLists : Routing → ℕ → List (DevId × Rescue) → List ℕ → Type 0
 AreLists routing bound lists table = AreMade list_number itself (has_rescuer_in routing) IsNewList bound lists table
@@ -78,7 +78,7 @@ IsNewPool stack scripts reserves id pool = IsOpenPool scripts reserves id (reser
 -- the pools of bios: that of the writers' set first, and then those of devices
 abbrev pub set_at : ℕ → SetId
 set_at zero = Fs
-set_at (suc dev) = Of (at dev)
+set_at (suc dev) = Of (device_at dev)
 
 abbrev pub set_index : ℕ → ℕ
 set_index index = pool_number (bios_of (set_at index))
@@ -101,10 +101,10 @@ NextSet routing scripts reserves index bios table more after =
 
 -- the pools of the records of mirrors
 abbrev pub slip_index : ℕ → ℕ
-slip_index dev = pool_number (Records (at dev))
+slip_index dev = pool_number (Records (device_at dev))
 
 abbrev pub IsNewRecords : Routing → List (PoolId × Answers) → List (PoolId × ℕ) → ℕ → DevId × LedgerPool → Type 0
-IsNewRecords routing scripts reserves dev entry = IsNewPool routing.stack scripts reserves (Records (at dev)) entry.1
+IsNewRecords routing scripts reserves dev entry = IsNewPool routing.stack scripts reserves (Records (device_at dev)) entry.1
 
 abbrev pub AreRecords : Routing → List (PoolId × Answers) → List (PoolId × ℕ) → ℕ → List (DevId × LedgerPool) → List ℕ → Type 0
 AreRecords routing scripts reserves bound records table =

@@ -6,7 +6,7 @@ ghost use Rattle.layout_model.specs.May.{bads_of};
 ghost use Rattle.model_disks.specs.Disks.{IsBadRange};
 ghost use Rattle.stack_base.specs.PoolId.{pool_number};
 ghost use Rattle.stack_base.specs.declared.ids.PoolId.TheVariants.{Bios, Records};
-ghost use Rattle.run_machine.specs.Opened.{at, reserve_of, script_at};
+ghost use Rattle.run_machine.specs.Opened.{device_at, reserve_of, script_at};
 ghost use Rattle.fail_script.specs.Script.{only_tail};
 ghost use Rattle.task_core.specs.Plains.{tally_of};
 ghost use Rattle.task_core.specs.opened.Filled.{IsEntered};
@@ -209,8 +209,8 @@ pub fn open_objects(
     requires stack { IsStack stack.now }
     requires bios { 1 ≤ stack.now.fs_bios }
     requires vecs { 1 ≤ stack.now.fs_vecs }
-    requires sets { (dev : ℕ) → has_set_at routes.now (suc dev) ≡ true → 1 ≤ reserve_of stack.now (Bios (at dev)) }
-    requires records { (dev : ℕ) → has_mirror_in routes.now dev ≡ true → 1 ≤ reserve_of stack.now (Records (at dev)) }
+    requires sets { (dev : ℕ) → has_set_at routes.now (suc dev) ≡ true → 1 ≤ reserve_of stack.now (Bios (device_at dev)) }
+    requires records { (dev : ℕ) → has_mirror_in routes.now dev ≡ true → 1 ≤ reserve_of stack.now (Records (device_at dev)) }
     requires bads { (dev : ℕ) → All (IsBadRange (size (tree stack.now dev))) (bads_of stack.now dev) }
     requires scripts { All (λ script. pool_number script.0 < 2 ^ 32) scripts.now }
     requires reserves { All (λ reserve. pool_number reserve.0 < 2 ^ 32) reserves.now }

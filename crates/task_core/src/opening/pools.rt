@@ -4,7 +4,7 @@ ghost use Rattle.stack_base.specs.Stack.{IsStack};
 ghost use Rattle.stack_base.specs.Tree.{tree};
 ghost use Rattle.stack_base.specs.PoolId.{pool_number};
 ghost use Rattle.stack_base.specs.declared.ids.PoolId.TheVariants.{Bios, Records};
-ghost use Rattle.run_machine.specs.Opened.{at, reserve_of, script_at};
+ghost use Rattle.run_machine.specs.Opened.{device_at, reserve_of, script_at};
 ghost use Rattle.task_core.specs.opened.Openings.{device_count, widest, IsOpenPool, has_set_at, AreSets, NextSet, AreRecords, NextRecords};
 ghost use Rattle.task_steps.specs.Stage.{has_mirror_in};
 ghost use Rattle.task_steps.specs.Routed.{routing_setup};
@@ -128,7 +128,7 @@ pub(crate) fn open_sets(
     requires same { routes.now.stack ≡ stack.now }
     requires stack { IsStack stack.now }
     requires first { 1 ≤ stack.now.fs_bios }
-    requires some { (dev : ℕ) → has_set_at routes.now (suc dev) ≡ true → 1 ≤ reserve_of stack.now (Bios (at dev)) }
+    requires some { (dev : ℕ) → has_set_at routes.now (suc dev) ≡ true → 1 ≤ reserve_of stack.now (Bios (device_at dev)) }
     requires scripts { All (λ script. pool_number script.0 < 2 ^ 32) scripts.now }
     requires reserves { All (λ reserve. pool_number reserve.0 < 2 ^ 32) reserves.now }
     ensures { IfOk result (λ bios. AreSets routes.now scripts.now reserves.now (suc (device_count stack.now)) bios.items table.new) }
@@ -218,7 +218,7 @@ pub(crate) fn open_records(
 ) -> Result<Vec<(DevId, Pool<Slip>)>, AllocError>
     requires same { routes.now.stack ≡ stack.now }
     requires stack { IsStack stack.now }
-    requires some { (dev : ℕ) → has_mirror_in routes.now dev ≡ true → 1 ≤ reserve_of stack.now (Records (at dev)) }
+    requires some { (dev : ℕ) → has_mirror_in routes.now dev ≡ true → 1 ≤ reserve_of stack.now (Records (device_at dev)) }
     requires scripts { All (λ script. pool_number script.0 < 2 ^ 32) scripts.now }
     requires reserves { All (λ reserve. pool_number reserve.0 < 2 ^ 32) reserves.now }
     ensures { IfOk result (λ records. AreRecords routes.now scripts.now reserves.now (device_count stack.now) records.items table.new) }

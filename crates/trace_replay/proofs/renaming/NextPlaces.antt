@@ -11,7 +11,7 @@ use Rattle.run_machine.specs.declared.event.What.{What}
 use Rattle.run_machine.specs.declared.event.What.TheVariants as what
 use Rattle.run_machine.specs.Maps.{upd}
 use Rattle.run_machine.specs.Scene.{Scene}
-use Rattle.run_machine.specs.Opened.{scene, start, setup as setup_in}
+use Rattle.run_machine.specs.Opened.{scene, start, setup_in}
 use Rattle.run_machine.specs.Runs.{State, Steps, IsRun}
 use Rattle.block_core.specs.Rooms.{HasRoomInBooks}
 use Rattle.block_core.specs.Touches.{Touch, Opens, Shuts, Passes, touch_of}

@@ -1,6 +1,6 @@
 use Rattle.std.proofs.Common.{rules, ◌≤◌, Ok, Some, sym, ◌∙◌, ap, subst}
 use Rattle.bio_records.specs.Items.{item_of}
-use Rattle.run_machine.specs.Opened.{at}
+use Rattle.run_machine.specs.Opened.{device_at}
 use Rattle.object_things.specs.Disks.{DiskSays, KeepsChoice, disk_replied}
 use Rattle.object_things.specs.Stamps.{stage_in}
 use Rattle.object_things.specs.declared.disk.DiskAsk.TheVariants as ask
@@ -20,7 +20,7 @@ returns-clause-says c =
     let there = waits_there (stage_in c.args.stamp.now.common) c.args.disk.now.dev.0 c.min-at.result (item_of c.complete-done.result.el) c.args.disk.now c.requires.of c.complete-done.ensures.completes.taken in
     let up : c.min-at.result ≤ c.args.index = search rules in
     let is : DiskSays (stage_in c.args.stamp.now.common) (ask.Complete c.args.dev c.args.index) (says.Completed (Ok (Some (c.min-at.result, c.complete-done.result)))) =
-    (c.complete-done.ensures.alone, tt, up, (there.0, there.1 ∙ ap at (sym c.requires.own))) in
+    (c.complete-done.ensures.alone, tt, up, (there.0, there.1 ∙ ap device_at (sym c.requires.own))) in
     subst (DiskSays (stage_in c.args.stamp.now.common) (ask.Complete c.args.dev c.args.index)) (sym (ap (λ (r : Replied DiskSaid). r.said) c.reply-2.ensures)) is
 
 pub returns-clause-choice : goal.returns-clause-choice

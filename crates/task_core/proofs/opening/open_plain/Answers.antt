@@ -11,7 +11,7 @@ use Rattle.decl_text.specs.Accepting.{IsDeclaredSo}
 use Rattle.decl_text.specs.Fit.{IsFitStack}
 use Rattle.decl_text.proofs.Fits.{accepted_fit}
 use Rattle.task_core.specs.opened.NewTasks.{reserves_in}
-use Rattle.run_machine.specs.Opened.{at, reserve_of, script_at, in_round, rounds_in}
+use Rattle.run_machine.specs.Opened.{device_at, reserve_of, script_at, in_round, rounds_in}
 use Rattle.task_core.specs.opened.Openings.{has_pool, has_set_at}
 use Rattle.task_steps.specs.Stage.{has_mirror_in}
 use Rattle.task_core.proofs.opened.Behind.{bads_are, reserves_small, rounds_few, sets_kept, slips_are_kept}
@@ -41,14 +41,14 @@ pub open_objects-requires-clause-sets : goal.open_objects-requires-clause-sets
 open_objects-requires-clause-sets c =
     let routing = c.args.routes.now in
     let same = c.requires.same in
-    subst (λ (s : Stack). (dev : ℕ) → has_set_at routing (suc dev) ≡ true → 1 ≤ reserve_of s (Bios (at dev))) same
+    subst (λ (s : Stack). (dev : ℕ) → has_set_at routing (suc dev) ≡ true → 1 ≤ reserve_of s (Bios (device_at dev))) same
     (sets_kept routing (subst IsStack (sym same) c.args.accepted.now.is_stack) (subst IsFitStack (sym same) (accepted_fit c.args.accepted.now)))
 
 pub open_objects-requires-clause-records : goal.open_objects-requires-clause-records
 open_objects-requires-clause-records c =
     let routing = c.args.routes.now in
     let same = c.requires.same in
-    subst (λ (s : Stack). (dev : ℕ) → has_mirror_in routing dev ≡ true → 1 ≤ reserve_of s (Records (at dev))) same
+    subst (λ (s : Stack). (dev : ℕ) → has_mirror_in routing dev ≡ true → 1 ≤ reserve_of s (Records (device_at dev))) same
     (slips_are_kept routing (subst IsStack (sym same) c.args.accepted.now.is_stack) (subst IsFitStack (sym same) (accepted_fit c.args.accepted.now)))
 
 pub open_objects-requires-clause-bads : goal.open_objects-requires-clause-bads
