@@ -106,6 +106,7 @@ module _ (setup : Setup) where
   rescuer_stays dev (Copies bio master leg want) lists reply idle = ap (Rescuer dev) (submission_stays (Copies bio master leg want) lists reply idle)
   rescuer_stays dev (Breaks breach kept) lists reply idle = absurd idle
 
+  -- what a closed node holds is given back, which finds something always
   held_moves : (writer : ℕ) (closed : Closed) (vector : Option VectorItem) (bio : Option (Item Pad)) (slip : Option SlipItem) (parent : Option ℕ) (reply : Reply)
       → IsIdle (closed_request writer closed vector bio slip parent) reply → ⊥
   held_moves writer closed (Some vector) bio slip parent reply idle = idle
@@ -115,20 +116,23 @@ module _ (setup : Setup) where
   held_moves writer closed None None None None reply idle = idle
 
   pub task_stays : (x : TaskState) (reply : Reply) → IsIdle (request setup x) reply → answered setup x reply ≡ x
+  -- a writer and a rescuer, by what they submit
   task_stays (Writer number todos taken submission) reply idle = writer_stays number todos taken submission.doing submission.lists reply idle
   task_stays (Rescuer dev submission) reply idle = rescuer_stays dev submission.doing submission.lists reply idle
+  -- a completer finds nothing only where it carries nothing
   task_stays (Completer disk Empty) requests.Nothing idle = refl
   task_stays (Completer disk Empty) _ idle = absurd idle
   task_stays (Completer disk (Brings bio status)) reply idle = absurd idle
   task_stays (Completer disk (Carries writer closed)) reply idle =
       absurd (held_moves writer closed closed.held.vector closed.held.bio closed.held.slip closed.parent reply idle)
   task_stays (Completer disk (Fails breach kept)) reply idle = absurd idle
+  -- a keeper never finds nothing
   task_stays (Keeper (Keeps [])) reply idle = absurd idle
   task_stays (Keeper (Keeps (Resizes pool min later ∷ duties))) reply idle = absurd idle
   task_stays (Keeper (Keeps (Starts round later ∷ duties))) reply idle = absurd idle
   task_stays (Keeper (Stops breach)) reply idle = absurd idle
 
-  -- what a task asks for is fair
+  -- what a task asks for is fair: a submission first, then what a writer asks for besides it, a rescuer, and a completer with what it carries
   fair_submission : (objects : Objects) (doing : Doing) (lists : TaskLists) → IsFair objects (submission_request setup doing lists)
   fair_submission objects Rests lists = tt
   fair_submission objects (Breaks breach kept) lists = tt
@@ -172,12 +176,15 @@ module _ (setup : Setup) where
 
   pub fair_task : (objects : Objects) (x : TaskState) → ((pool : PoolId) (min later : ℕ) (duties : List Duty) → x ≡ Keeper (Keeps (Resizes pool min later ∷ duties))
       → (objects.pool (pool_number pool)).facts.out ≡ 0) → IsFair objects (request setup x)
+  -- a writer and a rescuer, by what they submit
   fair_task objects (Writer number todos taken submission) home = fair_writer objects number todos taken submission.doing submission.lists
   fair_task objects (Rescuer dev submission) home = fair_rescuer objects dev submission.doing submission.lists
+  -- a completer, by what it carries
   fair_task objects (Completer disk Empty) home = tt
   fair_task objects (Completer disk (Brings bio status)) home = tt
   fair_task objects (Completer disk (Carries writer closed)) home = fair_held objects writer closed closed.held.vector closed.held.bio closed.held.slip closed.parent
   fair_task objects (Completer disk (Fails breach kept)) home = tt
+  -- a keeper: of its duties only a pool's new reserve needs that nothing is out
   fair_task objects (Keeper (Keeps [])) home = tt
   fair_task objects (Keeper (Keeps (Resizes pool min later ∷ duties))) home = home pool min later duties refl
   fair_task objects (Keeper (Keeps (Starts round later ∷ duties))) home = tt

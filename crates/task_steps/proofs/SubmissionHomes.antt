@@ -122,21 +122,26 @@ module _ (stage : Stage) (lists : TaskLists) (within : ListsAreWithin stage.rout
   lists_served : BothHave (IsServed stage) lists
   lists_served = (served_all stage lists.list0 within.0 owned.0, served_all stage lists.list1 within.1 owned.1)
 
--- what a submission asks for
+-- what a submission asks for fits the objects
 pub submission_asks : (stage : Stage) → IsStack stage.routing.stack → (doing : Doing) (lists : TaskLists) → DoingFits stage.routing.stack doing → DoingIsHome stage doing
     → ListsAreWithin stage.routing.stack lists → BothHave (IsOwned stage) lists → RequestFits stage (submission_request (routing_setup stage.routing) doing lists)
+-- at rest, or broken off: it asks for nothing
 submission_asks stage good Rests lists fits home within owned = tt
 submission_asks stage good (Breaks breach kept) lists fits home within owned = tt
+-- a push: of a bio that can be served, at a disk
 submission_asks stage good (Drives bio ToPush) lists fits home within owned =
     (record { within = fits.0; writer = home.0.writer; home = home.0.home }, both_true _ _ (device_is stage bio.bio fits.0) fits.1)
+-- a cut: it takes, punts, and links
 submission_asks stage good (Drives bio (ToCut (Takes waits))) lists fits home within owned =
     set_is stage bio.bio fits.0 (cut_keeps_none (tree stage.routing.stack bio.bio.dev.0) bio.bio.range fits.1)
 submission_asks stage good (Drives bio (ToCut WantsPunt)) lists fits home within owned =
     (home.1, all_punted (IsServed stage) lists (lists_served stage lists within owned) bio.bio.dev)
 submission_asks stage good (Drives bio (ToCut (Links hand))) lists fits home within owned = (home.0.writer, tt)
+-- a mirror: it takes its record, and links its master
 submission_asks stage good (Drives bio ToRecord) lists fits home within owned = both_true _ _ (device_is stage bio.bio fits.0) fits.1
 submission_asks stage good (Drives bio (ToMaster slip)) lists fits home within owned =
     (home.0.writer, (some_leg stage.routing.stack good bio.bio.dev.0 fits.0.device fits.1, home.0.home, home.1))
+-- a leg, as a cut
 submission_asks stage good (Copies bio master leg (Takes waits)) lists fits home within owned =
     set_is stage bio fits.0 (legs_keep_none (tree stage.routing.stack bio.dev.0) leg fits.1)
 submission_asks stage good (Copies bio master leg WantsPunt) lists fits home within owned =
