@@ -16,7 +16,7 @@ pub use objects::book::{Book, NodeOutcome};
 pub use objects::disk::Disk;
 pub use objects::lists::{Lists, Rescue};
 pub use objects::node::{Closed, Holding, Node};
-pub use objects::part::{Data, Hand, Part, Slip, Vector};
+pub use objects::part::{Data, Hand, PlainBioElement, Slip, Vector};
 pub use objects::pool::Pool;
 pub use state::Core;
 pub use steps::task::{

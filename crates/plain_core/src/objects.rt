@@ -140,7 +140,7 @@ impl Objects {
         }
     }
 
-    /// How many elements of the pool of this number are out.
+    /// How many elements of the pool of this number are out, and 0 where there is no such pool.
     pub fn out(&self, number: u64) -> u64
         ensures { result ≡ (core_pool_at self.now number).facts.out }
     {

@@ -41,7 +41,7 @@ IsEndTold old place status part end (Some ended) new = IsToldBy end (ended_of_pl
 abbrev pub IsRaisedAt : BookState → ℕ → BookState → Type 0
 IsRaisedAt old place new = (node : Node) → node_at old place ≡ Some node → node.count < 2 ^ 64 - 1 → new ≡ with_node old place (Some (raised node))
 
--- it keeps this part
+-- the node at this place keeps this part, in place of one that it kept
 abbrev pub IsKeptAt : BookState → ℕ → Item Pad → BookState → Type 0
 IsKeptAt old place part new = (node : Node) → node_at old place ≡ Some node → new ≡ with_node old place (Some (keeping part node))
 

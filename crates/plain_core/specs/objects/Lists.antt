@@ -8,6 +8,7 @@ use Rattle.bio_records.specs.Items.{Item}
 use Rattle.bio_records.specs.Sorting.{is_lower, is_for_device}
 use Rattle.plain_core.specs.declared.objects.lists.Lists.{Lists}
 
+-- the two lists that plain ones stand for
 abbrev pub lists_of : Lists → TaskLists
 lists_of lists = record { list0 = lists.list0.items; list1 = lists.list1.items }
 

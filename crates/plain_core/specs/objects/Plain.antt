@@ -40,7 +40,7 @@ most_devices = 32
 abbrev pub most_pools : ℕ
 most_pools = 2 * most_devices + 2
 
--- a pool that no stack has
+-- what stands for a pool that is not there: empty, with nothing out
 abbrev pub no_core_pool : PoolState
 no_core_pool = opened 0 (only_tail true)
 

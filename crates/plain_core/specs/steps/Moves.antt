@@ -65,13 +65,14 @@ abbrev pub begun_with : Routing → Writer → Item Pad → TaskState
 begun_with r writer part =
     task.Writer writer.number (drop 1 writer.todo) task.NoBio (submission.settled (routing_setup r) (part ∷ []))
 
--- a writer goes on, a rescuer does, and a completer, whatever is known of the devices
+-- a writer goes on as `TaskMoves` says, by what is known of the devices, and so does a rescuer
 abbrev pub WriterMoves : Routing → CoreObjects → Writer → What → Result (Unit {0}) CoreFault → CoreObjects → Writer → Type 0
 WriterMoves r old before what result new after = TaskMoves r old (writer_of before) what result new (writer_of after)
 
 abbrev pub RescuerMoves : Routing → CoreObjects → Rescuer → What → Result (Unit {0}) CoreFault → CoreObjects → Rescuer → Type 0
 RescuerMoves r old before what result new after = TaskMoves r old (rescuer_of before) what result new (rescuer_of after)
 
+-- a completer goes on so whatever is known of them
 abbrev pub CompleterMoves : CoreObjects → Completer → What → Result (Unit {0}) CoreFault → CoreObjects → Completer → Type 0
 CompleterMoves old before what result new after = (r : Routing) → TaskMoves r old (completer_of before) what result new (completer_of after)
 

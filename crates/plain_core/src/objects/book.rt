@@ -9,7 +9,7 @@ ghost use Rattle.plain_core.specs.objects.Questions.{IsDecisionOf, TellsCount};
 use crate::fault::CoreFault;
 use crate::objects::lists::Lists;
 use crate::objects::node::{Closed, Node};
-use crate::objects::part::{Part, Slip, Vector};
+use crate::objects::part::{PlainBioElement, Slip, Vector};
 use bio_books::{Role, parent_of};
 use stack_base::Status;
 use std::alloc::{AllocError, Global};
@@ -89,7 +89,7 @@ impl Book {
     }
 
     // The node at a place is told of an end, and waits for others.
-    fn lower(&mut self, place: u32, status: Status, part: Option<Part>)
+    fn lower(&mut self, place: u32, status: Status, part: Option<PlainBioElement>)
         requires { IsSome (node_at self.old place) }
         ensures { IsLoweredAt self.old place status part self.new }
     {
@@ -102,7 +102,7 @@ impl Book {
     }
 
     // The node at a place is told of an end and closes, whatever it waited for: `tell` looks at the count.
-    fn close(&mut self, place: u32, status: Status, part: Option<Part>) -> Closed
+    fn close(&mut self, place: u32, status: Status, part: Option<PlainBioElement>) -> Closed
         requires { IsSome (node_at self.old place) }
         ensures { IsClosedAt self.old place status part result self.new }
     {
@@ -116,8 +116,8 @@ impl Book {
         node.told(status, part).close()
     }
 
-    // The node at a place keeps this part.
-    fn keep(&mut self, place: u32, part: &Part)
+    // The node at this place keeps this part, in place of one that it kept.
+    fn keep(&mut self, place: u32, part: &PlainBioElement)
         requires { IsSome (node_at self.old place) }
         ensures { IsKeptAt self.old place part.now self.new }
     {
@@ -210,7 +210,7 @@ impl Book {
     pub fn open_master(
         &mut self,
         parent: u32,
-        part: &Part,
+        part: &PlainBioElement,
         slip: &Slip,
         legs: u32,
         place: u32,
@@ -260,7 +260,7 @@ impl Book {
         &mut self,
         place: u32,
         status: Status,
-        part: Option<Part>,
+        part: Option<PlainBioElement>,
         end: End,
     ) -> Option<NodeOutcome>
         ensures { IsEndTold self.old place status part end result self.new }

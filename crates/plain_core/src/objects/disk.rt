@@ -6,7 +6,7 @@ ghost use Rattle.model_disks.specs.Disks.{DiskState};
 ghost use Rattle.model_disks.specs.Moves.{blank_disk, pushed, written};
 ghost use Rattle.plain_core.specs.objects.Disks.{firsts_after, sector_of, image_after, CompletesOrNot};
 
-use crate::objects::part::Part;
+use crate::objects::part::PlainBioElement;
 use bio_records::Bio;
 use model_disks::fault::fault;
 use stack_base::{Bad, DevId, Status};
@@ -57,7 +57,7 @@ fn end(firsts: &mut Vec<Option<u64>>, bio: Bio, status: Status)
 }
 
 // Takes the bio at a place out of those that wait. The side that has fewer of them moves.
-fn take_at(pending: &mut VecDeque<Part>, index: u64) -> Part
+fn take_at(pending: &mut VecDeque<PlainBioElement>, index: u64) -> PlainBioElement
     requires { index < length pending.old.items }
     ensures taken { slice_get pending.old.items index ≡ Some result }
     ensures rest { pending.new.items ≡ remove pending.old.items index }
@@ -81,7 +81,7 @@ pub struct Disk {
     bad: Vec<Bad>,
     // The first word of each sector that was written, from which its other words follow. What was not is all zeros, as no written sector is.
     firsts: Vec<Option<u64>>,
-    pending: VecDeque<Part>,
+    pending: VecDeque<PlainBioElement>,
 }
 
 impl Model for Disk {
@@ -119,7 +119,7 @@ impl Disk {
     ///
     /// # Errors
     /// Where there is no memory. The disk is as it was before then.
-    pub fn push(&mut self, part: Part) -> Result<(), AllocError>
+    pub fn push(&mut self, part: PlainBioElement) -> Result<(), AllocError>
         requires { part.bio.range.start + part.bio.range.len ≤ length self.old.image }
         ensures ok { OnOk result (self.new ≡ pushed part self.old) }
         ensures err { OnErr result (self.new ≡ self.old) }
@@ -129,7 +129,7 @@ impl Disk {
     }
 
     /// Ends the bio at this place of those that wait, where one is there and ends so (`bio_endio`, `block/bio.c`).
-    pub fn complete(&mut self, index: u64, status: Status) -> Option<Part>
+    pub fn complete(&mut self, index: u64, status: Status) -> Option<PlainBioElement>
         ensures completes { CompletesOrNot self.old index status result self.new }
         ensures size { length self.new.image ≡ length self.old.image }
     {

@@ -12,7 +12,7 @@ ghost use Rattle.plain_core.specs.objects.Told.{Links, LinksWithRoom, JoinsMaste
 use crate::fault::CoreFault;
 use crate::objects::book::NodeOutcome;
 use crate::objects::lists::Lists;
-use crate::objects::part::{Part, Slip, Vector};
+use crate::objects::part::{PlainBioElement, Slip, Vector};
 use crate::objects::{Objects, told};
 use stack_base::Status;
 use task_core::{How, What};
@@ -67,7 +67,7 @@ impl Objects {
     /// A mirror's master is opened for a bio (`alloc_r1bio`, `drivers/md/raid1.c`). Where it is, the lists have room for what comes of it.
     pub fn open_master(
         &mut self,
-        part: &Part,
+        part: &PlainBioElement,
         slip: &Slip,
         legs: u32,
         lists: &mut Lists,
@@ -120,7 +120,7 @@ impl Objects {
         writer: u32,
         place: u32,
         status: Status,
-        part: Option<Part>,
+        part: Option<PlainBioElement>,
         what: &What,
     ) -> Result<NodeOutcome, CoreFault>
         ensures { IsDrop self.old writer place status part what.now result self.new }

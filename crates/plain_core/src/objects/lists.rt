@@ -8,7 +8,7 @@ ghost use Rattle.bio_lists.specs.Punt.{punted, unpunted};
 ghost use Rattle.bioset_pools.specs.Sets.{is_empty};
 ghost use Rattle.plain_core.specs.objects.Lists.{lists_of, is_picked, ListsHaveCapacity, IsFirstOfBios};
 
-use crate::objects::part::Part;
+use crate::objects::part::PlainBioElement;
 use bio_records::Waits;
 use stack_base::{DevId, SetId};
 use std::alloc::{AllocError, Global};
@@ -19,12 +19,12 @@ use std::marker::Model;
 /// submits, and list 1 what was there before it.
 #[derive(Drop)]
 pub struct Lists {
-    list0: VecDeque<Part>,
-    list1: VecDeque<Part>,
+    list0: VecDeque<PlainBioElement>,
+    list1: VecDeque<PlainBioElement>,
 }
 
 // Whether a bio is of a device's set.
-fn is_of(part: &Part, dev: DevId) -> bool
+fn is_of(part: &PlainBioElement, dev: DevId) -> bool
     ensures { result ≡ is_of (Of dev) part.now }
 {
     match part.bio().set {
@@ -34,14 +34,19 @@ fn is_of(part: &Part, dev: DevId) -> bool
 }
 
 // How many bios of a list are of a device's set.
-fn count_of(list: &VecDeque<Part>, dev: DevId) -> u64
+fn count_of(list: &VecDeque<PlainBioElement>, dev: DevId) -> u64
     ensures { result ≡ length (filter (is_of (Of dev)) list.now.items) }
 {
     list.iter().filter(|part| is_of(part, dev)).count() as u64
 }
 
 // Puts those bios of list 0 before list 1 that are for other devices than this one, or those that are for it.
-fn put_before(list0: &VecDeque<Part>, dev: DevId, lower: bool, list1: &mut VecDeque<Part>)
+fn put_before(
+    list0: &VecDeque<PlainBioElement>,
+    dev: DevId,
+    lower: bool,
+    list1: &mut VecDeque<PlainBioElement>,
+)
     requires { length list0.now.items + length list1.old.items ≤ deque_capacity list1.old }
     ensures items { list1.new.items ≡ filter (is_picked lower dev) list0.now.items ++ list1.old.items }
     ensures few { length list1.new.items ≤ length list0.now.items + length list1.old.items }
@@ -58,7 +63,12 @@ fn put_before(list0: &VecDeque<Part>, dev: DevId, lower: bool, list1: &mut VecDe
 }
 
 // Puts a bio at the end of another list, if it is of a device's set, and else at the end of this one.
-fn place(part: Part, dev: DevId, from: &mut VecDeque<Part>, into: &mut VecDeque<Part>)
+fn place(
+    part: PlainBioElement,
+    dev: DevId,
+    from: &mut VecDeque<PlainBioElement>,
+    into: &mut VecDeque<PlainBioElement>,
+)
     requires from { length from.old.items < deque_capacity from.old }
     requires into { length into.old.items < deque_capacity into.old }
     ensures others { from.new.items ≡ from.old.items ++ filter (is_of_other (Of dev)) (part ∷ []) }
@@ -74,7 +84,7 @@ fn place(part: Part, dev: DevId, from: &mut VecDeque<Part>, into: &mut VecDeque<
 }
 
 // Moves the bios of a device's set to another list. The others keep their order.
-fn sift(from: &mut VecDeque<Part>, dev: DevId, into: &mut VecDeque<Part>)
+fn sift(from: &mut VecDeque<PlainBioElement>, dev: DevId, into: &mut VecDeque<PlainBioElement>)
     requires { length into.old.items + length from.old.items ≤ deque_capacity into.old }
     ensures others { from.new.items ≡ filter (is_of_other (Of dev)) from.old.items }
     ensures moved { into.new.items ≡ into.old.items ++ filter (is_of (Of dev)) from.old.items }
@@ -135,7 +145,7 @@ impl Lists {
     }
 
     /// Submits a bio from within a driver.
-    pub fn submit(&mut self, part: Part)
+    pub fn submit(&mut self, part: PlainBioElement)
         requires { ListsHaveCapacity 1 self.old }
         ensures submitted { lists_of self.new ≡ submitted part (lists_of self.old) }
         ensures room { (more : ℕ) → ListsHaveCapacity (more + 1) self.old → ListsHaveCapacity more self.new }
@@ -144,7 +154,7 @@ impl Lists {
     }
 
     /// The bio to serve next when the driver of a device has returned, if one waits (`__submit_bio_noacct`, `block/blk-core.c`).
-    pub fn next(&mut self, served: DevId) -> Option<Part>
+    pub fn next(&mut self, served: DevId) -> Option<PlainBioElement>
         requires { ListsHaveCapacity 0 self.old }
         ensures list0 { self.new.list0.items ≡ [] }
         ensures list1 { IsFirstOfBios (order served (lists_of self.old)) result self.new.list1.items }
@@ -159,7 +169,7 @@ impl Lists {
 /// The bios that wait for a rescuer.
 #[derive(Drop)]
 pub struct Rescue {
-    bios: VecDeque<Part>,
+    bios: VecDeque<PlainBioElement>,
 }
 
 impl Model for Rescue {
@@ -198,7 +208,7 @@ impl Rescue {
     }
 
     /// Takes the first bio off, if there is one (`bio_alloc_rescue`, `block/bio.c`).
-    pub fn pop(&mut self) -> Option<Part>
+    pub fn pop(&mut self) -> Option<PlainBioElement>
         ensures first { MatchOption result ((self.old ≡ []) × (self.new ≡ self.old)) (λ part. self.old ≡ part ∷ self.new) }
         ensures rest { self.new ≡ drop 1 self.old }
     {

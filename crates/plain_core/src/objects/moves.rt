@@ -19,14 +19,14 @@ ghost use Rattle.plain_core.specs.objects.Told.{Takes, MovesAs, Punts, Pops, Pus
 use crate::fault::CoreFault;
 use crate::objects::disk::Disk;
 use crate::objects::lists::Lists;
-use crate::objects::part::Part;
+use crate::objects::part::PlainBioElement;
 use crate::objects::{Objects, told};
 use stack_base::{DevId, PoolId, Status};
 use std::alloc::AllocError;
 use task_core::{Got, What, pool_of};
 
 // A bio comes to a disk.
-fn push_to(slot: &mut Option<Disk>, part: Part) -> Result<(), AllocError>
+fn push_to(slot: &mut Option<Disk>, part: PlainBioElement) -> Result<(), AllocError>
     requires { IsSomeAnd slot.old (λ d. part.bio.range.start + part.bio.range.len ≤ length d.image) }
     ensures ok { OnOk result (PushesIn slot.old part slot.new) }
     ensures err { OnErr result (slot.new ≡ slot.old) }
@@ -38,7 +38,7 @@ fn push_to(slot: &mut Option<Disk>, part: Part) -> Result<(), AllocError>
 }
 
 // A disk, if it is one, ends a bio that waits in it.
-fn complete_in(slot: &mut Option<Disk>, index: u64, status: Status) -> Option<Part>
+fn complete_in(slot: &mut Option<Disk>, index: u64, status: Status) -> Option<PlainBioElement>
     ensures completes { CompletesInOrNot slot.old index status result slot.new }
     ensures size { (sectors : ℕ) → HasSize sectors slot.old → HasSize sectors slot.new }
 {
@@ -108,7 +108,7 @@ impl Objects {
     }
 
     /// Takes the first bio that waits for the rescuer of this device's set, where the event tells that (`bio_alloc_rescue`, `block/bio.c`).
-    pub fn pop(&mut self, dev: DevId, what: &What) -> Result<Part, CoreFault>
+    pub fn pop(&mut self, dev: DevId, what: &What) -> Result<PlainBioElement, CoreFault>
         ensures { Pops self.old dev what.now result self.new }
     {
         if !told::pops(what, dev) {
@@ -124,7 +124,12 @@ impl Objects {
     }
 
     /// A bio comes to the disk that it is at. Where it does, the lists have room for what comes next.
-    pub fn push(&mut self, part: &Part, lists: &mut Lists, what: &What) -> Result<(), CoreFault>
+    pub fn push(
+        &mut self,
+        part: &PlainBioElement,
+        lists: &mut Lists,
+        what: &What,
+    ) -> Result<(), CoreFault>
         requires within { IsWithinDevice self.old.stack part.now.bio }
         requires disk { keeps_data (tree self.old.stack part.now.bio.dev.0) ≡ true }
         ensures pushes { Pushes self.old part.now what.now result self.new }
@@ -150,7 +155,11 @@ impl Objects {
     }
 
     /// A disk ends a bio that waits in it: its place among them, the bio, and how it ended (`bio_endio`, `block/bio.c`).
-    pub fn complete(&mut self, disk: DevId, what: &What) -> Result<(u64, Part, Status), CoreFault>
+    pub fn complete(
+        &mut self,
+        disk: DevId,
+        what: &What,
+    ) -> Result<(u64, PlainBioElement, Status), CoreFault>
         ensures { CompletesBio self.old disk what.now result self.new }
     {
         let Some((index, status)) = told::completed_of(what, disk) else {

@@ -3,7 +3,7 @@ ghost use Rattle.std.specs.Prelude.{◌≡◌, ◌^◌, ◌-◌, ◌<◌, None, 
 ghost use Rattle.bio_books.specs.Books.{Node as Open, told, raised, keeping, top_node, master_node};
 ghost use Rattle.bio_books.specs.Drops.{closed_of};
 
-use crate::objects::part::{Part, Slip, Vector};
+use crate::objects::part::{PlainBioElement, Slip, Vector};
 use bio_books::{Role, closing, kept_with, parent_of};
 use stack_base::Status;
 use std::marker::Model;
@@ -11,7 +11,7 @@ use std::marker::Model;
 /// What a node holds until it closes.
 #[derive(Drop)]
 pub struct Holding {
-    pub bio: Option<Part>,
+    pub bio: Option<PlainBioElement>,
     pub vector: Option<Vector>,
     pub slip: Option<Slip>,
 }
@@ -122,14 +122,14 @@ impl Node {
     }
 
     // The node keeps this part.
-    pub(crate) fn keep(&mut self, part: &Part)
+    pub(crate) fn keep(&mut self, part: &PlainBioElement)
         ensures { self.new ≡ keeping part.now self.old }
     {
         self.held.bio = Some(part.again());
     }
 
     // One of its ends is told (`__bio_chain_endio`, `block/bio.c`).
-    pub(crate) fn tell(&mut self, status: Status, part: Option<Part>)
+    pub(crate) fn tell(&mut self, status: Status, part: Option<PlainBioElement>)
         ensures { self.new ≡ told self.old status part }
     {
         self.status = kept_with(self.role, self.status, status);
@@ -139,7 +139,7 @@ impl Node {
     }
 
     // The node with one of its ends told.
-    pub(crate) fn told(mut self, status: Status, part: Option<Part>) -> Node
+    pub(crate) fn told(mut self, status: Status, part: Option<PlainBioElement>) -> Node
         ensures { result ≡ told self status part }
     {
         self.tell(status, part);

@@ -16,7 +16,7 @@ pub struct Data {
 
 /// A bio that is out of a pool: an element without its box, of whose share the pool's number is known.
 #[derive(Drop)]
-pub struct Part {
+pub struct PlainBioElement {
     bio: Bio,
     pad: Pad,
     // Of the segments that it has itself.
@@ -24,7 +24,7 @@ pub struct Part {
     pool: u32,
 }
 
-impl Model for Part {
+impl Model for PlainBioElement {
     ghost use Rattle.std.specs.Prelude.{◌<◌};
     ghost use Rattle.bio_records.specs.declared.bio.Pad.{Pad};
     ghost use Rattle.bio_records.specs.Items.{Item};
@@ -38,12 +38,12 @@ impl Model for Part {
     ghost invariant = { λ p. p.pool < 66 };
 }
 
-impl Part {
+impl PlainBioElement {
     /// The same once more.
-    pub fn again(&self) -> Part
+    pub fn again(&self) -> PlainBioElement
         ensures { result ≡ self.now }
     {
-        Part {
+        PlainBioElement {
             bio: self.bio,
             pad: self.pad,
             content: self.content,
@@ -74,10 +74,10 @@ impl Part {
     }
 
     /// The same element with another bio in it.
-    pub fn with(&self, bio: Bio, pad: Pad) -> Part
+    pub fn with(&self, bio: Bio, pad: Pad) -> PlainBioElement
         ensures { result ≡ record self.now { bio = bio; pad = pad } }
     {
-        Part {
+        PlainBioElement {
             bio,
             pad,
             content: self.content,
@@ -123,10 +123,10 @@ impl Hand {
     }
 
     /// The element with this bio and this pad in it, and with no segments.
-    pub fn with(&self, bio: Bio, pad: Pad) -> Part
+    pub fn with(&self, bio: Bio, pad: Pad) -> PlainBioElement
         ensures { result ≡ record self.now { bio = bio; pad = pad } }
     {
-        Part {
+        PlainBioElement {
             bio,
             pad,
             content: Data { first: 0, count: 0 },
@@ -135,10 +135,10 @@ impl Hand {
     }
 
     /// The element with a write's bio in it, and with the write's segments.
-    pub fn with_data(&self, bio: Bio, run: Data) -> Part
+    pub fn with_data(&self, bio: Bio, run: Data) -> PlainBioElement
         ensures { result ≡ record self.now { bio = bio; pad = record { leg = 0 }; short = segments_of run.first run.count } }
     {
-        Part {
+        PlainBioElement {
             bio,
             pad: Pad { leg: 0 },
             content: run,

@@ -12,12 +12,16 @@ ghost use Rattle.plain_core.specs.steps.Answers.{AnswersComplete, AnswersDrop, A
 use crate::fault::CoreFault;
 use crate::objects::Objects;
 use crate::objects::book::NodeOutcome;
-use crate::objects::part::{Part, Slip, Vector};
+use crate::objects::part::{PlainBioElement, Slip, Vector};
 use stack_base::{DevId, PoolId, Status};
 use task_core::What;
 
 /// A bio goes back to its pool.
-pub fn give_part(objects: &mut Objects, part: &Part, what: &What) -> Result<(), CoreFault>
+pub fn give_part(
+    objects: &mut Objects,
+    part: &PlainBioElement,
+    what: &What,
+) -> Result<(), CoreFault>
     ensures { AnswersRequest objects.old (GiveBio part.now) what.now (λ done. Did) result objects.new }
 {
     objects.give(part.pool(), what)
@@ -53,7 +57,7 @@ pub fn next_round(objects: &mut Objects, round: u32, what: &What) -> Result<(), 
 }
 
 /// A rescuer takes a bio.
-pub fn pop(objects: &mut Objects, dev: DevId, what: &What) -> Result<Part, CoreFault>
+pub fn pop(objects: &mut Objects, dev: DevId, what: &What) -> Result<PlainBioElement, CoreFault>
     ensures { AnswersRequest objects.old (Pop dev) what.now Popped result objects.new }
 {
     objects.pop(dev, what)
@@ -64,7 +68,7 @@ pub fn complete(
     objects: &mut Objects,
     disk: DevId,
     what: &What,
-) -> Result<(u64, Part, Status), CoreFault>
+) -> Result<(u64, PlainBioElement, Status), CoreFault>
     ensures { AnswersComplete objects.old disk what.now result objects.new }
 {
     objects.complete(disk, what)
@@ -76,7 +80,7 @@ pub fn tell(
     writer: u32,
     place: u32,
     status: Status,
-    part: Option<Part>,
+    part: Option<PlainBioElement>,
     what: &What,
 ) -> Result<NodeOutcome, CoreFault>
     ensures { AnswersDrop objects.old writer place status part what.now result objects.new }

@@ -10,7 +10,7 @@ use crate::fault::CoreFault;
 use crate::objects::Objects;
 use crate::objects::book::NodeOutcome;
 use crate::objects::node::{Closed, Holding};
-use crate::objects::part::{Part, Slip};
+use crate::objects::part::{PlainBioElement, Slip};
 use crate::steps::asks;
 use crate::steps::task::{Completer, PlainCarried};
 use stack_base::DevId;
@@ -67,7 +67,7 @@ fn give_slip(objects: &mut Objects, slip: &mut Option<Slip>, what: &What) -> Res
 // The bio that a closed node holds goes back, or the record where there is none.
 fn give_part(
     objects: &mut Objects,
-    bio: &mut Option<Part>,
+    bio: &mut Option<PlainBioElement>,
     slip: &mut Option<Slip>,
     what: &What,
 ) -> Result<bool, CoreFault>

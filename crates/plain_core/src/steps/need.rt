@@ -8,7 +8,7 @@ ghost use Rattle.plain_core.specs.steps.Views.{ask_of_plain, completer_of, doing
 ghost use Rattle.plain_core.specs.steps.Closing.{closed_asks};
 
 use crate::objects::node::Closed;
-use crate::objects::part::Part;
+use crate::objects::part::PlainBioElement;
 use crate::steps::task::{
     Completer, Copying, DriverAsk, Keeper, PlainCarried, PlainDoing, PlainGathered,
     PlainSubmission, PlainWant, Rescuer, Task, Writer,
@@ -46,7 +46,7 @@ pub enum Need {
 }
 
 // What a driver needs that cuts a bio.
-fn cut_need(part: &Part, want: &PlainWant) -> Need
+fn cut_need(part: &PlainBioElement, want: &PlainWant) -> Need
     ensures { IsNeedOfDoing result (cuts_for part.now (want_of_plain want.now)) }
 {
     let bio = part.bio();
@@ -64,7 +64,7 @@ fn cut_need(part: &Part, want: &PlainWant) -> Need
 }
 
 // What the driver of a bio's device needs.
-fn drive_need(part: &Part, ask: &DriverAsk) -> Need
+fn drive_need(part: &PlainBioElement, ask: &DriverAsk) -> Need
     ensures { IsNeedOfDoing result (drives_for part.now (ask_of_plain ask.now)) }
 {
     let bio = part.bio();

@@ -17,7 +17,7 @@ pub(crate) mod take;
 use crate::fault::CoreFault;
 use crate::objects::Objects;
 use crate::objects::lists::Lists;
-use crate::objects::part::Part;
+use crate::objects::part::PlainBioElement;
 use crate::steps::submission::cut::cut_step;
 use crate::steps::submission::mirror::{begin_copy, copy_step};
 use crate::steps::submission::take::take_slip;
@@ -51,7 +51,7 @@ fn first_ask(routes: &Routes, dev: DevId, lists: &Lists) -> DriverAsk
 }
 
 // A bio is served next.
-pub fn drive(routes: &Routes, part: Part, submission: &mut PlainSubmission)
+pub fn drive(routes: &Routes, part: PlainBioElement, submission: &mut PlainSubmission)
     requires { IsWithinDevice routes.now.stack part.bio }
     ensures { submission_of_plain submission.new ≡ routed_landing routes.now (lists_of submission.old.lists) part }
 {
@@ -85,7 +85,7 @@ pub(crate) fn stay(want: &mut PlainWant, next: PlainWant) -> Continuation
 fn drive_step(
     routes: &Routes,
     objects: &mut Objects,
-    part: &Part,
+    part: &PlainBioElement,
     ask: &mut DriverAsk,
     lists: &mut Lists,
     what: &What,

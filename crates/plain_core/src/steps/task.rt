@@ -9,7 +9,7 @@ ghost use Rattle.plain_core.specs.steps.Duties.{IsNextDuty, NamesStackPool};
 
 use crate::objects::lists::Lists;
 use crate::objects::node::Closed;
-use crate::objects::part::{Hand, Part, Slip, Vector};
+use crate::objects::part::{Hand, PlainBioElement, Slip, Vector};
 use bio_records::Bio;
 use stack_base::{DevId, Status};
 use std::marker::Model;
@@ -40,7 +40,7 @@ pub enum DriverAsk {
 pub enum PlainDoing {
     Rests,
     /// The driver of the bio's device has it.
-    Drives(Part, DriverAsk),
+    Drives(PlainBioElement, DriverAsk),
     /// A mirror copies a bio, which waits with its parent.
     Copies(Copying, PlainWant),
 }
@@ -101,7 +101,7 @@ impl PlainGathered {
 #[derive(Drop)]
 pub enum PlainCarried {
     Empty,
-    Brings(Part, Status),
+    Brings(PlainBioElement, Status),
     Carries(u32, Closed),
 }
 

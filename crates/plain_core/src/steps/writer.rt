@@ -11,7 +11,7 @@ ghost use Rattle.plain_core.specs.steps.Takes.{TakesVector};
 
 use crate::fault::CoreFault;
 use crate::objects::Objects;
-use crate::objects::part::{Data, Hand, Part, Vector};
+use crate::objects::part::{Data, Hand, PlainBioElement, Vector};
 use crate::steps::asks;
 use crate::steps::submission::take::take_part;
 use crate::steps::submission::{drive, submission_step};
@@ -22,7 +22,7 @@ use stack_base::{PoolId, SetId};
 use task_core::{Got, Routes, Todo, What, first_bio, needs_vector};
 
 // A bio is submitted.
-pub(crate) fn start(routes: &Routes, part: Part, submission: &mut PlainSubmission)
+pub(crate) fn start(routes: &Routes, part: PlainBioElement, submission: &mut PlainSubmission)
     requires { IsWithinDevice routes.now.stack part.bio }
     ensures { submission_of_plain submission.new ≡ settled (routing_setup routes.now) (part ∷ []) }
 {
@@ -53,7 +53,7 @@ fn data_of(write: &Write) -> Data
 }
 
 // The top node of the next write is open: its bio is submitted, and it is begun.
-fn begin(routes: &Routes, writer: &mut Writer, part: Part)
+fn begin(routes: &Routes, writer: &mut Writer, part: PlainBioElement)
     requires within { IsWithinDevice routes.now.stack part.bio }
     requires next { writer.old.todo ≢ [] }
     ensures { writer_of writer.new ≡ begun_with routes.now writer.old part }
@@ -109,7 +109,7 @@ fn vector_step(
 }
 
 // A writer with a bio that needs no vector begins its next write.
-fn short_step(
+fn step_with_bio(
     routes: &Routes,
     objects: &mut Objects,
     writer: &mut Writer,
@@ -135,7 +135,7 @@ fn short_step(
 }
 
 // A writer with a bio and a vector begins its next write.
-fn long_step(
+fn step_with_both(
     routes: &Routes,
     objects: &mut Objects,
     writer: &mut Writer,
@@ -181,11 +181,11 @@ fn write_step(
             if needs_vector(&next.write) {
                 vector_step(objects, writer, &hand, what)
             } else {
-                short_step(routes, objects, writer, &next, &hand, what)
+                step_with_bio(routes, objects, writer, &next, &hand, what)
             }
         }
         PlainGathered::HasBoth(hand, vector) => {
-            long_step(routes, objects, writer, &next, &hand, &vector, what)
+            step_with_both(routes, objects, writer, &next, &hand, &vector, what)
         }
     }
 }

@@ -10,7 +10,7 @@ ghost use Rattle.plain_core.specs.steps.Submissions.{CanTurn, cuts_for, CutsInto
 use crate::fault::CoreFault;
 use crate::objects::Objects;
 use crate::objects::lists::Lists;
-use crate::objects::part::{Hand, Part};
+use crate::objects::part::{Hand, PlainBioElement};
 use crate::steps::submission::take::take_for;
 use crate::steps::submission::{Continuation, stay};
 use crate::steps::task::PlainWant;
@@ -19,7 +19,7 @@ use stack_base::{Range, SetId};
 use task_core::{Routes, What};
 
 // A bio is split: its first piece goes to its member, and the rest comes again (`bio_split`, `block/bio.c`).
-fn cut(routes: &Routes, part: &Part, hand: &Hand, node: u32, lists: &mut Lists)
+fn cut(routes: &Routes, part: &PlainBioElement, hand: &Hand, node: u32, lists: &mut Lists)
     requires room { ListsHaveCapacity 2 lists.old }
     requires within { IsWithinDevice routes.now.stack part.now.bio }
     requires cut { is_cut (tree routes.now.stack part.now.bio.dev.0) part.now.bio.range ≡ true }
@@ -50,7 +50,7 @@ fn cut(routes: &Routes, part: &Part, hand: &Hand, node: u32, lists: &mut Lists)
 pub(crate) fn cut_step(
     routes: &Routes,
     objects: &mut Objects,
-    part: &Part,
+    part: &PlainBioElement,
     want: &mut PlainWant,
     lists: &mut Lists,
     what: &What,

@@ -6,7 +6,7 @@ use Rattle.run_machine.specs.Tasks.{Todo, first_bio, filled_short}
 use Rattle.plain_core.specs.steps.Views.{gathered_of_plain, submission_of_plain, writer_of}
 use Rattle.plain_core.specs.steps.Answers.{IsAnswer}
 use Rattle.plain_core.proofs.step_lemmas.Tasks.{short_begun}
-use Rattle.plain_core.proofs.steps.writer.short_step.Goals as goal
+use Rattle.plain_core.proofs.steps.writer.step_with_bio.Goals as goal
 
 pub returns-in-Ok : goal.returns-in-Ok
 returns-in-Ok c =
