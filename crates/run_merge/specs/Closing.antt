@@ -13,7 +13,7 @@ use Rattle.block_core.specs.Scenarios.{IsNaming}
 use Rattle.shared_objects.specs.Calls.{struck}
 use Rattle.run_merge.specs.Machines.{ServesAt, LeadsObject}
 use Rattle.run_merge.specs.Merging.{Ticketed, Histories, without_tickets, sorted_by_ticket, all_of, history_of, done_by, TallyThen, LetsAsk, Shown}
-use Rattle.run_merge.specs.ObjectsByName.{StateAt, get}
+use Rattle.run_merge.specs.ObjectsByName.{StateAt, object_named}
 use Rattle.run_merge.specs.Products.{AreOfRun}
 
 -- A task is through: it has nothing more to ask for, or saw at the tally that no write was unfinished.
@@ -36,7 +36,7 @@ pub record WasRefused (s : Scenario) (ledger : ℕ → LedgerId) (histories : Hi
   pub smaller : All (λ (n : Ticketed). n.ticket < ticket) before
   pub greater : All (λ (n : Ticketed). ticket < n.ticket) later
   pub object : StateAt (object_of asked)
-  pub leads : LeadsObject ledger (object_of asked) (get (start s).objects (object_of asked)) (without_tickets before) object
+  pub leads : LeadsObject ledger (object_of asked) (object_named (start s).objects (object_of asked)) (without_tickets before) object
   pub serves : ServesAt ledger (object_of asked) object asked reply object
   pub goes_on : now ≡ answered (setup_in s) task reply
   pub broken : is_broken now ≡ true
@@ -55,7 +55,7 @@ pub record IsClosed (s : Scenario) (ledger : ℕ → LedgerId) (histories : Hist
   pub reached : State
   pub shown : Shown s ledger histories reached
   -- Each object is left so, unless a draw at it failed,
-  pub object : (name : Object) → (get last.objects name ≡ get reached.objects name) ⊎ HasLast drawn
+  pub object : (name : Object) → (object_named last.objects name ≡ object_named reached.objects name) ⊎ HasLast drawn
   -- and each task is left so and through, unless it was refused, or a draw of its own failed.
   pub task : (place : ℕ) → ((last.task place ≡ reached.task place) × IsThrough s ledger histories (reached.task place))
       ⊎ (WasRefused s ledger histories place (reached.task place) (last.task place) ⊎ HasLast drawn)

@@ -31,23 +31,23 @@ smaller first second = if is_before second.ticket first.ticket then second else 
 abbrev pub no_head : Head
 no_head = record { ticket = None; list = 0; at = 0 }
 
-abbrev pub node : List Head → ℕ → Head
-node nodes number = slice_index_or nodes number no_head
+abbrev pub node_head : List Head → ℕ → Head
+node_head nodes number = slice_index_or nodes number no_head
 
 -- the smaller head of the two below an inner node
 abbrev pub smaller_below : List Head → ℕ → Head
-smaller_below nodes number = smaller (node nodes (2 * number)) (node nodes (2 * number + 1))
+smaller_below nodes number = smaller (node_head nodes (2 * number)) (node_head nodes (2 * number + 1))
 
 -- heads that stand before the leaves of a list of lists, and these
 pub record AreHeadsAdded {T : Type 0} (rows : List (List (ℕ × T))) (old new : List Head) : Type 0 where
   pub long : length new ≡ length old + length rows
-  pub added : (list : ℕ) → list < length rows → node new (length old + list) ≡ head_at rows list 0
+  pub added : (list : ℕ) → list < length rows → node_head new (length old + list) ≡ head_at rows list 0
 
 -- Behind place 0, which is not used, stand the inner nodes, and behind those the leaves, from place `count` on. Each inner node that this is asked of has
 -- the smaller head of the two below it.
 pub record AreInner (count : ℕ) (nodes : List Head) (Are : ℕ → Type 0) : Type 0 where
   pub long : length nodes ≡ count + count
-  pub inner : (number : ℕ) → 1 ≤ number → number < count → Are number → node nodes number ≡ smaller_below nodes number
+  pub inner : (number : ℕ) → 1 ≤ number → number < count → Are number → node_head nodes number ≡ smaller_below nodes number
 
 -- each inner node has it
 abbrev pub IsTournament : ℕ → List Head → Type 0
@@ -60,7 +60,7 @@ IsTournamentBut count nodes below = AreInner count nodes (λ number. (below ≢ 
 -- the leaf of each list is its head from a place on
 pub record IsTournamentAt {T : Type 0} (rows : List (List (ℕ × T))) (at : ℕ → ℕ) (nodes : List Head) : Type 0 where
   pub holds : IsTournament (length rows) nodes
-  pub leaf : (list : ℕ) → list < length rows → node nodes (length rows + list) ≡ head_at rows list (at list)
+  pub leaf : (list : ℕ) → list < length rows → node_head nodes (length rows + list) ≡ head_at rows list (at list)
 
 -- the one of the root, which has a ticket
 abbrev pub with_ticket : Head → Option ℕ → Option Head
@@ -77,5 +77,5 @@ winner_of nodes = ticketed_head (slice_get nodes 1)
 -- the head of its list was taken
 pub record TakesHead {T : Type 0} (rows : List (List (ℕ × T))) (head : Head) (old new : List Head) : Type 0 where
   pub holds : IsTournament (length rows) new
-  pub here : node new (length rows + head.list) ≡ head_at rows head.list (head.at + 1)
-  pub others : (list : ℕ) → list ≢ head.list → node new (length rows + list) ≡ node old (length rows + list)
+  pub here : node_head new (length rows + head.list) ≡ head_at rows head.list (head.at + 1)
+  pub others : (list : ℕ) → list ≢ head.list → node_head new (length rows + list) ≡ node_head old (length rows + list)

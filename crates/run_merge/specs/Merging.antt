@@ -12,8 +12,8 @@ use Rattle.shared_objects.specs.Calls.{is_same_object}
 use Rattle.shared_objects.specs.Logs.{is_event}
 use Rattle.run_merge.specs.Entries.{Entry}
 use Rattle.run_merge.specs.Machines.{TallyMachine, LeadsObject}
-use Rattle.run_merge.specs.ObjectsByName.{get}
-use Rattle.run_merge.specs.Products.{LeadsTask, task_behind, AreOfRun}
+use Rattle.run_merge.specs.ObjectsByName.{object_named}
+use Rattle.run_merge.specs.Products.{EntriesLead, task_behind, AreOfRun}
 
 -- an entry with the ticket that its call drew
 pub record Ticketed : Type 0 where
@@ -85,9 +85,9 @@ pub record Shown (s : Scenario) (ledger : ℕ → LedgerId) (histories : Histori
   pub tagged : AreTagged histories
   -- tickets rise along each object, and its entries are a run of its machine
   pub rises : (name : Object) → RiseFrom 0 (history_of name histories)
-  pub objects : (name : Object) → LeadsObject ledger name (get (start s).objects name) (without_tickets (history_of name histories)) (get last.objects name)
+  pub objects : (name : Object) → LeadsObject ledger name (object_named (start s).objects name) (without_tickets (history_of name histories)) (object_named last.objects name)
   -- what each task did, in the order of its tickets, leads it on
-  pub tasks : (place : ℕ) → LeadsTask (setup_in s) ((start s).task place) (without_tickets (done_by place histories)) (last.task place)
+  pub tasks : (place : ℕ) → EntriesLead (setup_in s) ((start s).task place) (without_tickets (done_by place histories)) (last.task place)
   -- and each looked before it asked, where it has to
   pub looks : (place : ℕ) (mine rest : List Ticketed) (n : Ticketed) → done_by place histories ≡ mine ++ n ∷ rest
       → let task = task_behind s place (without_tickets mine) in LetsAsk s ledger (history_of OfTally histories) n.ticket task (look_of task)

@@ -19,13 +19,13 @@ StateAt OfTally = TallyState
 StateAt OfNone = Unit {0}
 
 -- the one of this name
-abbrev pub get : Objects → (name : Object) → StateAt name
-get objects (OfPool number) = objects.pool number
-get objects (OfRescuer dev) = objects.rescue dev
-get objects (OfDisk dev) = objects.disk dev
-get objects (OfBook writer) = objects.book writer
-get objects OfTally = objects.tally
-get objects OfNone = tt
+abbrev pub object_named : Objects → (name : Object) → StateAt name
+object_named objects (OfPool number) = objects.pool number
+object_named objects (OfRescuer dev) = objects.rescue dev
+object_named objects (OfDisk dev) = objects.disk dev
+object_named objects (OfBook writer) = objects.book writer
+object_named objects OfTally = objects.tally
+object_named objects OfNone = tt
 
 -- all of them, with another one of this name
 abbrev pub put_object : Objects → (name : Object) → StateAt name → Objects

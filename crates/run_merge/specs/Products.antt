@@ -15,25 +15,25 @@ use Rattle.block_core.specs.Scenarios.{IsScenario, IsNaming}
 use Rattle.shared_objects.specs.Calls.{struck}
 use Rattle.run_merge.specs.Entries.{Entry, AreEvents, entries_in}
 use Rattle.run_merge.specs.Machines.{LeadsObject, entries_at}
-use Rattle.run_merge.specs.ObjectsByName.{get}
+use Rattle.run_merge.specs.ObjectsByName.{object_named}
 
 -- the entries of a task, by its place
 abbrev pub entries_by : ℕ → List Entry → List Entry
 entries_by place entries = filter (λ (e : Entry). place == e.place) entries
 
 -- these entries, one after the other, lead a task on: each asks for what the task asks for next
-abbrev pub LeadsTask : Setup → TaskState → List Entry → TaskState → Type 0
-LeadsTask setup old [] new = new ≡ old
-LeadsTask setup old (e ∷ es) new = (e.asked ≡ struck (request setup old)) × LeadsTask setup (answered setup old e.reply) es new
+abbrev pub EntriesLead : Setup → TaskState → List Entry → TaskState → Type 0
+EntriesLead setup old [] new = new ≡ old
+EntriesLead setup old (e ∷ es) new = (e.asked ≡ struck (request setup old)) × EntriesLead setup (answered setup old e.reply) es new
 
 -- the task behind entries of its own
-abbrev pub led_by : Setup → TaskState → List Entry → TaskState
-led_by setup task [] = task
-led_by setup task (e ∷ es) = led_by setup (answered setup task e.reply) es
+abbrev pub task_behind_entries : Setup → TaskState → List Entry → TaskState
+task_behind_entries setup task [] = task
+task_behind_entries setup task (e ∷ es) = task_behind_entries setup (answered setup task e.reply) es
 
 -- where its own entries lead the task at a place
 abbrev pub task_behind : Scenario → ℕ → List Entry → TaskState
-task_behind s place mine = led_by (setup_in s) ((start s).task place) mine
+task_behind s place mine = task_behind_entries (setup_in s) ((start s).task place) mine
 
 -- which entries start a round, change a reserve, or end the write of this number
 abbrev pub is_next_round : Request → Bool
@@ -76,9 +76,9 @@ pub record IsProduct (s : Scenario) (ledger : ℕ → LedgerId) (entries : List 
   -- each is an event: no look, and no refusal
   pub events : AreEvents entries
   -- those at each object are a run of its machine from the opened object
-  pub objects : (name : Object) → LeadsObject ledger name (get (start s).objects name) (entries_at name entries) (get last.objects name)
+  pub objects : (name : Object) → LeadsObject ledger name (object_named (start s).objects name) (entries_at name entries) (object_named last.objects name)
   -- those of each task lead it on from the opened task, each answering what it asks for next
-  pub tasks : (place : ℕ) → LeadsTask (setup_in s) ((start s).task place) (entries_by place entries) (last.task place)
+  pub tasks : (place : ℕ) → EntriesLead (setup_in s) ((start s).task place) (entries_by place entries) (last.task place)
   -- the first take of each write, a missed one too, stands behind the start of the write's round
   pub takes : AtEach entries (λ before e. MayBegin (task_behind s e.place (entries_by e.place before)) before)
   -- the start of each round stands behind the end of every write of the rounds before it

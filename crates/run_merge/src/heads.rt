@@ -4,7 +4,7 @@
 //! node `count + k`. Each inner node has the head of the two below it that comes first. So a list that goes on plays again on its way to the root
 //! alone, which is the logarithm of the number of lists.
 ghost use Rattle.std.specs.Prelude.{◌≡◌, ◌+◌, ◌*◌, ◌<◌, ◌≤◌, [], ℕ, IfOk, length, slice_index_or, slice_set};
-ghost use Rattle.run_merge.specs.Heads.{AreHeadsAdded, TakesHead, IsTournament, IsTournamentBut, IsTournamentAt, winner_of, head_at, node, rows, smaller, smaller_below};
+ghost use Rattle.run_merge.specs.Heads.{AreHeadsAdded, TakesHead, IsTournament, IsTournamentBut, IsTournamentAt, winner_of, head_at, node_head, rows, smaller, smaller_below};
 
 use std::alloc::{AllocError, Global};
 
@@ -79,7 +79,7 @@ fn replay(nodes: &mut Vec<Head>, leaf: usize, count: usize)
     requires leaf { (1 ≤ leaf) × (count ≤ leaf) × (leaf < count + count) }
     requires holds { IsTournamentBut count nodes.old.items leaf }
     ensures holds { IsTournament count nodes.new.items }
-    ensures leaves { (number : ℕ) → count ≤ number → node nodes.new.items number ≡ node nodes.old.items number }
+    ensures leaves { (number : ℕ) → count ≤ number → node_head nodes.new.items number ≡ node_head nodes.old.items number }
 {
     let mut number = leaf;
     'replaying: while number > 1 {

@@ -13,9 +13,9 @@ CallsLead setup task [] last = last ≡ task
 CallsLead setup task (call ∷ calls) last = (call.asked ≡ struck (request setup task)) × CallsLead setup (answered setup task call.told.reply) calls last
 
 -- the task behind calls of its own
-abbrev pub task_after : Setup → TaskState → List Call → TaskState
-task_after setup task [] = task
-task_after setup task (call ∷ calls) = task_after setup (answered setup task call.told.reply) calls
+abbrev pub task_behind_calls : Setup → TaskState → List Call → TaskState
+task_behind_calls setup task [] = task
+task_behind_calls setup task (call ∷ calls) = task_behind_calls setup (answered setup task call.told.reply) calls
 
 -- The task broke off with a call that was refused, or found no ticket: behind it there are only glances, and no other call did so.
 pub record BrokeOff (setup : Setup) (log : List Call) (through now : TaskState) : Type 0 where
@@ -38,7 +38,7 @@ pub record IsLed (setup : Setup) (first : TaskState) (log : List Call) (now : Ta
   pub through : TaskState
   pub leads : CallsLead setup first (events_in log) through
   pub looks : (mine rest : List Call) (call : Call) → events_in log ≡ mine ++ call ∷ rest
-      → Looked log (task_after setup first mine) call (look_of (task_after setup first mine))
+      → Looked log (task_behind_calls setup first mine) call (look_of (task_behind_calls setup first mine))
   pub stops : ((now ≡ through) × All (λ (c : Call). is_stop c.asked c.told.reply ≡ false) log) ⊎ BrokeOff setup log through now
 
 abbrev pub LogsLead : Type 0

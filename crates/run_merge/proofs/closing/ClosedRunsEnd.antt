@@ -20,7 +20,7 @@ use Rattle.block_core.proofs.unrefused.Unbroken.{no_task_breaks}
 use Rattle.run_merge.specs.Closing.{IsThrough, WasRefused, HasLast, IsClosed, MergeIsEndedRun, ClosedRunsEnd}
 use Rattle.run_merge.specs.Machines.{LeadsObject}
 use Rattle.run_merge.specs.Merging.{Ticketed, Histories, without_tickets, sorted_by_ticket, all_of, history_of, TallyThen, Shown}
-use Rattle.run_merge.specs.ObjectsByName.{get}
+use Rattle.run_merge.specs.ObjectsByName.{object_named}
 use Rattle.run_merge.specs.Products.{AreOfRun}
 use Rattle.run_merge.proofs.closing.EventsAndEntries.{merge_length}
 use Rattle.run_merge.proofs.closing.FewTasks.{few_tasks}
@@ -72,10 +72,10 @@ module _ (s : Scenario) (ledger : ℕ → LedgerId) (good : IsRunnable s) (rescu
         too_many : (n : ℕ) → Contains drawn n → 2 ^ 26 ≤ n → ⊥
         too_many n there large = let few = c.few in omega (arith, row_long drawn c.row n there, few, few_tasks s good.scenario, large, few_entries c.reached c.shown)
 
-    object_is : (name : Object) → get last.objects name ≡ get c.reached.objects name
+    object_is : (name : Object) → object_named last.objects name ≡ object_named c.reached.objects name
     object_is name = by_two (c.object name)
       where
-        by_two : (get last.objects name ≡ get c.reached.objects name) ⊎ HasLast drawn → get last.objects name ≡ get c.reached.objects name
+        by_two : (object_named last.objects name ≡ object_named c.reached.objects name) ⊎ HasLast drawn → object_named last.objects name ≡ object_named c.reached.objects name
         by_two (inl is) = is
         by_two (inr there) = absurd (no_last there)
 

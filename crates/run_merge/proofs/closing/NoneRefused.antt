@@ -24,21 +24,21 @@ use Rattle.run_merge.specs.Closing.{WasRefused}
 use Rattle.run_merge.specs.Entries.{Entry}
 use Rattle.run_merge.specs.Machines.{ServesAt, LeadsObject}
 use Rattle.run_merge.specs.Merging.{Ticketed, Histories, without_tickets, sorted_by_ticket, all_of, history_of, done_by, LetsAsk, Shown}
-use Rattle.run_merge.specs.ObjectsByName.{StateAt, get, put_object}
-use Rattle.run_merge.specs.Products.{LeadsTask, AreOfRun, led_by, task_behind}
+use Rattle.run_merge.specs.ObjectsByName.{StateAt, object_named, put_object}
+use Rattle.run_merge.specs.Products.{EntriesLead, AreOfRun, task_behind_entries, task_behind}
 use Rattle.run_merge.proofs.closing.RunUpTo.{early_histories, history_early, lets_early, then_state, then_task, shown_early, shown_put}
 use Rattle.run_merge.proofs.merging.MergeIsRun.{still_let, merge_runs}
 use Rattle.run_merge.proofs.merging.TicketOrder.{early, early_all, early_none}
 use Rattle.run_merge.proofs.products.StateBehind.{behind_run, one_event}
 use Rattle.run_merge.proofs.products.ProductIsRun.{is_inside}
-use Rattle.run_merge.proofs.products.ObjectNames.{get_put}
+use Rattle.run_merge.proofs.products.ObjectNames.{named_put}
 use Rattle.run_merge.proofs.products.Served.{serves_all, struck_serves}
 
 -- a task that was let ask would break off with this reply of its object
 record WouldBreak (s : Scenario) (ledger : ℕ → LedgerId) (hs : Histories) (state : State) (place ticket : ℕ) (asked : Request) (reply : Reply) : Type 0 where
   object : StateAt (object_of asked)
   asks : asked ≡ struck (request (setup_in s) (state.task place))
-  serves : ServesAt ledger (object_of asked) (get state.objects (object_of asked)) asked reply object
+  serves : ServesAt ledger (object_of asked) (object_named state.objects (object_of asked)) asked reply object
   looked : LetsAsk s ledger (history_of OfTally hs) ticket (state.task place) (look_of (state.task place))
   broken : is_broken (answered (setup_in s) (state.task place) reply) ≡ true
 
@@ -86,7 +86,7 @@ module _ (s : Scenario) (ledger : ℕ → LedgerId) (good : IsRunnable s) (namin
         by_two (inl (event, steps)) = by_event event steps
         by_two (inr (same, still)) = by_still still
 
-  led_is : (es : List Entry) (t x : TaskState) → LeadsTask (setup_in s) t es x → x ≡ led_by (setup_in s) t es
+  led_is : (es : List Entry) (t x : TaskState) → EntriesLead (setup_in s) t es x → x ≡ task_behind_entries (setup_in s) t es
   led_is [] t x leads = leads
   led_is (e ∷ es) t x leads = led_is es (answered (setup_in s) t e.reply) x leads.1
 
@@ -95,7 +95,7 @@ module _ (s : Scenario) (ledger : ℕ → LedgerId) (good : IsRunnable s) (namin
       none_breaks first at_call shown_call place r.ticket r.asked r.reply (record {
         object = r.object;
         asks = r.asks ∙ ap (λ x. struck (request (setup_in s) x)) task_is;
-        serves = subst (λ o. ServesAt ledger name o r.asked r.reply r.object) (sym (get_put earlier.objects name r.object)) r.serves;
+        serves = subst (λ o. ServesAt ledger name o r.asked r.reply r.object) (sym (named_put earlier.objects name r.object)) r.serves;
         looked = subst (λ l. LetsAsk s ledger l r.ticket (at_call.task place) (look_of (at_call.task place))) (sym (history_early r.ticket OfTally hs))
             (lets_early r.ticket s ledger (history_of OfTally hs) r.ticket (at_call.task place) (look_of (at_call.task place)) (omega arith)
             (subst (λ (x : TaskState). LetsAsk s ledger (history_of OfTally hs) r.ticket x (look_of x)) task_is r.looked));
@@ -123,7 +123,7 @@ module _ (s : Scenario) (ledger : ℕ → LedgerId) (good : IsRunnable s) (namin
 
       shown_call : Shown s ledger (early_histories r.ticket hs) (record (then_state r.ticket s ledger hs left shown) { objects = put_object (then_state r.ticket s ledger hs left shown).objects name r.object })
       shown_call = shown_put s ledger (early_histories r.ticket hs) (then_state r.ticket s ledger hs left shown) (shown_early r.ticket s ledger hs left shown) name r.object
-          (subst (λ l. LeadsObject ledger name (get (start s).objects name) (without_tickets l) r.object) (sym history_is) r.leads)
+          (subst (λ l. LeadsObject ledger name (object_named (start s).objects name) (without_tickets l) r.object) (sym history_is) r.leads)
 
       task_is : left.task place ≡ (then_state r.ticket s ledger hs left shown).task place
       task_is =

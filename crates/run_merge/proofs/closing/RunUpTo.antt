@@ -14,12 +14,12 @@ use Rattle.shared_objects.specs.Logs.{is_event}
 use Rattle.shared_objects.proofs.SameNames.{same_is}
 use Rattle.run_merge.specs.Machines.{LeadsObject}
 use Rattle.run_merge.specs.Merging.{Ticketed, Histories, without_tickets, sorted_by_ticket, RiseFrom, all_of, history_of, AreOfDifferentObjects, AreTagged, done_by, LetsAsk, Shown}
-use Rattle.run_merge.specs.ObjectsByName.{StateAt, get, put_object, made_of}
-use Rattle.run_merge.specs.Products.{LeadsTask, task_behind}
+use Rattle.run_merge.specs.ObjectsByName.{StateAt, object_named, put_object, made_of}
+use Rattle.run_merge.specs.Products.{EntriesLead, task_behind}
 use Rattle.run_merge.proofs.merging.Picked.{is_by, filter_swap}
 use Rattle.run_merge.proofs.merging.TwoParts.{object_split, task_split}
 use Rattle.run_merge.proofs.merging.TicketOrder.{sorted_ordered, filter_sorted, early, early_first, early_all, early_few, rises_ordered}
-use Rattle.run_merge.proofs.products.ObjectNames.{get_put, get_other, get_made}
+use Rattle.run_merge.proofs.products.ObjectNames.{named_put, named_other, named_made}
 
 abbrev pub early_histories : ℕ → Histories → Histories
 early_histories ticket [] = []
@@ -100,21 +100,21 @@ module _ (ticket : ℕ) where
           All-cons (λ (m : Ticketed). m.ticket < ticket) n ns (omega (arith, lt, le)) (weaker ns (All-tail (λ (m : Ticketed). m.ticket < own) n ns a))
 
   module _ (s : Scenario) (ledger : ℕ → LedgerId) (hs : Histories) (last : State) (shown : Shown s ledger hs last) where
-    object_then : (name : Object) → (mid : StateAt name) × LeadsObject ledger name (get (start s).objects name) (without_tickets (history_of name (early_histories ticket hs))) mid
+    object_then : (name : Object) → (mid : StateAt name) × LeadsObject ledger name (object_named (start s).objects name) (without_tickets (history_of name (early_histories ticket hs))) mid
     object_then name =
         let p = early_first ticket 0 (history_of name hs) (rises_ordered 0 (history_of name hs) (shown.rises name)) in
-        let l = subst (λ l. LeadsObject ledger name (get (start s).objects name) l (get last.objects name))
+        let l = subst (λ l. LeadsObject ledger name (object_named (start s).objects name) l (object_named last.objects name))
         (ap without_tickets p.1 ∙ map-append (λ (n : Ticketed). n.entry) (early ticket (history_of name hs)) p.0) (shown.objects name) in
-        let r = object_split ledger name (without_tickets (early ticket (history_of name hs))) (without_tickets p.0) (get (start s).objects name) (get last.objects name) l in
-        (r.0, subst (λ l. LeadsObject ledger name (get (start s).objects name) (without_tickets l) r.0) (sym (history_early name hs)) r.1)
+        let r = object_split ledger name (without_tickets (early ticket (history_of name hs))) (without_tickets p.0) (object_named (start s).objects name) (object_named last.objects name) l in
+        (r.0, subst (λ l. LeadsObject ledger name (object_named (start s).objects name) (without_tickets l) r.0) (sym (history_early name hs)) r.1)
 
-    task_then : (place : ℕ) → LeadsTask (setup_in s) ((start s).task place) (without_tickets (done_by place (early_histories ticket hs))) (task_behind s place (without_tickets (early ticket (done_by place hs))))
+    task_then : (place : ℕ) → EntriesLead (setup_in s) ((start s).task place) (without_tickets (done_by place (early_histories ticket hs))) (task_behind s place (without_tickets (early ticket (done_by place hs))))
     task_then place =
         let p = early_first ticket 0 (done_by place hs) (sorted_ordered (filter (is_by place) (all_of hs))) in
-        let l = subst (λ l. LeadsTask (setup_in s) ((start s).task place) l (last.task place))
+        let l = subst (λ l. EntriesLead (setup_in s) ((start s).task place) l (last.task place))
         (ap without_tickets p.1 ∙ map-append (λ (n : Ticketed). n.entry) (early ticket (done_by place hs)) p.0) (shown.tasks place) in
         let r = task_split (setup_in s) (without_tickets (early ticket (done_by place hs))) (without_tickets p.0) ((start s).task place) (last.task place) l in
-        subst (λ l. LeadsTask (setup_in s) ((start s).task place) (without_tickets l) (task_behind s place (without_tickets (early ticket (done_by place hs))))) (sym (done_early place hs)) r.0
+        subst (λ l. EntriesLead (setup_in s) ((start s).task place) (without_tickets l) (task_behind s place (without_tickets (early ticket (done_by place hs))))) (sym (done_early place hs)) r.0
 
     -- where they lead
     pub then_state : State
@@ -140,8 +140,8 @@ module _ (ticket : ℕ) where
       apart = apart_early hs shown.apart;
       tagged = tagged_early hs shown.tagged;
       rises = λ name. subst (RiseFrom 0) (sym (history_early name hs)) (rises_filter (λ (n : Ticketed). nat_lt n.ticket ticket) 0 (history_of name hs) (shown.rises name));
-      objects = λ name. subst (LeadsObject ledger name (get (start s).objects name) (without_tickets (history_of name (early_histories ticket hs))))
-          (sym (get_made (λ name. (object_then name).0) name)) (object_then name).1;
+      objects = λ name. subst (LeadsObject ledger name (object_named (start s).objects name) (without_tickets (history_of name (early_histories ticket hs))))
+          (sym (named_made (λ name. (object_then name).0) name)) (object_then name).1;
       tasks = task_then;
       looks = λ place mine rest n is.
           let p = early_first ticket 0 (done_by place hs) (sorted_ordered (filter (is_by place) (all_of hs))) in
@@ -154,7 +154,7 @@ module _ (ticket : ℕ) where
 
 -- and with another state of one object, where its history leads to it too
 pub shown_put : (s : Scenario) (ledger : ℕ → LedgerId) (hs : Histories) (last : State) → Shown s ledger hs last → (name : Object) (v : StateAt name)
-    → LeadsObject ledger name (get (start s).objects name) (without_tickets (history_of name hs)) v → Shown s ledger hs (record last { objects = put_object last.objects name v })
+    → LeadsObject ledger name (object_named (start s).objects name) (without_tickets (history_of name hs)) v → Shown s ledger hs (record last { objects = put_object last.objects name v })
 shown_put s ledger hs last shown name v leads = record {
   events = shown.events;
   apart = shown.apart;
@@ -166,9 +166,9 @@ shown_put s ledger hs last shown name v leads = record {
 }
   where
     by_test : (other : Object) (b : Bool) → is_same_object other name ≡ b
-        → LeadsObject ledger other (get (start s).objects other) (without_tickets (history_of other hs)) (get (put_object last.objects name v) other)
+        → LeadsObject ledger other (object_named (start s).objects other) (without_tickets (history_of other hs)) (object_named (put_object last.objects name v) other)
     by_test other true same =
-        subst (λ k. LeadsObject ledger k (get (start s).objects k) (without_tickets (history_of k hs)) (get (put_object last.objects name v) k)) (sym (same_is other name same))
-        (subst (LeadsObject ledger name (get (start s).objects name) (without_tickets (history_of name hs))) (sym (get_put last.objects name v)) leads)
+        subst (λ k. LeadsObject ledger k (object_named (start s).objects k) (without_tickets (history_of k hs)) (object_named (put_object last.objects name v) k)) (sym (same_is other name same))
+        (subst (LeadsObject ledger name (object_named (start s).objects name) (without_tickets (history_of name hs))) (sym (named_put last.objects name v)) leads)
     by_test other false same =
-        subst (LeadsObject ledger other (get (start s).objects other) (without_tickets (history_of other hs))) (sym (get_other last.objects name other v same)) (shown.objects other)
+        subst (LeadsObject ledger other (object_named (start s).objects other) (without_tickets (history_of other hs))) (sym (named_other last.objects name other v same)) (shown.objects other)

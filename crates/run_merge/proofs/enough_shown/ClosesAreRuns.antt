@@ -35,8 +35,8 @@ use Rattle.shared_objects.proofs.tickets.CallOwners.{logged}
 use Rattle.run_merge.specs.Closing.{IsThrough, WasRefused, HasLast, IsClosed, MergeIsEndedRun}
 use Rattle.run_merge.specs.Machines.{LeadsObject}
 use Rattle.run_merge.specs.Merging.{Ticketed, RiseFrom, without_tickets, history_of, done_by, LetsAsk, Shown}
-use Rattle.run_merge.specs.ObjectsByName.{get, made_of}
-use Rattle.run_merge.specs.Products.{LeadsTask, led_by, task_behind}
+use Rattle.run_merge.specs.ObjectsByName.{object_named, made_of}
+use Rattle.run_merge.specs.Products.{EntriesLead, task_behind_entries, task_behind}
 use Rattle.run_merge.specs.SharedObjects.{seen_at, tasks_left, state_left, ClosesAreRuns}
 use Rattle.run_merge.proofs.Fronts.{has_some}
 use Rattle.run_merge.proofs.enough_shown.TaskCounts.{walked, first_is, done_at, rounds_few, few_drawn, image_at, image_none}
@@ -52,7 +52,7 @@ use Rattle.run_merge.proofs.enough_shown.SortedByTicket.{done_is}
 use Rattle.run_merge.proofs.enough_shown.TaskEnds.{object_last, log_drew, comes_to}
 use Rattle.run_merge.proofs.enough_shown.LogLeads.{is_told, AskSome, Walked, looks_there}
 use Rattle.run_merge.proofs.closing.ClosedRunsEnd.{closed_runs_end}
-use Rattle.run_merge.proofs.products.ObjectNames.{get_made}
+use Rattle.run_merge.proofs.products.ObjectNames.{named_made}
 
 -- a log where one of its events stands
 record IsCutAt (log : List Call) (mine : List Ticketed) (n : Ticketed) : Type 0 where
@@ -118,7 +118,7 @@ list_bios : (found : Option (DevId × Rescue)) (dev : ℕ)
 list_bios None dev = refl
 list_bios (Some entry) dev = refl
 
-opened_is : (plain : Plain) (name : Object) → get (objects_of plain) name ≡ seen_at name (opened_at plain name)
+opened_is : (plain : Plain) (name : Object) → object_named (objects_of plain) name ≡ seen_at name (opened_at plain name)
 opened_is plain (OfPool number) = refl
 opened_is plain (OfRescuer dev) = list_bios (find (is_entry_of list_number dev) plain.lists.items) dev
 opened_is plain (OfDisk dev) = refl
@@ -128,7 +128,7 @@ opened_is plain OfNone = refl
 
 module _ (s : Scenario) (plain : Plain) (names : List Object) (history : Object → List Call) (left : (name : Object) → ThingState (ThingAt name)) (tasks : List Returned)
     (pass : PassState) (c : ClosesAs (setup_in s) plain names history left tasks pass) (firsts : map (λ (task : Returned). task.first) tasks ≡ opened.opened_tasks s)
-    (begins : (name : Object) → get (start s).objects name ≡ seen_at name (opened_at plain name))
+    (begins : (name : Object) → object_named (start s).objects name ≡ seen_at name (opened_at plain name))
     (found : All (λ (task : Returned). found_by task.desk.pass ≤ pass.known) tasks) where
   ready : (name : Object) → IsReady (stage_of plain).ledger name (opened_at plain name) (drawn_in (history name))
   ready (OfPool number) = refl
@@ -151,7 +151,7 @@ module _ (s : Scenario) (plain : Plain) (names : List Object) (history : Object 
   -- what is shown of the task at each place
   record IsShownAt (place : ℕ) : Type 0 where
     now : TaskState
-    leads : LeadsTask (setup_in s) ((start s).task place) (without_tickets (done_by place (event_histories names history))) now
+    leads : EntriesLead (setup_in s) ((start s).task place) (without_tickets (done_by place (event_histories names history))) now
     looks : (mine rest : List Ticketed) (n : Ticketed) → done_by place (event_histories names history) ≡ mine ++ n ∷ rest
         → let task = task_behind s place (without_tickets mine) in LetsAsk s (stage_of plain).ledger (history_of OfTally (event_histories names history)) n.ticket task (look_of task)
     comes : ((get_or (tasks_left tasks) place no_task ≡ now) × IsThrough s (stage_of plain).ledger (event_histories names history) now)
@@ -160,8 +160,8 @@ module _ (s : Scenario) (plain : Plain) (names : List Object) (history : Object 
   shown_task : (place : ℕ) (task : Returned) → slice_get tasks place ≡ Some task → IsShownAt place
   shown_task place task at = record {
     now = w.now;
-    leads = subst (λ t. LeadsTask (setup_in s) t (without_tickets (done_by place (event_histories names history))) w.now) (sym first)
-        (subst (λ ns. LeadsTask (setup_in s) task.first (without_tickets ns) w.now) (sym done) w.leads);
+    leads = subst (λ t. EntriesLead (setup_in s) t (without_tickets (done_by place (event_histories names history))) w.now) (sym first)
+        (subst (λ ns. EntriesLead (setup_in s) task.first (without_tickets ns) w.now) (sym done) w.leads);
     looks = λ mine rest n is. by_cut mine n (cut_at task.log mine rest n (sym done ∙ is));
     comes = subst (λ t. ((t ≡ w.now) × IsThrough s (stage_of plain).ledger (event_histories names history) w.now)
         ⊎ (WasRefused s (stage_of plain).ledger (event_histories names history) place w.now t ⊎ HasLast (ticket_numbers pass.drawn)))
@@ -182,7 +182,7 @@ module _ (s : Scenario) (plain : Plain) (names : List Object) (history : Object 
           → let task = task_behind s place (without_tickets mine) in LetsAsk s (stage_of plain).ledger (history_of OfTally (event_histories names history)) n.ticket task (look_of task)
       by_cut mine n cut =
           let within : Contains task.log cut.call = subst (λ l. Contains l cut.call) (sym cut.is) (Contains-append_right cut.before (cut.call ∷ cut.after) cut.call (0, omega arith, refl)) in
-          let led = λ (t : TaskState) (ns : List Ticketed). led_by (setup_in s) t (without_tickets ns) in
+          let led = λ (t : TaskState) (ns : List Ticketed). task_behind_entries (setup_in s) t (without_tickets ns) in
           let looked = looks_there (setup_in s) [] task.first cut.before cut.after cut.call task.task cut.told
           (subst AskSome cut.is (ask_some s plain names history left tasks pass c place task at))
           (subst (λ l. LogLeads (setup_in s) [] task.first l task.task) cut.is (logged (setup_in s) plain names history left tasks pass c place task at).0.leads) in
@@ -198,7 +198,7 @@ module _ (s : Scenario) (plain : Plain) (names : List Object) (history : Object 
   shown_none : (place : ℕ) → length tasks ≤ place → IsShownAt place
   shown_none place le = record {
     now = no_task;
-    leads = subst (λ ns. LeadsTask (setup_in s) ((start s).task place) (without_tickets ns) no_task) (sym done) (sym first);
+    leads = subst (λ ns. EntriesLead (setup_in s) ((start s).task place) (without_tickets ns) no_task) (sym done) (sym first);
     looks = λ mine rest n is. nothing n rest mine (sym done ∙ is);
     comes = inl (image_none (λ (task : Returned). task.task) no_task tasks place le, inl refl);
   }
@@ -238,23 +238,23 @@ module _ (s : Scenario) (plain : Plain) (names : List Object) (history : Object 
         (rises_events 0 (left name).note (history name) ((keeps name).rises (unasked (opened_at plain name)) (left name) (history name) (c.things name))
         (told_drew name (unasked (opened_at plain name)) (left name) (history name) (c.things name)));
     objects = λ name.
-        subst (λ o. LeadsObject (stage_of plain).ledger name (get (start s).objects name) (without_tickets (history_of name (event_histories names history))) o)
-        (sym (get_made (λ name. seen_at name (run name).0) name))
-        (subst (λ ns. LeadsObject (stage_of plain).ledger name (get (start s).objects name) (without_tickets ns) (seen_at name (run name).0)) (sym (history_is history name names (c.others name)))
+        subst (λ o. LeadsObject (stage_of plain).ledger name (object_named (start s).objects name) (without_tickets (history_of name (event_histories names history))) o)
+        (sym (named_made (λ name. seen_at name (run name).0) name))
+        (subst (λ ns. LeadsObject (stage_of plain).ledger name (object_named (start s).objects name) (without_tickets ns) (seen_at name (run name).0)) (sym (history_is history name names (c.others name)))
         (subst (λ o. LeadsObject (stage_of plain).ledger name o (without_tickets (ticketed_events (history name))) (seen_at name (run name).0)) (sym (begins name)) (run name).1));
     tasks = λ place. (shown_at place).leads;
     looks = λ place mine rest n is. (shown_at place).looks mine rest n is;
   }
 
-  object_left : (name : Object) → (get (state_left left tasks).objects name ≡ get reached.objects name) ⊎ HasLast (ticket_numbers pass.drawn)
+  object_left : (name : Object) → (object_named (state_left left tasks).objects name ≡ object_named reached.objects name) ⊎ HasLast (ticket_numbers pass.drawn)
   unfolding reached
   object_left name = by_test (left name).spent refl
     where
       by_test : (b : Bool) → (left name).spent ≡ b
-          → (get (made_of (λ name. seen_at name (left name).object)) name ≡ get (made_of (λ name. seen_at name (run name).0)) name) ⊎ HasLast (ticket_numbers pass.drawn)
+          → (object_named (made_of (λ name. seen_at name (left name).object)) name ≡ object_named (made_of (λ name. seen_at name (run name).0)) name) ⊎ HasLast (ticket_numbers pass.drawn)
       by_test true is = inr (object_last s plain names history left tasks pass c (stage_of plain).ledger begins ready found name is)
       by_test false is =
-          inl (get_made (λ name. seen_at name (left name).object) name ∙ ap (seen_at name) (sym ((run name).2 is)) ∙ sym (get_made (λ name. seen_at name (run name).0) name))
+          inl (named_made (λ name. seen_at name (left name).object) name ∙ ap (seen_at name) (sym ((run name).2 is)) ∙ sym (named_made (λ name. seen_at name (run name).0) name))
 
   pub is_closed : IsClosed s (stage_of plain).ledger (event_histories names history) (ticket_numbers pass.drawn) (state_left left tasks)
   unfolding reached
@@ -275,7 +275,7 @@ closes_are_runs opened names history left tasks pass is firsts c found =
     let closes = subst (λ setup. ClosesAs setup opened.objects names history left tasks pass) is.setup c in
     let merged = closed_runs_end s ledger (event_histories names history) (ticket_numbers pass.drawn) (state_left left tasks) runnable is.rescuers is.one.holds.numbered
     (is_closed s opened.objects names history left tasks pass closes (firsts ∙ is.tasks)
-    (λ name. ap (λ (o : Objects). get o name) (sym is.objects) ∙ opened_is opened.objects name) found) in
+    (λ name. ap (λ (o : Objects). object_named o name) (sym is.objects) ∙ opened_is opened.objects name) found) in
     let shows = λ (name : Object). history_shows name (unasked (opened_at opened.objects name)) (left name) (history name) (c.things name) in
     let drew = drew_as_events s opened.objects names history left tasks pass closes
     (λ place task at. ap is_broken (sym (image_at (λ (task : Returned). task.task) no_task tasks place task at)) ∙ merged.unbroken place) in (

@@ -13,7 +13,7 @@ use Rattle.shared_objects.specs.Logs.{is_event, is_stop, events_in, Looked, LogL
 use Rattle.shared_objects.proofs.logs.CallsLead.{event_first, kinds, quiet_first, stop_kind}
 use Rattle.shared_objects.proofs.steps.BrokenRests.{broken_rests}
 use Rattle.run_merge.specs.Merging.{Ticketed, without_tickets}
-use Rattle.run_merge.specs.Products.{LeadsTask, led_by}
+use Rattle.run_merge.specs.Products.{EntriesLead, task_behind_entries}
 use Rattle.run_merge.proofs.Fronts.{has_some}
 use Rattle.run_merge.proofs.enough_shown.BreaksOff.{stop_breaks}
 use Rattle.run_merge.proofs.enough_shown.CallEvents.{drawn_entry, ticketed_events}
@@ -42,7 +42,7 @@ pub record IsStopped (setup : Setup) (before : List Call) (log : List Call) (now
 pub record Walked (setup : Setup) (before : List Call) (first : TaskState) (log : List Call) (last : TaskState) : Type 0 where
   -- where the events lead it
   pub now : TaskState
-  pub leads : LeadsTask setup first (without_tickets (ticketed_events log)) now
+  pub leads : EntriesLead setup first (without_tickets (ticketed_events log)) now
   pub end : (last ≡ now) ⊎ IsStopped setup before log now last
 
 abbrev pub map_all : List Call → List Ticketed
@@ -50,12 +50,12 @@ map_all calls = map drawn_entry calls
 
 module _ (setup : Setup) where
   by_events : (before : List Call) (first : TaskState) (m : Call) (mine : List Call) (call : Call) (events : List Call) → events_in (m ∷ mine) ≡ events
-      → (let task = led_by setup first (without_tickets (map_all events)) in Looked ((before ++ m ∷ []) ++ mine) task call (look_of task))
-      → let task = led_by setup first (without_tickets (map_all (events_in (m ∷ mine)))) in Looked (before ++ m ∷ mine) task call (look_of task)
+      → (let task = task_behind_entries setup first (without_tickets (map_all events)) in Looked ((before ++ m ∷ []) ++ mine) task call (look_of task))
+      → let task = task_behind_entries setup first (without_tickets (map_all (events_in (m ∷ mine)))) in Looked (before ++ m ∷ mine) task call (look_of task)
   by_events before first m mine call events is looked =
-      subst (λ l. Looked l (led_by setup first (without_tickets (map_all (events_in (m ∷ mine))))) call (look_of (led_by setup first (without_tickets (map_all (events_in (m ∷ mine)))))))
+      subst (λ l. Looked l (task_behind_entries setup first (without_tickets (map_all (events_in (m ∷ mine))))) call (look_of (task_behind_entries setup first (without_tickets (map_all (events_in (m ∷ mine)))))))
       (append_assoc before (m ∷ []) mine)
-      (subst (λ es. Looked ((before ++ m ∷ []) ++ mine) (led_by setup first (without_tickets (map_all es))) call (look_of (led_by setup first (without_tickets (map_all es))))) (sym is) looked)
+      (subst (λ es. Looked ((before ++ m ∷ []) ++ mine) (task_behind_entries setup first (without_tickets (map_all es))) call (look_of (task_behind_entries setup first (without_tickets (map_all es))))) (sym is) looked)
 
   -- behind it a task only looks
   pub only_looks : (before : List Call) (task : TaskState) (calls : List Call) (last : TaskState) → is_broken task ≡ true → AskSome calls → LogLeads setup before task calls last
@@ -94,7 +94,7 @@ module _ (setup : Setup) where
       let rest = walk (before ++ call ∷ []) first calls last (All-tail (λ (c : Call). object_of c.asked ≡ OfNone → ⊥) call calls some) leads in
       record {
         now = rest.now;
-        leads = subst (λ l. LeadsTask setup first (without_tickets (map_all l)) rest.now) (sym (quiet_first call calls (kinds call glance).0)) rest.leads;
+        leads = subst (λ l. EntriesLead setup first (without_tickets (map_all l)) rest.now) (sym (quiet_first call calls (kinds call glance).0)) rest.leads;
         end = behind_one before call calls rest.now last rest.end;
       }
   walk before first (call ∷ calls) last some (inr (none, asks, looked, leads)) =
@@ -106,7 +106,7 @@ module _ (setup : Setup) where
       by_event : (told : Bool) → is_told call ≡ told → Walked setup (before ++ call ∷ []) (answered setup first call.told.reply) calls last → Walked setup before first (call ∷ calls) last
       by_event true is rest = record {
         now = rest.now;
-        leads = subst (λ l. LeadsTask setup first (without_tickets (map_all l)) rest.now) (sym (event_first call calls is)) (asks, rest.leads);
+        leads = subst (λ l. EntriesLead setup first (without_tickets (map_all l)) rest.now) (sym (event_first call calls is)) (asks, rest.leads);
         end = behind_one before call calls rest.now last rest.end;
       }
       by_event false is rest =
@@ -115,7 +115,7 @@ module _ (setup : Setup) where
           let behind = only_looks (before ++ call ∷ []) (answered setup first call.told.reply) calls last broken others leads in
           record {
             now = first;
-            leads = subst (λ l. LeadsTask setup first (without_tickets (map_all l)) first) (sym (quiet_first call calls is ∙ behind.1)) refl;
+            leads = subst (λ l. EntriesLead setup first (without_tickets (map_all l)) first) (sym (quiet_first call calls is ∙ behind.1)) refl;
             end = inr (record {
               here = [];
               call = call;
@@ -142,7 +142,7 @@ module _ (setup : Setup) where
   -- each event stands behind a look, where its task has one
   pub looks_there : (before : List Call) (first : TaskState) (mine rest : List Call) (call : Call) (last : TaskState) → is_told call ≡ true → AskSome (mine ++ call ∷ rest)
       → LogLeads setup before first (mine ++ call ∷ rest) last
-      → let task = led_by setup first (without_tickets (ticketed_events mine)) in Looked (before ++ mine) task call (look_of task)
+      → let task = task_behind_entries setup first (without_tickets (ticketed_events mine)) in Looked (before ++ mine) task call (look_of task)
   looks_there before first [] rest call last told some (inl (glance, leads)) = absurd (true≢false (sym told ∙ (kinds call glance).0))
   looks_there before first [] rest call last told some (inr (none, asks, looked, leads)) =
       subst (λ l. Looked l first call (look_of first)) (sym (append-nil before)) looked
@@ -157,11 +157,11 @@ module _ (setup : Setup) where
       others = All-tail (λ (c : Call). object_of c.asked ≡ OfNone → ⊥) m (mine ++ call ∷ rest) some
 
       Then : TaskState → List Call → Type 0
-      Then from events = Looked (before ++ m ∷ mine) (led_by setup from (without_tickets (map_all events))) call (look_of (led_by setup from (without_tickets (map_all events))))
+      Then from events = Looked (before ++ m ∷ mine) (task_behind_entries setup from (without_tickets (map_all events))) call (look_of (task_behind_entries setup from (without_tickets (map_all events))))
 
       by_event : (b : Bool) → is_told m ≡ b
-          → Looked ((before ++ m ∷ []) ++ mine) (led_by setup (answered setup first m.told.reply) (without_tickets (ticketed_events mine))) call
-          (look_of (led_by setup (answered setup first m.told.reply) (without_tickets (ticketed_events mine))))
+          → Looked ((before ++ m ∷ []) ++ mine) (task_behind_entries setup (answered setup first m.told.reply) (without_tickets (ticketed_events mine))) call
+          (look_of (task_behind_entries setup (answered setup first m.told.reply) (without_tickets (ticketed_events mine))))
           → Then first (events_in (m ∷ mine))
       by_event true is l = by_events before first m mine call (m ∷ events_in mine) (event_first m mine is) l
       by_event false is l =

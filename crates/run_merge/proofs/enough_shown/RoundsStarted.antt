@@ -32,7 +32,7 @@ use Rattle.shared_objects.specs.Kinds.{answers_at}
 use Rattle.shared_objects.specs.Logs.{is_event}
 use Rattle.run_merge.specs.Entries.{Entry, AreEvents}
 use Rattle.run_merge.specs.Merging.{Ticketed}
-use Rattle.run_merge.specs.Products.{LeadsTask, is_next_round}
+use Rattle.run_merge.specs.Products.{EntriesLead, is_next_round}
 use Rattle.run_merge.proofs.enough_shown.CallTickets.{events_told, events_untold}
 use Rattle.run_merge.proofs.enough_shown.CallEvents.{drawn_entry, ticketed_events}
 use Rattle.run_merge.proofs.enough_shown.ObjectHistories as calls
@@ -103,7 +103,7 @@ module _ (setup : Setup) where
   one_event (Keeper (Stops breach)) asked reply asks event = absurd (true≢false (sym event ∙ ap (λ a. is_event a reply) asks))
 
   -- those of its events are no more
-  pub task_starts : (es : List Entry) (first now : TaskState) → AreEvents es → LeadsTask setup first es now
+  pub task_starts : (es : List Entry) (first now : TaskState) → AreEvents es → EntriesLead setup first es now
       → length (filter (λ (e : Entry). is_next_round e.asked) es) ≤ starts_left first
   task_starts [] first now events leads = omega arith
   task_starts (e ∷ es) first now events leads =

@@ -22,7 +22,7 @@ use Rattle.shared_objects.proofs.tickets.TicketsOfCalls.{keeps}
 use Rattle.shared_objects.proofs.tickets.CallOwners.{kept, IsInPlace, in_place}
 use Rattle.run_merge.specs.Machines.{TallyMachine, LeadsObject}
 use Rattle.run_merge.specs.Merging.{Ticketed, without_tickets, history_of, TallyThen, LetsAsk}
-use Rattle.run_merge.specs.ObjectsByName.{get}
+use Rattle.run_merge.specs.ObjectsByName.{object_named}
 use Rattle.run_merge.specs.SharedObjects.{seen_at}
 use Rattle.run_merge.proofs.enough_shown.CallTickets.{events_around, none_greater}
 use Rattle.run_merge.proofs.enough_shown.CallEvents.{ticketed_events, event_histories}
@@ -70,7 +70,7 @@ is_look task look is = elim (task_looks task look is) [
 
 module _ (s : Scenario) (plain : Plain) (names : List Object) (history : Object → List Call) (left : (name : Object) → ThingState (ThingAt name)) (tasks : List Returned)
     (pass : PassState) (c : ClosesAs (setup_in s) plain names history left tasks pass) (ledger : ℕ → LedgerId)
-    (begins : (name : Object) → get (start s).objects name ≡ seen_at name (opened_at plain name))
+    (begins : (name : Object) → object_named (start s).objects name ≡ seen_at name (opened_at plain name))
     (ready : (name : Object) → IsReady ledger name (opened_at plain name) (drawn_in (history name))) where
   pub parts_ready : (name : Object) (before after : List Call) → history name ≡ before ++ after → IsReady ledger name (opened_at plain name) (drawn_in before ++ drawn_in after)
   parts_ready name before after is =

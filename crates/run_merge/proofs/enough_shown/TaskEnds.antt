@@ -24,7 +24,7 @@ use Rattle.shared_objects.proofs.logs.StepNotes.{HasTicket}
 use Rattle.run_merge.specs.Closing.{IsThrough, WasRefused, HasLast}
 use Rattle.run_merge.specs.Machines.{ServesAt, TallyMachine, LeadsObject}
 use Rattle.run_merge.specs.Merging.{Ticketed, without_tickets, done_by}
-use Rattle.run_merge.specs.ObjectsByName.{get}
+use Rattle.run_merge.specs.ObjectsByName.{object_named}
 use Rattle.run_merge.specs.SharedObjects.{seen_at}
 use Rattle.run_merge.proofs.enough_shown.CallTickets.{events_append, events_untold, rises_events, none_greater, rises_above, rises_parts}
 use Rattle.run_merge.proofs.enough_shown.CallEvents.{ticketed_events, event_histories, drawn_entry}
@@ -35,7 +35,7 @@ use Rattle.run_merge.proofs.enough_shown.LogLeads.{IsStopped}
 
 module _ (s : Scenario) (plain : Plain) (names : List Object) (history : Object → List Call) (left : (name : Object) → ThingState (ThingAt name)) (tasks : List Returned)
     (pass : PassState) (c : ClosesAs (setup_in s) plain names history left tasks pass) (ledger : ℕ → LedgerId)
-    (begins : (name : Object) → get (start s).objects name ≡ seen_at name (opened_at plain name))
+    (begins : (name : Object) → object_named (start s).objects name ≡ seen_at name (opened_at plain name))
     (ready : (name : Object) → IsReady ledger name (opened_at plain name) (drawn_in (history name)))
     (found : All (λ (task : Returned). found_by task.desk.pass ≤ pass.known) tasks) where
   -- where an object said that there was no ticket, the last one was drawn

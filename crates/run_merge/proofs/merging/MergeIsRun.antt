@@ -16,15 +16,15 @@ use Rattle.shared_objects.specs.Calls.{is_same_object, struck}
 use Rattle.shared_objects.specs.Logs.{is_event}
 use Rattle.run_merge.specs.Entries.{Entry, entries_in}
 use Rattle.run_merge.specs.Machines.{LeadsObject, entries_at}
-use Rattle.run_merge.specs.ObjectsByName.{get}
-use Rattle.run_merge.specs.Products.{LeadsTask, entries_by, task_behind, AreOfRun}
+use Rattle.run_merge.specs.ObjectsByName.{object_named}
+use Rattle.run_merge.specs.Products.{EntriesLead, entries_by, task_behind, AreOfRun}
 use Rattle.run_merge.specs.Merging.{Ticketed, Histories, without_tickets, sorted_by_ticket, all_of, history_of, done_by, TallyThen, LetsAsk, Shown, MergesAreRuns}
 use Rattle.run_merge.proofs.merging.Picked.{is_at, is_by, entries_filter, merge_at, merge_by, merge_entries_at, merge_entries_by}
 use Rattle.run_merge.proofs.merging.TwoParts.{cut, object_split, task_split, smaller_first}
 use Rattle.run_merge.proofs.merging.TallyAlone.{IsLaterTally, from_there}
 use Rattle.run_merge.proofs.merging.TicketOrder.{Ordered, sorted_ordered, all_sorted, ordered_filter, ordered_split}
 use Rattle.run_merge.proofs.products.StateBehind.{at_start, behind_run}
-use Rattle.run_merge.proofs.products.KnownBehind.{Known, known}
+use Rattle.run_merge.proofs.products.KnownBehind.{RoundsKnown, rounds_known}
 use Rattle.run_merge.proofs.products.ProductIsRun.{leads}
 use Rattle.run_merge.proofs.products.LookLets.{ComesBehind, comes_by}
 use Rattle.run_merge.proofs.products.RunIsProduct.{run_objects}
@@ -51,8 +51,8 @@ module _ (s : Scenario) (ledger : ℕ → LedgerId) (good : IsScenario s) (namin
         let parts = object_split ledger OfTally (without_tickets was.seen) (without_tickets more.0) (start s).objects.tally state.objects.tally run in
         from_there ledger (without_tickets was.seen) (without_tickets more.0) (start s).objects.tally parts.0 was.shown state.objects.tally parts.1 was.leads parts.2
 
-    k : Known s between state
-    k = known s ledger good naming between state reached
+    k : RoundsKnown s between state
+    k = rounds_known s ledger good naming between state reached
 
     pub still_let : (place : ℕ) (x : TaskState) → state.task place ≡ x → LetsAsk s ledger (history_of OfTally hs) ticket x (look_of x) → IsLet ledger state.objects x (look_of x)
     -- writers: the round is the one that was seen, or a later one
@@ -99,14 +99,14 @@ module _ (s : Scenario) (ledger : ℕ → LedgerId) (good : IsScenario s) (namin
       let task = task_behind s place (without_tickets mine) in
       let task_is : state.task place ≡ task =
       b.mine place ∙ ap (task_behind s place) (ap (entries_by place) (sym entries) ∙ entries_filter (λ (e : Entry). place == e.place) before) in
-      let led = subst (λ l. LeadsTask (setup_in s) ((start s).task place) l (last.task place))
+      let led = subst (λ l. EntriesLead (setup_in s) ((start s).task place) l (last.task place))
       (ap without_tickets own ∙ map-append (λ (n : Ticketed). n.entry) mine (here ∷ filter (is_by place) after)) (shown.tasks place) in
       let asks : here.entry.asked ≡ struck (request (setup_in s) task) =
       (task_split (setup_in s) (without_tickets mine) (here.entry ∷ without_tickets (filter (is_by place) after)) ((start s).task place) (last.task place) led).1.0 in
       let above = (ordered_split 0 before (here ∷ after) (subst (Ordered 0) all (sorted_ordered (all_of hs)))).1.1 in
       let may = still_let between state reached here.ticket before (here ∷ after) all (omega arith, above) entries place task task_is
       (shown.looks place mine (filter (is_by place) after) here own) in
-      let comes = comes_by s ledger between state (known s ledger good naming between state reached) b.count place task task_is may in
+      let comes = comes_by s ledger between state (rounds_known s ledger good naming between state reached) b.count place task task_is may in
       subst (λ (x : TaskState). ComesBehind s between x here.entry.asked) (sym task_is) (subst (ComesBehind s between task) (sym asks) comes)
 
   comes : (between after : List Entry) (e : Entry) → without_tickets (sorted_by_ticket (all_of hs)) ≡ between ++ e ∷ after → (state : State) → AreOfRun s ledger between state
@@ -120,8 +120,8 @@ module _ (s : Scenario) (ledger : ℕ → LedgerId) (good : IsScenario s) (namin
       leads s ledger good naming [] (without_tickets (sorted_by_ticket (all_of hs))) (start s) last (at_start s ledger)
       (All-map (λ (e : Entry). IsTrue (is_event e.asked e.reply)) (λ (n : Ticketed). n.entry) (sorted_by_ticket (all_of hs))
       (all_sorted (λ (n : Ticketed). IsTrue (is_event n.entry.asked n.entry.reply)) (all_of hs) shown.events))
-      (λ name. subst (λ l. LeadsObject ledger name (get (start s).objects name) l (get last.objects name)) (sym (merge_entries_at hs shown.apart shown.tagged shown.rises name)) (shown.objects name))
-      (λ place. subst (λ l. LeadsTask (setup_in s) ((start s).task place) l (last.task place)) (sym (merge_entries_by hs place)) (shown.tasks place))
+      (λ name. subst (λ l. LeadsObject ledger name (object_named (start s).objects name) l (object_named last.objects name)) (sym (merge_entries_at hs shown.apart shown.tagged shown.rises name)) (shown.objects name))
+      (λ place. subst (λ l. EntriesLead (setup_in s) ((start s).task place) l (last.task place)) (sym (merge_entries_by hs place)) (shown.tasks place))
       comes
 
 pub merges_are_runs : MergesAreRuns

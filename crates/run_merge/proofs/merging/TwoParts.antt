@@ -12,7 +12,7 @@ use Rattle.run_merge.specs.Entries.{Entry}
 use Rattle.run_merge.specs.Machines.{LeadsObject}
 use Rattle.run_merge.specs.Merging.{Ticketed, without_tickets}
 use Rattle.run_merge.specs.ObjectsByName.{StateAt}
-use Rattle.run_merge.specs.Products.{LeadsTask, led_by}
+use Rattle.run_merge.specs.Products.{EntriesLead, task_behind_entries}
 use Rattle.run_merge.proofs.Fronts.{is_none}
 use Rattle.run_merge.proofs.merging.TicketOrder.{Ordered}
 
@@ -22,8 +22,8 @@ pub object_split : (ledger : ℕ → LedgerId) (name : Object) (xs ys : List Ent
 object_split ledger name [] ys old new l = (old, refl, l)
 object_split ledger name (x ∷ xs) ys old new l = let r = object_split ledger name xs ys l.0 new l.2 in (r.0, (l.0, l.1, r.1), r.2)
 
-pub task_split : (setup : Setup) (xs ys : List Entry) (old new : TaskState) → LeadsTask setup old (xs ++ ys) new
-    → LeadsTask setup old xs (led_by setup old xs) × LeadsTask setup (led_by setup old xs) ys new
+pub task_split : (setup : Setup) (xs ys : List Entry) (old new : TaskState) → EntriesLead setup old (xs ++ ys) new
+    → EntriesLead setup old xs (task_behind_entries setup old xs) × EntriesLead setup (task_behind_entries setup old xs) ys new
 task_split setup [] ys old new l = (refl, l)
 task_split setup (x ∷ xs) ys old new l = let r = task_split setup xs ys (answered setup old x.reply) new l.1 in ((l.0, r.0), r.1)
 

@@ -27,7 +27,8 @@ use Rattle.run_merge.proofs.products.Stages.{some_at_start, none_at_start, stage
 abbrev pub present_left : State → ℕ
 present_left state = slice_index_or state.objects.tally.left state.objects.tally.round 0
 
-pub record Known (s : Scenario) (before : List Entry) (state : State) : Type 0 where
+-- what is known of rounds behind these entries, which lead to this state
+pub record RoundsKnown (s : Scenario) (before : List Entry) (state : State) : Type 0 where
   -- what is unfinished is of the present round, or of a later one, of which all is
   pub sums : sum state.objects.tally.left ≡ present_left state + writes_from s (state.objects.tally.round + 1)
   -- what the keeper does next belongs to the round behind the present one
@@ -49,8 +50,8 @@ module _ (s : Scenario) (ledger : ℕ → LedgerId) (good : IsScenario s) (namin
   g : DeviceGeometry sc.setup
   g = ground s.stack good.stack (setup_in s).places
 
-  pub known : (before : List Entry) (state : State) → AreOfRun s ledger before state → Known s before state
-  known before state (events, run, is) = record {
+  pub rounds_known : (before : List Entry) (state : State) → AreOfRun s ledger before state → RoundsKnown s before state
+  rounds_known before state (events, run, is) = record {
     sums = t.tally.sums;
     duties = λ place duty duties at. later_is duty duties (own place (duty ∷ duties) at);
     next = λ place round later duties at. (own place (Starts round later ∷ duties) at).0;

@@ -15,11 +15,11 @@ use Rattle.run_machine.specs.Runs.{State, IsLet}
 use Rattle.run_machine.specs.Tasks.{TaskState, Writer, Rescuer, Completer, Keeper, Keeps, Stops, Duty, Resizes, Starts, Todo, Gathered, NoBio, request, look_of, writer_look, later_of}
 use Rattle.shared_objects.specs.Calls.{is_same_object, struck}
 use Rattle.run_merge.specs.Entries.{Entry}
-use Rattle.run_merge.specs.ObjectsByName.{get}
+use Rattle.run_merge.specs.ObjectsByName.{object_named}
 use Rattle.run_merge.specs.Products.{is_next_round, changes_reserve, rounds_started, AreDone, RoundHasCome, MayBegin}
 use Rattle.run_merge.proofs.products.KeeperAsks.{is_keeping, writer_keeps_none, rescuer_keeps_none, completer_keeps_none}
-use Rattle.run_merge.proofs.products.KnownBehind.{Known, present_left}
-use Rattle.run_merge.proofs.products.ObjectNames.{get_other}
+use Rattle.run_merge.proofs.products.KnownBehind.{RoundsKnown, present_left}
+use Rattle.run_merge.proofs.products.ObjectNames.{named_other}
 use Rattle.run_merge.proofs.products.Served.{others_stay}
 
 -- the present round rises where a round starts
@@ -51,7 +51,7 @@ round_after ledger o request reply new h = by_object (is_same_object OfTally (ob
     by_object true on = at_tally request reply h on
     by_object false off =
         let same = ap (λ (x : Objects). x.tally.round) (others_stay ledger o request reply new h)
-        ∙ ap (λ (t : TallyState). t.round) (get_other o (object_of request) OfTally (get new (object_of request)) off) in
+        ∙ ap (λ (t : TallyState). t.round) (named_other o (object_of request) OfTally (object_named new (object_of request)) off) in
         let none : (if is_next_round request then 1 else 0) + 0 ≡ 0 = ap (λ b. (if b then 1 else 0) + 0) (none_starts request off) in
         omega (arith, same, none)
 
@@ -87,7 +87,7 @@ no_keeper s before task asked may none = record {
   resizes = λ changes. absurd (true≢false (sym (changes_keeping asked changes) ∙ none));
 }
 
-module _ (s : Scenario) (ledger : ℕ → LedgerId) (before : List Entry) (state : State) (known : Known s before state) (count : rounds_started before ≡ state.objects.tally.round) where
+module _ (s : Scenario) (ledger : ℕ → LedgerId) (before : List Entry) (state : State) (known : RoundsKnown s before state) (count : rounds_started before ≡ state.objects.tally.round) where
   -- by the tally, all writes are done of the rounds up to the present one
   all_done : (place : ℕ) (duty : Duty) (duties : List Duty) → state.task place ≡ Keeper (Keeps (duty ∷ duties)) → sum state.objects.tally.left ≡ later_of duty
       → AreDone s (rounds_started before + 1) before

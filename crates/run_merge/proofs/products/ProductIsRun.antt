@@ -27,12 +27,12 @@ use Rattle.shared_objects.proofs.SameNames.{same_is, same_self}
 use Rattle.shared_objects.proofs.steps.GlanceStays.{event_struck}
 use Rattle.run_merge.specs.Entries.{Entry, AreEvents}
 use Rattle.run_merge.specs.Machines.{ServesAt, LeadsObject, entries_at}
-use Rattle.run_merge.specs.ObjectsByName.{StateAt, get, put_object}
-use Rattle.run_merge.specs.Products.{LeadsTask, entries_by, AreOfRun}
+use Rattle.run_merge.specs.ObjectsByName.{StateAt, object_named, put_object}
+use Rattle.run_merge.specs.Products.{EntriesLead, entries_by, AreOfRun}
 use Rattle.run_merge.proofs.products.StateBehind.{Behind, one_more}
-use Rattle.run_merge.proofs.products.KnownBehind.{known}
+use Rattle.run_merge.proofs.products.KnownBehind.{rounds_known}
 use Rattle.run_merge.proofs.products.LookLets.{ComesBehind, lets}
-use Rattle.run_merge.proofs.products.ObjectNames.{get_put, get_other, all_same}
+use Rattle.run_merge.proofs.products.ObjectNames.{named_put, named_other, all_same}
 use Rattle.run_merge.proofs.products.Served.{serves_all, struck_serves}
 
 is_some_of : (w : Option What) → IsTrue (is_some w) → (what : What) × (w ≡ Some what)
@@ -50,7 +50,7 @@ module _ (s : Scenario) (ledger : ℕ → LedgerId) (good : IsScenario s) (namin
 
   -- a task behind the last asks for nothing
   pub is_inside : (before : List Entry) (state : State) → Behind s ledger before state → (place : ℕ) (asked : Request) (reply : Reply) (v : StateAt (object_of asked))
-      → asked ≡ struck (request (setup_in s) (state.task place)) → ServesAt ledger (object_of asked) (get state.objects (object_of asked)) asked reply v → place < length (opened_tasks s)
+      → asked ≡ struck (request (setup_in s) (state.task place)) → ServesAt ledger (object_of asked) (object_named state.objects (object_of asked)) asked reply v → place < length (opened_tasks s)
   is_inside before state b place asked reply v is serves = by_two (below_or place (length (opened_tasks s)))
     where
       by_two : (place < length (opened_tasks s)) ⊎ (length (opened_tasks s) ≤ place) → place < length (opened_tasks s)
@@ -61,8 +61,8 @@ module _ (s : Scenario) (ledger : ℕ → LedgerId) (good : IsScenario s) (namin
           absurd (subst (λ r. Serves ledger state.objects r reply (put_object state.objects (object_of asked) v)) rests all)
 
   pub leads : (before es : List Entry) (state last : State) → Behind s ledger before state → AreEvents es
-      → ((name : Object) → LeadsObject ledger name (get state.objects name) (entries_at name es) (get last.objects name))
-      → ((place : ℕ) → LeadsTask (setup_in s) (state.task place) (entries_by place es) (last.task place))
+      → ((name : Object) → LeadsObject ledger name (object_named state.objects name) (entries_at name es) (object_named last.objects name))
+      → ((place : ℕ) → EntriesLead (setup_in s) (state.task place) (entries_by place es) (last.task place))
       → AreOrdered before es → AreOfRun s ledger (before ++ es) last
   leads before [] state last b events objects tasks ordered =
       let same : last ≡ state = λ i. record { objects = all_same last.objects state.objects objects i; task = fun_ext tasks i } in
@@ -80,11 +80,11 @@ module _ (s : Scenario) (ledger : ℕ → LedgerId) (good : IsScenario s) (namin
       asks : Request
       asks = request (setup_in s) (state.task place)
 
-      here : LeadsObject ledger name (get state.objects name) (e ∷ entries_at name es) (get last.objects name)
-      here = subst (λ b. LeadsObject ledger name (get state.objects name) (cond b (e ∷ entries_at name es) (entries_at name es)) (get last.objects name)) (same_self name) (objects name)
+      here : LeadsObject ledger name (object_named state.objects name) (e ∷ entries_at name es) (object_named last.objects name)
+      here = subst (λ b. LeadsObject ledger name (object_named state.objects name) (cond b (e ∷ entries_at name es) (entries_at name es)) (object_named last.objects name)) (same_self name) (objects name)
 
-      mine : LeadsTask (setup_in s) (state.task place) (e ∷ entries_by place es) (last.task place)
-      mine = subst (λ b. LeadsTask (setup_in s) (state.task place) (cond b (e ∷ entries_by place es) (entries_by place es)) (last.task place)) (eq-eqb place place refl) (tasks place)
+      mine : EntriesLead (setup_in s) (state.task place) (e ∷ entries_by place es) (last.task place)
+      mine = subst (λ b. EntriesLead (setup_in s) (state.task place) (cond b (e ∷ entries_by place es) (entries_by place es)) (last.task place)) (eq-eqb place place refl) (tasks place)
 
       o : StateAt name
       o = here.0
@@ -116,7 +116,7 @@ module _ (s : Scenario) (ledger : ℕ → LedgerId) (good : IsScenario s) (namin
       steps = record {
         here = is_inside before state b place e.asked e.reply o asked_is here.1;
         by = refl;
-        is_let = lets s ledger before state (known s ledger good naming before state b.reached) b.count place (state.task place) refl comes;
+        is_let = lets s ledger before state (rounds_known s ledger good naming before state b.reached) b.count place (state.task place) refl comes;
         reply = e.reply;
         told = what.1;
         serves = serves;
@@ -127,30 +127,30 @@ module _ (s : Scenario) (ledger : ℕ → LedgerId) (good : IsScenario s) (namin
       behind = subst (λ x. Behind s ledger (before ++ x ∷ []) next) (λ i. record { place = e.place; asked = sym asked_is i; reply = e.reply })
           (one_more s ledger before state b place event next steps)
 
-      objects_rest : (other : Object) → LeadsObject ledger other (get next.objects other) (entries_at other es) (get last.objects other)
+      objects_rest : (other : Object) → LeadsObject ledger other (object_named next.objects other) (entries_at other es) (object_named last.objects other)
       objects_rest other = by_test (is_same_object other name) refl
         where
-          by_test : (b : Bool) → is_same_object other name ≡ b → LeadsObject ledger other (get next.objects other) (entries_at other es) (get last.objects other)
+          by_test : (b : Bool) → is_same_object other name ≡ b → LeadsObject ledger other (object_named next.objects other) (entries_at other es) (object_named last.objects other)
           by_test true same =
-              subst (λ k. LeadsObject ledger k (get next.objects k) (entries_at k es) (get last.objects k)) (sym (same_is other name same))
-              (subst (λ v. LeadsObject ledger name v (entries_at name es) (get last.objects name)) (sym (get_put state.objects name o)) here.2)
+              subst (λ k. LeadsObject ledger k (object_named next.objects k) (entries_at k es) (object_named last.objects k)) (sym (same_is other name same))
+              (subst (λ v. LeadsObject ledger name v (entries_at name es) (object_named last.objects name)) (sym (named_put state.objects name o)) here.2)
           by_test false same =
-              subst (λ v. LeadsObject ledger other v (entries_at other es) (get last.objects other)) (sym (get_other state.objects name other o same))
-              (subst (λ b. LeadsObject ledger other (get state.objects other) (cond b (e ∷ entries_at other es) (entries_at other es)) (get last.objects other)) same (objects other))
+              subst (λ v. LeadsObject ledger other v (entries_at other es) (object_named last.objects other)) (sym (named_other state.objects name other o same))
+              (subst (λ b. LeadsObject ledger other (object_named state.objects other) (cond b (e ∷ entries_at other es) (entries_at other es)) (object_named last.objects other)) same (objects other))
 
-      tasks_rest : (other : ℕ) → LeadsTask (setup_in s) (next.task other) (entries_by other es) (last.task other)
+      tasks_rest : (other : ℕ) → EntriesLead (setup_in s) (next.task other) (entries_by other es) (last.task other)
       tasks_rest other = by_test (other == place) refl
         where
           x : TaskState
           x = answered (setup_in s) (state.task place) e.reply
 
-          by_test : (b : Bool) → (other == place) ≡ b → LeadsTask (setup_in s) (next.task other) (entries_by other es) (last.task other)
+          by_test : (b : Bool) → (other == place) ≡ b → EntriesLead (setup_in s) (next.task other) (entries_by other es) (last.task other)
           by_test true same =
-              subst (λ k. LeadsTask (setup_in s) (next.task k) (entries_by k es) (last.task k)) (sym (eqb-true other place same))
-              (subst (λ v. LeadsTask (setup_in s) v (entries_by place es) (last.task place)) (sym (upd_same state.task place x)) mine.1)
+              subst (λ k. EntriesLead (setup_in s) (next.task k) (entries_by k es) (last.task k)) (sym (eqb-true other place same))
+              (subst (λ v. EntriesLead (setup_in s) v (entries_by place es) (last.task place)) (sym (upd_same state.task place x)) mine.1)
           by_test false same =
-              subst (λ v. LeadsTask (setup_in s) v (entries_by other es) (last.task other)) (sym (upd_other state.task place x other (eqb-false other place same)))
-              (subst (λ b. LeadsTask (setup_in s) (state.task other) (cond b (e ∷ entries_by other es) (entries_by other es)) (last.task other)) same (tasks other))
+              subst (λ v. EntriesLead (setup_in s) v (entries_by other es) (last.task other)) (sym (upd_other state.task place x other (eqb-false other place same)))
+              (subst (λ b. EntriesLead (setup_in s) (state.task other) (cond b (e ∷ entries_by other es) (entries_by other es)) (last.task other)) same (tasks other))
 
       ordered_rest : AreOrdered (before ++ e ∷ []) es
       ordered_rest between after other is at_state reached =

@@ -19,7 +19,7 @@ use Rattle.run_merge.specs.RoundNumbers.{round_told, rounds_told, RoundsAreNumbe
 use Rattle.run_merge.specs.Products.{is_next_round}
 use Rattle.run_merge.proofs.products.KeeperAsks.{is_keeping, writer_keeps_none, rescuer_keeps_none, completer_keeps_none}
 use Rattle.run_merge.proofs.products.StateBehind.{Behind, entry_of, at_start, one_more}
-use Rattle.run_merge.proofs.products.KnownBehind.{Known, known}
+use Rattle.run_merge.proofs.products.KnownBehind.{RoundsKnown, rounds_known}
 use Rattle.run_merge.proofs.products.LookLets.{round_after}
 
 -- an event starts a round just where its task asks for it
@@ -42,7 +42,7 @@ round_number request = 0
 none : {X : Type 0} (b : Bool) → b ≡ true → b ≡ false → X
 none b is not = absurd (true≢false (sym is ∙ not))
 
-module _ (s : Scenario) (before : List Entry) (state : State) (known : Known s before state) where
+module _ (s : Scenario) (before : List Entry) (state : State) (known : RoundsKnown s before state) where
   -- which is the one behind the present round
   number_is : (place number : ℕ) (x : TaskState) → state.task place ≡ x → request (setup_in s) x ≡ NextRound number → number ≡ state.objects.tally.round + 1
   unfolding round_number
@@ -82,7 +82,7 @@ module _ (s : Scenario) (ledger : ℕ → LedgerId) (good : IsScenario s) (namin
 
       by_request : (asks : Request) → request (setup_in s) (state.task place) ≡ asks → Rest next.objects.tally.round → Goes (round_told event.what)
       by_request (NextRound number) is rest =
-          let n = number_is s before state (known s ledger good naming before state b.reached) place number (state.task place) refl is in
+          let n = number_is s before state (rounds_known s ledger good naming before state b.reached) place number (state.task place) refl is in
           let more : next.objects.tally.round ≡ state.objects.tally.round + 1 = round_is ∙ ap (λ r. state.objects.tally.round + (if is_next_round r then 1 else 0)) is in
           let here : round_told event.what ≡ (state.objects.tally.round + 1) ∷ [] = started ∙ ap numbers is ∙ ap (λ n. n ∷ []) n in
           subst Goes (sym here) (ap (λ l. (state.objects.tally.round + 1) ∷ l) (subst Rest more rest))

@@ -21,14 +21,14 @@ use Rattle.shared_objects.proofs.SameNames.{same_is}
 use Rattle.shared_objects.proofs.steps.GlanceStays.{event_struck}
 use Rattle.run_merge.specs.Entries.{Entry, AreEvents, entries_in}
 use Rattle.run_merge.specs.Machines.{ServesAt, LeadsObject, entries_at}
-use Rattle.run_merge.specs.ObjectsByName.{get}
-use Rattle.run_merge.specs.Products.{LeadsTask, entries_by, led_by, AtEach, IsProduct, AreOfRun, RunsAreProducts}
+use Rattle.run_merge.specs.ObjectsByName.{object_named}
+use Rattle.run_merge.specs.Products.{EntriesLead, entries_by, task_behind_entries, AtEach, IsProduct, AreOfRun, RunsAreProducts}
 use Rattle.run_merge.proofs.Fronts.{is_none}
 use Rattle.run_merge.proofs.products.StateBehind.{entry_of, at_start, behind_run}
-use Rattle.run_merge.proofs.products.KnownBehind.{known}
+use Rattle.run_merge.proofs.products.KnownBehind.{rounds_known}
 use Rattle.run_merge.proofs.products.ProductIsRun.{leads}
 use Rattle.run_merge.proofs.products.LookLets.{ComesBehind, comes_by}
-use Rattle.run_merge.proofs.products.ObjectNames.{get_other}
+use Rattle.run_merge.proofs.products.ObjectNames.{named_other}
 use Rattle.run_merge.proofs.products.Served.{others_stay, serves_one, serves_struck}
 
 -- the parts of a run from any state
@@ -40,8 +40,8 @@ module _ (scene : Scene) where
       (event_struck (request scene.setup (old.task place)) steps.reply ∙ ap is_some steps.told) (run_events next events new run)
 
   pub run_objects : (name : Object) (old : State) (events : List Event) (new : State) (run : IsRun scene old events new)
-      → LeadsObject scene.ledger name (get old.objects name) (entries_at name (entries_in scene old events new run)) (get new.objects name)
-  run_objects name old [] new run = ap (λ (x : State). get x.objects name) run
+      → LeadsObject scene.ledger name (object_named old.objects name) (entries_at name (entries_in scene old events new run)) (object_named new.objects name)
+  run_objects name old [] new run = ap (λ (x : State). object_named x.objects name) run
   run_objects name old (event ∷ events) new (next, (place, steps), run) = by_test (is_same_object name own) refl (run_objects name next events new run)
     where
       e : Entry
@@ -53,20 +53,20 @@ module _ (scene : Scene) where
       es : List Entry
       es = entries_at name (entries_in scene next events new run)
 
-      by_test : (b : Bool) → is_same_object name own ≡ b → LeadsObject scene.ledger name (get next.objects name) es (get new.objects name)
-          → LeadsObject scene.ledger name (get old.objects name) (cond b (e ∷ es) es) (get new.objects name)
+      by_test : (b : Bool) → is_same_object name own ≡ b → LeadsObject scene.ledger name (object_named next.objects name) es (object_named new.objects name)
+          → LeadsObject scene.ledger name (object_named old.objects name) (cond b (e ∷ es) es) (object_named new.objects name)
       by_test true same rest =
           let serves = serves_struck scene.ledger old.objects (request scene.setup (old.task place)) steps.reply next.objects steps.serves in
           let one = serves_one scene.ledger old.objects e.asked steps.reply next.objects serves in
-          (get next.objects name, subst (λ k. ServesAt scene.ledger k (get old.objects k) e.asked steps.reply (get next.objects k)) (sym (same_is name own same)) one, rest)
+          (object_named next.objects name, subst (λ k. ServesAt scene.ledger k (object_named old.objects k) e.asked steps.reply (object_named next.objects k)) (sym (same_is name own same)) one, rest)
       by_test false same rest =
           let serves = serves_struck scene.ledger old.objects (request scene.setup (old.task place)) steps.reply next.objects steps.serves in
-          let kept : get next.objects name ≡ get old.objects name =
-          ap (λ (x : Objects). get x name) (others_stay scene.ledger old.objects e.asked steps.reply next.objects serves) ∙ get_other old.objects own name (get next.objects own) same in
-          subst (λ v. LeadsObject scene.ledger name v es (get new.objects name)) kept rest
+          let kept : object_named next.objects name ≡ object_named old.objects name =
+          ap (λ (x : Objects). object_named x name) (others_stay scene.ledger old.objects e.asked steps.reply next.objects serves) ∙ named_other old.objects own name (object_named next.objects own) same in
+          subst (λ v. LeadsObject scene.ledger name v es (object_named new.objects name)) kept rest
 
   run_tasks : (other : ℕ) (old : State) (events : List Event) (new : State) (run : IsRun scene old events new)
-      → LeadsTask scene.setup (old.task other) (entries_by other (entries_in scene old events new run)) (new.task other)
+      → EntriesLead scene.setup (old.task other) (entries_by other (entries_in scene old events new run)) (new.task other)
   run_tasks other old [] new run = ap (λ (x : State). x.task other) run
   run_tasks other old (event ∷ events) new (next, (place, steps), run) = by_test (other == place) refl (run_tasks other next events new run)
     where
@@ -79,16 +79,16 @@ module _ (scene : Scene) where
       es : List Entry
       es = entries_by other (entries_in scene next events new run)
 
-      by_test : (b : Bool) → (other == place) ≡ b → LeadsTask scene.setup (next.task other) es (new.task other)
-          → LeadsTask scene.setup (old.task other) (cond b (e ∷ es) es) (new.task other)
+      by_test : (b : Bool) → (other == place) ≡ b → EntriesLead scene.setup (next.task other) es (new.task other)
+          → EntriesLead scene.setup (old.task other) (cond b (e ∷ es) es) (new.task other)
       by_test true same rest =
           let is = eqb-true other place same in
-          subst (λ k. LeadsTask scene.setup (old.task k) (e ∷ es) (new.task other)) (sym is) (
+          subst (λ k. EntriesLead scene.setup (old.task k) (e ∷ es) (new.task other)) (sym is) (
             refl,
-            subst (λ v. LeadsTask scene.setup v es (new.task other)) (ap next.task is ∙ ap (λ (f : ℕ → TaskState). f place) steps.goes_on ∙ upd_same old.task place x) rest,
+            subst (λ v. EntriesLead scene.setup v es (new.task other)) (ap next.task is ∙ ap (λ (f : ℕ → TaskState). f place) steps.goes_on ∙ upd_same old.task place x) rest,
           )
       by_test false same rest =
-          subst (λ v. LeadsTask scene.setup v es (new.task other))
+          subst (λ v. EntriesLead scene.setup v es (new.task other))
           (ap (λ (f : ℕ → TaskState). f other) steps.goes_on ∙ upd_other old.task place x other (eqb-false other place same)) rest
 
 -- the run up to an entry, and its step
@@ -137,13 +137,13 @@ cut scene old (event ∷ events) new (next, (place, steps), run) (b ∷ before) 
 module _ (s : Scenario) (ledger : ℕ → LedgerId) (good : IsScenario s) (naming : IsNaming ledger) where
   -- what stands before an entry, by the entries of its task
   abbrev StandsBehind : List Entry → Entry → Type 0
-  StandsBehind before e = ComesBehind s before (led_by (setup_in s) ((start s).task e.place) (entries_by e.place before)) e.asked
+  StandsBehind before e = ComesBehind s before (task_behind_entries (setup_in s) ((start s).task e.place) (entries_by e.place before)) e.asked
 
   stands_in : (entries : List Entry) (last : State) → AreOfRun s ledger entries last → AtEach entries StandsBehind
   stands_in entries last (events, run, is) before after e at =
       let c = cut (scene s ledger) (start s) events last run before after e (is ∙ at) in
       let b = behind_run s ledger before c.mid (c.events, c.run, c.entries) in
-      let k = known s ledger good naming before c.mid b.reached in
+      let k = rounds_known s ledger good naming before c.mid b.reached in
       let comes = comes_by s ledger before c.mid k b.count e.place (c.mid.task e.place) refl c.steps.is_let in
       subst (λ x. ComesBehind s before x e.asked) (b.mine e.place) (subst (ComesBehind s before (c.mid.task e.place)) (sym c.asked) comes)
 
@@ -152,9 +152,9 @@ module _ (s : Scenario) (ledger : ℕ → LedgerId) (good : IsScenario s) (namin
       let stands = stands_in entries last (events, run, is) in
       record {
         events = subst AreEvents is (run_events (scene s ledger) (start s) events last run);
-        objects = λ name. subst (λ l. LeadsObject ledger name (get (start s).objects name) (entries_at name l) (get last.objects name)) is
+        objects = λ name. subst (λ l. LeadsObject ledger name (object_named (start s).objects name) (entries_at name l) (object_named last.objects name)) is
             (run_objects (scene s ledger) name (start s) events last run);
-        tasks = λ place. subst (λ l. LeadsTask (setup_in s) ((start s).task place) (entries_by place l) (last.task place)) is
+        tasks = λ place. subst (λ l. EntriesLead (setup_in s) ((start s).task place) (entries_by place l) (last.task place)) is
             (run_tasks (scene s ledger) place (start s) events last run);
         takes = λ before after e at. (stands before after e at).takes;
         rounds = λ before after e at. (stands before after e at).rounds;

@@ -19,15 +19,15 @@ use Rattle.run_machine.specs.Objects.{Objects, OpensNode, MovesPool, TakesElemen
 use Rattle.run_machine.proofs.Frames.{upd_same, one_object_changes}
 use Rattle.shared_objects.specs.Calls.{struck}
 use Rattle.run_merge.specs.Machines.{PoolGoes, PoolHas, ServesAt}
-use Rattle.run_merge.specs.ObjectsByName.{StateAt, get, put_object}
-use Rattle.run_merge.proofs.products.ObjectNames.{get_put, put_get}
+use Rattle.run_merge.specs.ObjectsByName.{StateAt, object_named, put_object}
+use Rattle.run_merge.proofs.products.ObjectNames.{named_put, put_named}
 
 -- all objects but this one are as before
 pub others_stay : (ledger : ℕ → LedgerId) (o : Objects) (request : Request) (reply : Reply) (new : Objects) → Serves ledger o request reply new
-    → new ≡ put_object o (object_of request) (get new (object_of request))
+    → new ≡ put_object o (object_of request) (object_named new (object_of request))
 others_stay ledger o request reply new serves = one_object_changes ledger o new request reply serves ∙ by_name (object_of request)
   where
-    by_name : (name : Object) → with_object o new name ≡ put_object o name (get new name)
+    by_name : (name : Object) → with_object o new name ≡ put_object o name (object_named new name)
     by_name (OfPool number) = refl
     by_name (OfRescuer dev) = refl
     by_name (OfDisk dev) = refl
@@ -51,7 +51,7 @@ pool_resized o new number min true is = ap (λ (x : Objects). x.pool number) is 
 pool_resized o new number min false is = ap (λ (x : Objects). x.pool number) is
 
 pub serves_one : (ledger : ℕ → LedgerId) (o : Objects) (request : Request) (reply : Reply) (new : Objects) → Serves ledger o request reply new
-    → ServesAt ledger (object_of request) (get o (object_of request)) request reply (get new (object_of request))
+    → ServesAt ledger (object_of request) (object_named o (object_of request)) request reply (object_named new (object_of request))
 -- takes: the pool handed an element out, or missed
 serves_one ledger o (TakeBio set waits) (HadBio from bio) new h = (pool_has o new (pool_number (bios_of set)) from h.0, h.1)
 serves_one ledger o (TakeBio set waits) (Missed used) new h = pool_goes o new (pool_number (bios_of set)) (misses used) h
@@ -111,13 +111,13 @@ all_have o number got.Missed v h = absurd h
 all_resized : (o : Objects) (number min : ℕ) (home : Bool) → put_object o (OfPool number) (if home then after_move (o.pool number) (resizes min) else o.pool number)
     ≡ (if home then put_object o (OfPool number) (after_move (o.pool number) (resizes min)) else o)
 all_resized o number min true = refl
-all_resized o number min false = put_get o (OfPool number)
+all_resized o number min false = put_named o (OfPool number)
 
-put_same : (o : Objects) (name : Object) (v : StateAt name) → v ≡ get o name → put_object o name v ≡ o
-put_same o name v is = ap (put_object o name) is ∙ put_get o name
+put_same : (o : Objects) (name : Object) (v : StateAt name) → v ≡ object_named o name → put_object o name v ≡ o
+put_same o name v is = ap (put_object o name) is ∙ put_named o name
 
 pub serves_all : (ledger : ℕ → LedgerId) (o : Objects) (request : Request) (reply : Reply) (v : StateAt (object_of request))
-    → ServesAt ledger (object_of request) (get o (object_of request)) request reply v → Serves ledger o request reply (put_object o (object_of request) v)
+    → ServesAt ledger (object_of request) (object_named o (object_of request)) request reply v → Serves ledger o request reply (put_object o (object_of request) v)
 -- takes: the pool handed an element out, or missed
 serves_all ledger o (TakeBio set waits) (HadBio from bio) v h = (all_have o (pool_number (bios_of set)) from v h.0, h.1)
 serves_all ledger o (TakeBio set waits) (Missed used) v h = (h.0, ap (put_object o (OfPool (pool_number (bios_of set)))) h.1)
@@ -139,22 +139,22 @@ serves_all ledger o (GiveSlip slip) reply v h = absurd h
 serves_all ledger o (Punt dev moved) Did v h = ap (put_object o (OfRescuer dev.0)) h
 serves_all ledger o (Punt dev moved) reply v h = absurd h
 serves_all ledger o (Pop dev) (Popped bio) v h =
-    let p = get_put o (OfRescuer dev.0) v in (h ∙ ap (λ (x : List (Item Pad)). bio ∷ x) (sym p), ap (put_object o (OfRescuer dev.0)) (sym p))
+    let p = named_put o (OfRescuer dev.0) v in (h ∙ ap (λ (x : List (Item Pad)). bio ∷ x) (sym p), ap (put_object o (OfRescuer dev.0)) (sym p))
 serves_all ledger o (Pop dev) Nothing v h = (h.0, put_same o (OfRescuer dev.0) v h.1)
 serves_all ledger o (Pop dev) reply v h = absurd h
 -- disks: a bio is pushed, or one that waits is completed
 serves_all ledger o (Push bio) Did v h = ap (put_object o (OfDisk bio.bio.dev.0)) h
 serves_all ledger o (Push bio) reply v h = absurd h
 serves_all ledger o (Complete disk) (Completed index bio status) v h =
-    let p = get_put o (OfDisk disk.0) v in (subst (Completes (o.disk disk.0) index bio status) (sym p) h, ap (put_object o (OfDisk disk.0)) (sym p))
+    let p = named_put o (OfDisk disk.0) v in (subst (Completes (o.disk disk.0) index bio status) (sym p) h, ap (put_object o (OfDisk disk.0)) (sym p))
 serves_all ledger o (Complete disk) Nothing v h = (h.0, put_same o (OfDisk disk.0) v h.1)
 serves_all ledger o (Complete disk) reply v h = absurd h
 -- books: a node is linked, or drops an end
 serves_all ledger o (Link writer opening) (LinkedTo answer) v h =
-    let p = get_put o (OfBook writer) v in (subst (OpensNode (o.book writer) opening answer) (sym p) h, ap (put_object o (OfBook writer)) (sym p))
+    let p = named_put o (OfBook writer) v in (subst (OpensNode (o.book writer) opening answer) (sym p) h, ap (put_object o (OfBook writer)) (sym p))
 serves_all ledger o (Link writer opening) reply v h = absurd h
 serves_all ledger o (Drop writer node status part) (DroppedTo ended) v h =
-    let p = get_put o (OfBook writer) v in (subst (Drops (o.book writer) node status part ended) (sym p) h, ap (put_object o (OfBook writer)) (sym p))
+    let p = named_put o (OfBook writer) v in (subst (Drops (o.book writer) node status part ended) (sym p) h, ap (put_object o (OfBook writer)) (sym p))
 serves_all ledger o (Drop writer node status part) reply v h = absurd h
 -- ends of writes: the tally has one unfinished write less
 serves_all ledger o (Done write status) Did v h = ap (put_object o OfTally) h

@@ -13,7 +13,7 @@ use Rattle.run_machine.specs.Runs.{State, Steps, IsRun}
 use Rattle.run_machine.proofs.Frames.{upd_same, upd_other}
 use Rattle.shared_objects.specs.Calls.{struck}
 use Rattle.run_merge.specs.Entries.{Entry, entries_in}
-use Rattle.run_merge.specs.Products.{entries_by, led_by, rounds_started, AreOfRun}
+use Rattle.run_merge.specs.Products.{entries_by, task_behind_entries, rounds_started, AreOfRun}
 use Rattle.run_merge.proofs.products.LookLets.{round_after, started_more}
 use Rattle.run_merge.proofs.products.Served.{serves_struck}
 
@@ -34,7 +34,7 @@ one_event scene old (first ∷ events) mid (next, (at, step), run) place event n
     let rest = one_event scene next events mid run place event new steps in
     (first ∷ rest.0, (next, (at, step), rest.1), ap (λ l. entry_of scene old at first next step ∷ l) rest.2)
 
-led_more : (setup : Setup) (x : TaskState) (es : List Entry) (e : Entry) → led_by setup x (es ++ e ∷ []) ≡ answered setup (led_by setup x es) e.reply
+led_more : (setup : Setup) (x : TaskState) (es : List Entry) (e : Entry) → task_behind_entries setup x (es ++ e ∷ []) ≡ answered setup (task_behind_entries setup x es) e.reply
 led_more setup x [] e = refl
 led_more setup x (first ∷ es) e = led_more setup (answered setup x first.reply) es e
 
@@ -43,7 +43,7 @@ pub record Behind (s : Scenario) (ledger : ℕ → LedgerId) (before : List Entr
   -- as many rounds have started as the tally says
   pub count : rounds_started before ≡ state.objects.tally.round
   -- each task is behind its own entries, and there is none behind the last
-  pub mine : (place : ℕ) → state.task place ≡ led_by (setup_in s) ((start s).task place) (entries_by place before)
+  pub mine : (place : ℕ) → state.task place ≡ task_behind_entries (setup_in s) ((start s).task place) (entries_by place before)
   pub outside : (place : ℕ) → length (opened_tasks s) ≤ place → state.task place ≡ no_task
 
 module _ (s : Scenario) (ledger : ℕ → LedgerId) where
@@ -65,18 +65,18 @@ module _ (s : Scenario) (ledger : ℕ → LedgerId) where
     by_more : (other : ℕ) (same : Bool) → (other == place) ≡ same → entries_by other (before ++ e ∷ []) ≡ entries_by other before ++ cond same (e ∷ []) []
     by_more other same is = filter-append (λ (x : Entry). other == x.place) before (e ∷ []) ∙ ap (λ b. entries_by other before ++ cond b (e ∷ []) []) is
 
-    mine_more : (other : ℕ) (same : Bool) → (other == place) ≡ same → next.task other ≡ led_by (setup_in s) ((start s).task other) (entries_by other (before ++ e ∷ []))
+    mine_more : (other : ℕ) (same : Bool) → (other == place) ≡ same → next.task other ≡ task_behind_entries (setup_in s) ((start s).task other) (entries_by other (before ++ e ∷ []))
     mine_more other true same =
         let is = eqb-true other place same in
-        subst (λ p. next.task p ≡ led_by (setup_in s) ((start s).task p) (entries_by p (before ++ e ∷ []))) (sym is)
+        subst (λ p. next.task p ≡ task_behind_entries (setup_in s) ((start s).task p) (entries_by p (before ++ e ∷ []))) (sym is)
         (ap (λ (f : ℕ → TaskState). f place) steps.goes_on ∙ upd_same state.task place (answered (setup_in s) (state.task place) steps.reply)
         ∙ ap (λ x. answered (setup_in s) x steps.reply) (b.mine place)
         ∙ sym (led_more (setup_in s) ((start s).task place) (entries_by place before) e)
-        ∙ ap (led_by (setup_in s) ((start s).task place)) (sym (by_more place true (eq-eqb place place refl))))
+        ∙ ap (task_behind_entries (setup_in s) ((start s).task place)) (sym (by_more place true (eq-eqb place place refl))))
     mine_more other false same =
         ap (λ (f : ℕ → TaskState). f other) steps.goes_on
         ∙ upd_other state.task place (answered (setup_in s) (state.task place) steps.reply) other (eqb-false other place same) ∙ b.mine other
-        ∙ ap (led_by (setup_in s) ((start s).task other)) (sym (by_more other false same ∙ append-nil (entries_by other before)))
+        ∙ ap (task_behind_entries (setup_in s) ((start s).task other)) (sym (by_more other false same ∙ append-nil (entries_by other before)))
 
     outside_more : (other : ℕ) (same : Bool) → (other == place) ≡ same → length (opened_tasks s) ≤ other → next.task other ≡ no_task
     outside_more other true same le = let is = eqb-true other place same in let lt = steps.here in absurd (omega (arith, is, lt, le))

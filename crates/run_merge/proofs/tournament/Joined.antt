@@ -8,14 +8,14 @@ use Rattle.std.proofs.lemmas.List.{append-nil, append_assoc, length-append, map-
 use Rattle.std.proofs.lemmas.List.Elements.{All-head, All-tail, Contains-append_cases, Contains-append_right, Contains-get_or}
 use Rattle.std.proofs.lemmas.List.Sorted.{Contains-permutation, IsPermutation-append_right, IsPermutation-refl, IsPermutation-sym, IsPermutation-trans, length_permutation}
 use Rattle.run_merge.specs.declared.heads.Head.{Head}
-use Rattle.run_merge.specs.Heads.{TakesHead, IsTournamentAt, winner_of, head_at, node, rest, rows}
+use Rattle.run_merge.specs.Heads.{TakesHead, IsTournamentAt, winner_of, head_at, node_head, rest, rows}
 use Rattle.run_merge.specs.Joining.{IsJoinedByTicket, all_in}
 use Rattle.run_merge.proofs.tournament.Rest.{rest_taken}
 use Rattle.run_merge.proofs.tournament.Winner.{IsFirst, first_is, nothing_left}
 
 -- from which place on each list is left
 abbrev pub places : ℕ → List Head → ℕ → ℕ
-places count nodes list = (node nodes (count + list)).at
+places count nodes list = (node_head nodes (count + list)).at
 
 -- these are the values of what was taken, in order, none of which is behind what is left
 pub record Joins {T : Type 0} (rows : List (List (ℕ × T))) (nodes : List Head) (values : List T) : Type 0 where
@@ -78,7 +78,7 @@ module _ {T : Type 0} (rows : List (List (ℕ × T))) (rising : (list : ℕ) →
   joins_first nodes s =
       let opened : (list : ℕ) → list < length rows → places (length rows) nodes list ≡ 0 = λ list less. ap (λ (h : Head). h.at) (s.leaf list less) in
       record {
-        stands = record { holds = s.holds; leaf = λ list less. leaf_on rows list 0 (node nodes (length rows + list)) (s.leaf list less) };
+        stands = record { holds = s.holds; leaf = λ list less. leaf_on rows list 0 (node_head nodes (length rows + list)) (s.leaf list less) };
         taken = [];
         same = subst (IsPermutation (rest (λ list. 0) rows)) (same_within rows (λ list. 0) (places (length rows) nodes) (λ list less. sym (opened list less))) (IsPermutation-refl (rest (λ list. 0) rows));
         rises = λ i j d le less. absurd (omega (arith, less));
@@ -103,13 +103,13 @@ module _ {T : Type 0} (rows : List (List (ℕ × T))) (rising : (list : ℕ) →
     first : IsFirst rows was head
     first = first_is rows was old j.stands rising head is
 
-    leaf : (list : ℕ) → list < length rows → node new (length rows + list) ≡ head_at rows list (now list)
+    leaf : (list : ℕ) → list < length rows → node_head new (length rows + list) ≡ head_at rows list (now list)
     leaf list less = by_test (list == head.list) refl
       where
-        by_test : (c : Bool) → (list == head.list) ≡ c → node new (length rows + list) ≡ head_at rows list (now list)
+        by_test : (c : Bool) → (list == head.list) ≡ c → node_head new (length rows + list) ≡ head_at rows list (now list)
         by_test true same =
-            subst (λ l. node new (length rows + l) ≡ head_at rows l (now l)) (sym (eqb-true list head.list same))
-            (leaf_on rows head.list (head.at + 1) (node new (length rows + head.list)) on.here)
+            subst (λ l. node_head new (length rows + l) ≡ head_at rows l (now l)) (sym (eqb-true list head.list same))
+            (leaf_on rows head.list (head.at + 1) (node_head new (length rows + head.list)) on.here)
         by_test false other =
             let stays = on.others list (eqb-false list head.list other) in
             stays ∙ j.stands.leaf list less ∙ ap (head_at rows list) (sym (ap (λ (h : Head). h.at) stays))

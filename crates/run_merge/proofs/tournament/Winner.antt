@@ -6,7 +6,7 @@ use Rattle.std.specs.Option.{unwrap_or}
 use Rattle.std.proofs.lemmas.Bool.{ltb-false, ltb-true}
 use Rattle.std.proofs.lemmas.Option.{none-some, slice_get_cases, slice_get-get_or, get_or_from_slice_get}
 use Rattle.run_merge.specs.declared.heads.Head.{Head}
-use Rattle.run_merge.specs.Heads.{IsTournamentAt, ticketed_head, winner_of, head_at, is_before, no_head, node, rest, smaller, ticket_in, with_ticket}
+use Rattle.run_merge.specs.Heads.{IsTournamentAt, ticketed_head, winner_of, head_at, is_before, no_head, node_head, rest, smaller, ticket_in, with_ticket}
 use Rattle.run_merge.proofs.tournament.Rest.{left_is, none_left}
 
 -- no ticket is behind any, and else the smaller one is not behind
@@ -95,44 +95,44 @@ none_behind (Some ticket) first none behind = absurd (subst (IsNotBefore (Some t
 
 module _ {T : Type 0} (rows : List (List (ℕ × T))) (at : ℕ → ℕ) (nodes : List Head) (s : IsTournamentAt rows at nodes) where
   -- the root comes before each node
-  before_all : (fuel number : ℕ) → number ≤ fuel → 1 ≤ number → number < length rows + length rows → IsNotBefore (node nodes number).ticket (node nodes 1).ticket
+  before_all : (fuel number : ℕ) → number ≤ fuel → 1 ≤ number → number < length rows + length rows → IsNotBefore (node_head nodes number).ticket (node_head nodes 1).ticket
   before_all zero number le some less = absurd (omega (arith, le, some))
   before_all (suc fuel) number le some less = by_half (before_all fuel) (halves number)
     where
       AllBefore : Type 0
-      AllBefore = (number : ℕ) → number ≤ fuel → 1 ≤ number → number < length rows + length rows → IsNotBefore (node nodes number).ticket (node nodes 1).ticket
+      AllBefore = (number : ℕ) → number ≤ fuel → 1 ≤ number → number < length rows + length rows → IsNotBefore (node_head nodes number).ticket (node_head nodes 1).ticket
 
-      up : AllBefore → (half : ℕ) → 1 ≤ half → half < number → half < length rows → IsNotBefore (node nodes number).ticket (node nodes half).ticket → IsNotBefore (node nodes number).ticket (node nodes 1).ticket
+      up : AllBefore → (half : ℕ) → 1 ≤ half → half < number → half < length rows → IsNotBefore (node_head nodes number).ticket (node_head nodes half).ticket → IsNotBefore (node_head nodes number).ticket (node_head nodes 1).ticket
       up before half is smaller_half inner behind =
-          behind_both (node nodes number).ticket (node nodes half).ticket (node nodes 1).ticket behind
+          behind_both (node_head nodes number).ticket (node_head nodes half).ticket (node_head nodes 1).ticket behind
           (before half (omega (arith, le, smaller_half)) is (omega (arith, inner)))
 
-      by_half : AllBefore → (half : ℕ) × ((number ≡ 2 * half) ⊎ (number ≡ 2 * half + 1)) → IsNotBefore (node nodes number).ticket (node nodes 1).ticket
+      by_half : AllBefore → (half : ℕ) × ((number ≡ 2 * half) ⊎ (number ≡ 2 * half + 1)) → IsNotBefore (node_head nodes number).ticket (node_head nodes 1).ticket
       by_half before (half, inl even) =
           let is : 1 ≤ half = omega (arith, even, some) in
           let inner : half < length rows = omega (arith, even, less) in
           let played = s.holds.inner half is inner tt in
-          let behind = (behind_smaller (node nodes (2 * half)) (node nodes (2 * half + 1))).0 in
+          let behind = (behind_smaller (node_head nodes (2 * half)) (node_head nodes (2 * half + 1))).0 in
           up before half is (omega (arith, even, is)) inner
-          (subst (λ n. IsNotBefore (node nodes n).ticket (node nodes half).ticket) (sym even) (subst (λ (h : Head). IsNotBefore (node nodes (2 * half)).ticket h.ticket) (sym played) behind))
-      by_half before (zero, inr odd) = subst (λ n. IsNotBefore (node nodes n).ticket (node nodes 1).ticket) (sym odd) (behind_itself (node nodes 1).ticket)
+          (subst (λ n. IsNotBefore (node_head nodes n).ticket (node_head nodes half).ticket) (sym even) (subst (λ (h : Head). IsNotBefore (node_head nodes (2 * half)).ticket h.ticket) (sym played) behind))
+      by_half before (zero, inr odd) = subst (λ n. IsNotBefore (node_head nodes n).ticket (node_head nodes 1).ticket) (sym odd) (behind_itself (node_head nodes 1).ticket)
       by_half before (suc half, inr odd) =
           let inner : suc half < length rows = omega (arith, odd, less) in
           let played = s.holds.inner (suc half) (omega arith) inner tt in
-          let behind = (behind_smaller (node nodes (2 * suc half)) (node nodes (2 * suc half + 1))).1 in
+          let behind = (behind_smaller (node_head nodes (2 * suc half)) (node_head nodes (2 * suc half + 1))).1 in
           up before (suc half) (omega arith) (omega (arith, odd)) inner
-          (subst (λ n. IsNotBefore (node nodes n).ticket (node nodes (suc half)).ticket) (sym odd) (subst (λ (h : Head). IsNotBefore (node nodes (2 * suc half + 1)).ticket h.ticket) (sym played) behind))
+          (subst (λ n. IsNotBefore (node_head nodes n).ticket (node_head nodes (suc half)).ticket) (sym odd) (subst (λ (h : Head). IsNotBefore (node_head nodes (2 * suc half + 1)).ticket h.ticket) (sym played) behind))
 
   -- the head of a list from its place on
   abbrev IsLeaf : Head → Type 0
   IsLeaf head = (list : ℕ) × (list < length rows) × (head ≡ head_at rows list (at list))
 
-  leaf_is : (fuel number : ℕ) → length rows + length rows ≤ number + fuel → 1 ≤ number → number < length rows + length rows → IsLeaf (node nodes number)
+  leaf_is : (fuel number : ℕ) → length rows + length rows ≤ number + fuel → 1 ≤ number → number < length rows + length rows → IsLeaf (node_head nodes number)
   leaf_is zero number long some less = absurd (omega (arith, long, less))
   leaf_is (suc fuel) number long some less = by_place (leaf_is fuel) (compare number (length rows))
     where
       AreLeaves : Type 0
-      AreLeaves = (number : ℕ) → length rows + length rows ≤ number + fuel → 1 ≤ number → number < length rows + length rows → IsLeaf (node nodes number)
+      AreLeaves = (number : ℕ) → length rows + length rows ≤ number + fuel → 1 ≤ number → number < length rows + length rows → IsLeaf (node_head nodes number)
 
       compare : (a b : ℕ) → (a < b) ⊎ ((k : ℕ) × (a ≡ b + k))
       compare a zero = inr (a, omega arith)
@@ -143,44 +143,44 @@ module _ {T : Type 0} (rows : List (List (ℕ × T))) (at : ℕ → ℕ) (nodes 
           by_two (inl lt) = inl (omega (arith, lt))
           by_two (inr (k, is)) = inr (k, omega (arith, is))
 
-      by_pick : AreLeaves → (number < length rows) → (node nodes number ≡ node nodes (2 * number)) ⊎ (node nodes number ≡ node nodes (2 * number + 1)) → IsLeaf (node nodes number)
+      by_pick : AreLeaves → (number < length rows) → (node_head nodes number ≡ node_head nodes (2 * number)) ⊎ (node_head nodes number ≡ node_head nodes (2 * number + 1)) → IsLeaf (node_head nodes number)
       by_pick leaves inner (inl first) = subst IsLeaf (sym first) (leaves (2 * number) (omega (arith, long, some)) (omega (arith, some)) (omega (arith, inner)))
       by_pick leaves inner (inr second) = subst IsLeaf (sym second) (leaves (2 * number + 1) (omega (arith, long, some)) (omega arith) (omega (arith, inner)))
 
-      picked : (number < length rows) → (node nodes number ≡ node nodes (2 * number)) ⊎ (node nodes number ≡ node nodes (2 * number + 1))
+      picked : (number < length rows) → (node_head nodes number ≡ node_head nodes (2 * number)) ⊎ (node_head nodes number ≡ node_head nodes (2 * number + 1))
       picked inner =
-          subst (λ (h : Head). (h ≡ node nodes (2 * number)) ⊎ (h ≡ node nodes (2 * number + 1))) (sym (s.holds.inner number some inner tt))
-          (pick_one (is_before (node nodes (2 * number + 1)).ticket (node nodes (2 * number)).ticket) (node nodes (2 * number)) (node nodes (2 * number + 1)))
+          subst (λ (h : Head). (h ≡ node_head nodes (2 * number)) ⊎ (h ≡ node_head nodes (2 * number + 1))) (sym (s.holds.inner number some inner tt))
+          (pick_one (is_before (node_head nodes (2 * number + 1)).ticket (node_head nodes (2 * number)).ticket) (node_head nodes (2 * number)) (node_head nodes (2 * number + 1)))
 
-      by_place : AreLeaves → (number < length rows) ⊎ ((k : ℕ) × (number ≡ length rows + k)) → IsLeaf (node nodes number)
+      by_place : AreLeaves → (number < length rows) ⊎ ((k : ℕ) × (number ≡ length rows + k)) → IsLeaf (node_head nodes number)
       by_place leaves (inl inner) = by_pick leaves inner (picked inner)
       by_place leaves (inr (list, is)) =
           let small : list < length rows = omega (arith, is, less) in
-          (list, small, ap (node nodes) is ∙ s.leaf list small)
+          (list, small, ap (node_head nodes) is ∙ s.leaf list small)
 
-  root_is : (head : Head) → winner_of nodes ≡ Some head → (node nodes 1 ≡ head) × (t : ℕ) × (head.ticket ≡ Some t)
+  root_is : (head : Head) → winner_of nodes ≡ Some head → (node_head nodes 1 ≡ head) × (t : ℕ) × (head.ticket ≡ Some t)
   root_is head is = by_two (slice_get_cases nodes 1).1
     where
       by_two : ((x : Head) × (1 < length nodes) × (slice_get nodes 1 ≡ Some x) × (get_or nodes 1 x ≡ x)) ⊎ ((length nodes ≤ 1) × (slice_get nodes 1 ≡ None))
-          → (node nodes 1 ≡ head) × (t : ℕ) × (head.ticket ≡ Some t)
+          → (node_head nodes 1 ≡ head) × (t : ℕ) × (head.ticket ≡ Some t)
       by_two (inl (x, lt, there, same)) =
           let (one, t, some) = with_some x head x.ticket (sym (ap ticketed_head there) ∙ is) in
           (get_or_from_slice_get nodes 1 x no_head there ∙ one, t, sym (ap (λ (h : Head). h.ticket) one) ∙ some)
       by_two (inr (le, none)) = absurd (none-some head (sym (ap ticketed_head none) ∙ is))
 
   -- where the root has this ticket, no element that is left has a smaller one
-  none_smaller : ((list : ℕ) → IsNonDecreasingBy (λ (e : ℕ × T). e.0) (get_or rows list [])) → (t : ℕ) → (node nodes 1).ticket ≡ Some t → (y : ℕ × T) → Contains (rest at rows) y → t ≤ y.0
+  none_smaller : ((list : ℕ) → IsNonDecreasingBy (λ (e : ℕ × T). e.0) (get_or rows list [])) → (t : ℕ) → (node_head nodes 1).ticket ≡ Some t → (y : ℕ × T) → Contains (rest at rows) y → t ≤ y.0
   none_smaller rises t is y there =
       let l = left_is rows at y there in
       let row = get_or rows l.list [] in
       let less = l.is_list in
       let within : at l.list < length row = let a = l.behind in let b = l.within in omega (arith, a, b) in
-      let ticket : (node nodes (length rows + l.list)).ticket ≡ Some (get_or row (at l.list) y).0 =
+      let ticket : (node_head nodes (length rows + l.list)).ticket ≡ Some (get_or row (at l.list) y).0 =
       ap (λ (h : Head). h.ticket) (s.leaf l.list less) ∙ ap ticket_in (slice_get-get_or row (at l.list) y within) in
       let long : 1 ≤ length rows + l.list = omega (arith, less) in
       let small : length rows + l.list < length rows + length rows = omega (arith, less) in
       let behind = before_all (length rows + l.list) (length rows + l.list) (omega arith) long small in
-      let least : t ≤ (get_or row (at l.list) y).0 = subst (λ p. IsNotBefore p (Some t)) ticket (subst (IsNotBefore (node nodes (length rows + l.list)).ticket) is behind) in
+      let least : t ≤ (get_or row (at l.list) y).0 = subst (λ p. IsNotBefore p (Some t)) ticket (subst (IsNotBefore (node_head nodes (length rows + l.list)).ticket) is behind) in
       let later = rises l.list (at l.list) l.place y l.behind l.within in
       let same = ap (λ (e : ℕ × T). e.0) l.is in
       omega (arith, least, later, same)
@@ -221,6 +221,6 @@ module _ {T : Type 0} (rows : List (List (ℕ × T))) (at : ℕ → ℕ) (nodes 
           let none = with_none x x.ticket (sym (ap ticketed_head there) ∙ is) in
           let root = ap (λ (h : Head). h.ticket) (get_or_from_slice_get nodes 1 x no_head there) ∙ none in
           let behind = before_all (length rows + list) (length rows + list) (omega arith) (omega (arith, less)) (omega (arith, less)) in
-          let ticket = none_behind (node nodes (length rows + list)).ticket (node nodes 1).ticket root behind in
+          let ticket = none_behind (node_head nodes (length rows + list)).ticket (node_head nodes 1).ticket root behind in
           ticket_none (get_or rows list []) (at list) (sym (ap (λ (h : Head). h.ticket) (s.leaf list less)) ∙ ticket)
       whole list less (inr (le, none)) = let long = s.holds.long in absurd (omega (arith, le, less, long))

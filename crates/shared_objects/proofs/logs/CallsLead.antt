@@ -18,7 +18,7 @@ use Rattle.object_things.specs.Stamps.{is_spent}
 use Rattle.shared_objects.specs.Calls.{is_same_object, calls_to, struck}
 use Rattle.shared_objects.specs.Desks.{DeskState}
 use Rattle.shared_objects.specs.Logs.{is_event, is_stop, is_glance, events_in, tickets_in, Looked, LogLeads, IsLogged}
-use Rattle.shared_objects.specs.Led.{CallsLead, task_after, BrokeOff, IsLed, LogsLead}
+use Rattle.shared_objects.specs.Led.{CallsLead, task_behind_calls, BrokeOff, IsLed, LogsLead}
 use Rattle.shared_objects.proofs.steps.BrokenRests.{broken_rests, stop_breaks}
 use Rattle.shared_objects.proofs.steps.GlanceStays.{glance_kinds, stop_struck}
 
@@ -155,7 +155,7 @@ record BrokeBehind (setup : Setup) (done log : List Call) (through now : TaskSta
 
 abbrev HaveLooked : Setup → List Call → TaskState → List Call → Type 0
 HaveLooked setup whole task events = (mine rest : List Call) (call : Call) → events ≡ mine ++ call ∷ rest
-    → Looked whole (task_after setup task mine) call (look_of (task_after setup task mine))
+    → Looked whole (task_behind_calls setup task mine) call (look_of (task_behind_calls setup task mine))
 
 record LedBehind (setup : Setup) (done : List Call) (task : TaskState) (log : List Call) (now : TaskState) : Type 0 where
   through : TaskState
@@ -190,7 +190,7 @@ unfolding first_or behind_first
 looks_first setup done calls call task l more [] rest other is =
     subst (λ c. Looked (done ++ call ∷ calls) task c (look_of task)) (ap (first_or call) is) (looked_later done (call ∷ calls) task call (look_of task) l)
 looks_first setup done calls call task l more (first ∷ mine) rest other is =
-    let Then : Call → Type 0 = λ c. let t = task_after setup (answered setup task c.told.reply) mine in Looked (done ++ call ∷ calls) t other (look_of t) in
+    let Then : Call → Type 0 = λ c. let t = task_behind_calls setup (answered setup task c.told.reply) mine in Looked (done ++ call ∷ calls) t other (look_of t) in
     subst Then (ap (first_or call) is) (more mine rest other (ap behind_first is))
 
 moved : (setup : Setup) (done calls : List Call) (call : Call) (task : TaskState) (events : List Call) → HaveLooked setup ((done ++ call ∷ []) ++ calls) task events
