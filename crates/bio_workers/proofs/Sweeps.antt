@@ -4,7 +4,7 @@ use Prim.Native.Nat.{zero, suc}
 use Rattle.std.proofs.lemmas.List.{take_more_set, drop-set-lt, length-set}
 use Rattle.std.proofs.lemmas.List.Elements.{All-push}
 use Rattle.bio_workers.specs.declared.work.WorkOutcome.{WorkOutcome}
-use Rattle.bio_workers.specs.declared.work.WorkOutcome.TheVariants.{Event, Nothing, Over}
+use Rattle.bio_workers.specs.declared.work.WorkOutcome.TheVariants.{Happened, Nothing, Over}
 use Rattle.bio_workers.specs.WorkOutcomes.{both}
 use Rattle.bio_workers.specs.Visits.{IsVisit, IsVisitAt, AreVisited}
 
@@ -13,26 +13,26 @@ pub more_over : {T : Type 0} (P : T → Type 0) (xs : List T) (at : ℕ) (x : T)
 more_over P xs at x below before over = subst (All P) (sym (take_more_set xs at x below)) (All-push P (take at xs) x before over)
 
 pub both_over : (a : WorkOutcome) → both a Over ≡ a
-both_over Event = refl
+both_over Happened = refl
 both_over Nothing = refl
 both_over Over = refl
 
 -- no task goes on where none does in either
 pub over_together : (a b : WorkOutcome) → both a b ≡ Over → (a ≡ Over) × (b ≡ Over)
 over_together Over b e = (refl, e)
-over_together Event b e = absurd (cc)
-over_together Nothing Event e = absurd (cc)
+over_together Happened b e = absurd (cc)
+over_together Nothing Happened e = absurd (cc)
 over_together Nothing Nothing e = absurd (cc)
 over_together Nothing Over e = absurd (cc)
 
 pub both_turned : (a b c : WorkOutcome) → both (both a b) c ≡ both a (both b c)
-both_turned Event b c = refl
+both_turned Happened b c = refl
 both_turned Over b c = refl
-both_turned Nothing Event c = refl
-both_turned Nothing Nothing Event = refl
+both_turned Nothing Happened c = refl
+both_turned Nothing Nothing Happened = refl
 both_turned Nothing Nothing Nothing = refl
 both_turned Nothing Nothing Over = refl
-both_turned Nothing Over Event = refl
+both_turned Nothing Over Happened = refl
 both_turned Nothing Over Nothing = refl
 both_turned Nothing Over Over = refl
 

@@ -4,11 +4,11 @@ use Rattle.task_steps.specs.declared.step.Step.{Step}
 use Rattle.task_steps.specs.declared.step.Step.TheVariants.{Stepped, Blocked, Waiting, Ended, Broken}
 use Rattle.shared_objects.specs.Rans.{RanState, TurnsWith, events_after}
 use Rattle.bio_workers.specs.declared.work.WorkOutcome.{WorkOutcome}
-use Rattle.bio_workers.specs.declared.work.WorkOutcome.TheVariants.{Event, Nothing, Over}
+use Rattle.bio_workers.specs.declared.work.WorkOutcome.TheVariants.{Happened, Nothing, Over}
 
 -- A task that waits may go on once others did. One that has ended or broke off does not.
 abbrev pub came_of : Step → WorkOutcome
-came_of (Stepped event) = Event
+came_of (Stepped event) = Happened
 came_of (Blocked pool) = Nothing
 came_of Waiting = Nothing
 came_of Ended = Over

@@ -1,13 +1,13 @@
 -- What visits of tasks come to, and sweeps over them.
 use Rattle.std.specs.Prelude.{◌≡◌, ℕ, List, [], ◌∷◌, drop, slice_set}
 use Rattle.bio_workers.specs.declared.work.WorkOutcome.{WorkOutcome}
-use Rattle.bio_workers.specs.declared.work.WorkOutcome.TheVariants.{Event, Nothing, Over}
+use Rattle.bio_workers.specs.declared.work.WorkOutcome.TheVariants.{Happened, Nothing, Over}
 use Rattle.bio_workers.specs.WorkOutcomes.{both}
 
 module _ {T : Type 0} (goes : WorkOutcome → T → T → Type 0) where
   -- a task is stepped on only behind an event
   abbrev pub IsSteppedOn : WorkOutcome → T → T → Type 0
-  IsSteppedOn Event old new = Unit {0}
+  IsSteppedOn Happened old new = Unit {0}
   IsSteppedOn Nothing old new = new ≡ old
   IsSteppedOn Over old new = new ≡ old
 

@@ -53,7 +53,7 @@ impl<'a, W> Shift<'a, W> {
         for _ in rt.forever() {
             let heard = self.bell.heard();
             match self.sweep(rt, tasks) {
-                WorkOutcome::Event => {}
+                WorkOutcome::Happened => {}
                 WorkOutcome::Nothing => self.bell.wait(rt, heard),
                 WorkOutcome::Over => return,
             }

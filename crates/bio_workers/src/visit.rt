@@ -20,7 +20,7 @@ fn step<T, R: Wait, W: Work<T>>(rt: &R, work: &W, bell: &Bell, task: &mut T) -> 
     ensures goes { W.goes result task.old task.new }
 {
     let came = work.step(rt, task);
-    if came == WorkOutcome::Event {
+    if came == WorkOutcome::Happened {
         bell.ring();
     }
     came
@@ -32,7 +32,7 @@ fn step_on<T, R: Wait, W: Work<T>>(rt: &R, work: &W, bell: &Bell, task: &mut T)
     ensures { W.key task.new ≡ W.key task.old }
 {
     for _ in 1..MOST_STEPS {
-        if step(rt, work, bell, task) != WorkOutcome::Event {
+        if step(rt, work, bell, task) != WorkOutcome::Happened {
             break;
         }
     }
@@ -52,7 +52,7 @@ pub(crate) fn visit<T, R: Wait, W: Work<T>>(
     ensures visit { IsVisit W.goes result task.old task.new }
 {
     let came = step(rt, work, bell, task);
-    if came == WorkOutcome::Event {
+    if came == WorkOutcome::Happened {
         step_on(rt, work, bell, task);
     }
     came

@@ -8,7 +8,7 @@ use std::sync::Wait;
 #[derive(Clone, Copy, PartialEq, Eq)]
 pub enum WorkOutcome {
     /// Something happened, so that other tasks may go on now.
-    Event,
+    Happened,
     /// Nothing happened, and some task may go on once others did.
     Nothing,
     /// No task goes on any more, whatever others do.
@@ -21,7 +21,7 @@ impl WorkOutcome {
         ensures { result ≡ both self other }
     {
         match (self, other) {
-            (WorkOutcome::Event, _) | (_, WorkOutcome::Event) => WorkOutcome::Event,
+            (WorkOutcome::Happened, _) | (_, WorkOutcome::Happened) => WorkOutcome::Happened,
             (WorkOutcome::Nothing, _) | (_, WorkOutcome::Nothing) => WorkOutcome::Nothing,
             (WorkOutcome::Over, WorkOutcome::Over) => WorkOutcome::Over,
         }

@@ -77,7 +77,7 @@ fn work_outcome(step: &Step) -> WorkOutcome
     ensures { result ≡ came_of step.now }
 {
     match step {
-        Step::Stepped(_) => WorkOutcome::Event,
+        Step::Stepped(_) => WorkOutcome::Happened,
         Step::Blocked(_) | Step::Waiting => WorkOutcome::Nothing,
         Step::Ended | Step::Broken(_) => WorkOutcome::Over,
     }

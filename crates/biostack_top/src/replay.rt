@@ -15,14 +15,14 @@ use plain_core::Core;
 use plain_core::laws::accepted_texts_can_open;
 use std::alloc::{AllocError, Global};
 use trace_replay::laws::{none_is_stuck, runs_have_no_bad_line};
-use trace_replay::{Parts, Replayed, cut_text, write_replayed};
+use trace_replay::{CutText, Replayed, cut_text, write_replayed};
 use trace_text::laws::accepted_stacks_are_named;
 
 // The most bytes that a text may have, with its trace.
 const MOST_BYTES: usize = 4_194_304;
 
 // What lines of events come to over the scene before them.
-fn replayed(alloc: Global, scene: &Scene<'_>, parts: &Parts<'_>) -> Result<Replayed, AllocError>
+fn replayed(alloc: Global, scene: &Scene<'_>, parts: &CutText<'_>) -> Result<Replayed, AllocError>
     requires said { IsSaidBy true scene.now }
     requires few { parts.now.first + length parts.now.events.now < 2 ^ 64 }
     ensures { IfOk result (ComeTo scene.now.accepted scene.now.work (told_in parts.now.first parts.now.events.now)) }

@@ -25,7 +25,7 @@ use Rattle.bio_records.specs.Rescue.{Rescue}
 use Rattle.model_disks.specs.Disks.{DiskState}
 use Rattle.task_steps.specs.Service.{Service}
 use Rattle.task_core.specs.Plains.{Advances}
-use Rattle.task_core.specs.Resizing.{Resizes}
+use Rattle.task_core.specs.Resizing.{ResizesIfHome}
 use Rattle.object_things.specs.Stamps.{Stamped, MarkState, ThingState, Told, StepOf, ThingAnswers, thing_state}
 use Rattle.object_things.specs.Histories.{Call}
 use Rattle.object_things.specs.Homes.{AddsUpAtHome, PoolAddsUp, ListAddsUp, DiskAddsUp, TallyAddsUp, punted_by_call, popped_by_call, pushes, completions, dones}
@@ -73,7 +73,7 @@ had old got.Ordinary new h = moved [] h
 had old got.Spare new h = moved [] h
 had old got.Missed new h = absurd h
 
-resized : (old : LedgerPool) (min out : ℕ) (new : LedgerPool) → Resizes old min out new → PoolAddsUp old [] new
+resized : (old : LedgerPool) (min out : ℕ) (new : LedgerPool) → ResizesIfHome old min out new → PoolAddsUp old [] new
 resized old min out new r = ⊎_elim (λ a. moved [] a.1) (λ b. same_pool b.1) r.1
 
 undone : (waits : Bool) (old new : LedgerPool) → Undone waits old new → PoolAddsUp old [] new

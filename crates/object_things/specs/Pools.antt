@@ -18,7 +18,7 @@ use Rattle.task_steps.specs.declared.objects.Unmade.TheVariants as unmade
 use Rattle.run_machine.specs.Requests.{Request, Reply, TakeBio, TakeVec, TakeSlip, GiveBio, GiveVec, GiveSlip, Resize, HadBio, HadVec, HadSlip, Missed, Did, OutIs, NoTicket}
 use Rattle.run_machine.specs.Objects.{clear_bio, clear_vector, clear_slip}
 use Rattle.run_machine.specs.Laws.{Object, OfPool, object_of}
-use Rattle.task_core.specs.Resizing.{Resizes}
+use Rattle.task_core.specs.Resizing.{ResizesIfHome}
 use Rattle.task_steps.specs.Stage.{Stage}
 use Rattle.task_steps.specs.Views.{resized_reply}
 use Rattle.object_things.specs.declared.stamp.Asking.{Asking}
@@ -97,7 +97,7 @@ PoolServes old (TakeSlip dev) (Missed used) new = MissesTold true old used new
 PoolServes old (GiveBio bio) Did new = PoolMoves old gives new × (bio.share ≡ old.ledger)
 PoolServes old (GiveVec vector) Did new = PoolMoves old gives new × (vector.share ≡ old.ledger)
 PoolServes old (GiveSlip slip) Did new = PoolMoves old gives new × (slip.share ≡ old.ledger)
-PoolServes old (Resize pool min) (OutIs out) new = Resizes old min out new
+PoolServes old (Resize pool min) (OutIs out) new = ResizesIfHome old min out new
 PoolServes old request reply new = ⊥
 
 -- what a take that found no ticket leaves: it missed, which was to be told, or gave back what it had

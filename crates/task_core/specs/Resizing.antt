@@ -5,8 +5,8 @@ use Rattle.mempool_core.specs.Pool.{LedgerPool, PoolMoves}
 use Rattle.run_machine.specs.Requests.{Opening, Write, Chain, Master, Leg}
 
 -- what was out of a pool, and its reserve, which changes where nothing was
-abbrev pub Resizes : LedgerPool → ℕ → ℕ → LedgerPool → Type 0
-Resizes old min out new =
+abbrev pub ResizesIfHome : LedgerPool → ℕ → ℕ → LedgerPool → Type 0
+ResizesIfHome old min out new =
     (out ≡ old.state.facts.out) × (((out ≡ 0) × PoolMoves old (resizes min) new) ⊎ ((0 < out) × (new ≡ old)))
 
 -- a bio that a mirror copies has a leg

@@ -7,7 +7,7 @@ use decl_text::Lines;
 
 /// A scenario, and a trace behind it.
 #[derive(Clone, Copy)]
-pub struct Parts<'a> {
+pub struct CutText<'a> {
     /// The lines before the first whose first word is `event`.
     pub scenario: &'a [u8],
     /// The lines from that one on.
@@ -35,13 +35,13 @@ fn first_told(text: &[u8]) -> (usize, u64)
 }
 
 /// Cuts a text before the first line whose first word is `event`.
-pub fn cut_text(text: &[u8]) -> Parts<'_>
+pub fn cut_text(text: &[u8]) -> CutText<'_>
     requires { length text.now < 2 ^ 63 }
     ensures { AreTextParts text.now result.scenario.now result.events.now result.first }
 {
     let (place, first) = first_told(text);
     let (scenario, events) = text.split_at(place);
-    Parts {
+    CutText {
         scenario,
         events,
         first,

@@ -13,6 +13,6 @@ mod told;
 mod walk;
 
 pub use answer::write_replayed;
-pub use cut::{Parts, cut_text};
+pub use cut::{CutText, cut_text};
 pub use extents::Extent;
 pub use walk::{Finish, Replayed, replay};

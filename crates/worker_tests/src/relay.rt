@@ -24,7 +24,7 @@ pub struct Relay {
 
 impl Work<Runner> for Relay {
     ghost use Rattle.std.specs.Prelude.{◌≡◌, ◌≢◌, ◌+◌};
-    ghost use Rattle.bio_workers.specs.declared.work.WorkOutcome.TheVariants.{Event};
+    ghost use Rattle.bio_workers.specs.declared.work.WorkOutcome.TheVariants.{Happened};
 
     type Key = u32;
 
@@ -36,7 +36,7 @@ impl Work<Runner> for Relay {
 
     ghost is_over = { λ runner. runner.left ≡ 0 };
 
-    ghost goes = { λ came old new. (came ≡ Event → new.left + 1 ≡ old.left) × (came ≢ Event → new ≡ old) };
+    ghost goes = { λ came old new. (came ≡ Happened → new.left + 1 ≡ old.left) × (came ≢ Happened → new ≡ old) };
 
     fn number(&self, task: &Runner) -> u32 {
         task.number
@@ -52,7 +52,7 @@ impl Work<Runner> for Relay {
         }
         self.handed.fetch_add(1, Ordering::SeqCst);
         task.left -= 1;
-        WorkOutcome::Event
+        WorkOutcome::Happened
     }
 }
 

@@ -19,7 +19,7 @@ use Rattle.task_core.specs.Tables.{look_up}
 use Rattle.run_machine.specs.Requests.{Resize, OutIs}
 use Rattle.run_machine.specs.Objects.{Objects, MovesPool, Serves}
 use Rattle.task_steps.specs.Stage.{Stage, is_bios, is_slips, RequestFits}
-use Rattle.task_core.specs.Resizing.{Resizes}
+use Rattle.task_core.specs.Resizing.{ResizesIfHome}
 use Rattle.task_core.specs.Plains.{set_number, records_number, no_pool, by_kind, bios_at, records_at, pool_at, objects_of, stage_of, Holds}
 use Rattle.task_core.proofs.Keeping.{set_is_bios, mirror_is_slips}
 use Rattle.task_core.proofs.own.PlainLemmas.{kept_by, with_bios, with_records, with_vecs, bios_there, bios_entered, bios_move, bios_stage, records_there, records_entered, records_move, records_stage, vecs_entered, vecs_move, vecs_stage}
@@ -75,7 +75,7 @@ module _ (plain : Plain) (holds : Holds plain) (of : SetId) (min : ℕ) (fits : 
   pub bios_within : min ≤ entry.1.most
   bios_within = subst (λ (p : LedgerPool). min ≤ p.most) (sym (bios_there plain holds number i is place entry value)) fits.2
 
-  module _ (out : ℕ) (x : LedgerPool) (did : Resizes entry.1 min out x) where
+  module _ (out : ℕ) (x : LedgerPool) (did : ResizesIfHome entry.1 min out x) where
     out_is : out ≡ (pool_at plain number).state.facts.out
     out_is = did.0 ∙ ap (λ (p : LedgerPool). p.state.facts.out) (bios_there plain holds number i is place entry value)
 
@@ -131,7 +131,7 @@ module _ (plain : Plain) (holds : Holds plain) (dev : DevId) (min : ℕ) (fits :
   pub records_within : min ≤ entry.1.most
   records_within = subst (λ (p : LedgerPool). min ≤ p.most) (sym (records_there plain holds slip_number i is_slip place entry value)) fits.2
 
-  module _ (out : ℕ) (x : LedgerPool) (did : Resizes entry.1 min out x) where
+  module _ (out : ℕ) (x : LedgerPool) (did : ResizesIfHome entry.1 min out x) where
     slips_out : out ≡ (pool_at plain slip_number).state.facts.out
     slips_out = did.0 ∙ ap (λ (p : LedgerPool). p.state.facts.out) (records_there plain holds slip_number i is_slip place entry value)
 
@@ -158,7 +158,7 @@ module _ (plain : Plain) (holds : Holds plain) (dev : DevId) (min : ℕ) (fits :
     records_resized_kept = slips_keep did.1
 
 module _ (plain : Plain) (holds : Holds plain) (min : ℕ) (fits : RequestFits (stage_of plain) (Resize FsVecs min)) (out : ℕ) (x : LedgerPool)
-    (did : Resizes plain.vecs min out x) where
+    (did : ResizesIfHome plain.vecs min out x) where
   vecs_serve : ((out ≡ 0) × pool.PoolMoves plain.vecs (resizes min) x) ⊎ ((0 < out) × (x ≡ plain.vecs))
       → Serves (stage_of plain).ledger (objects_of plain) (Resize FsVecs min) (OutIs out) (objects_of (with_vecs plain x))
   vecs_serve (inl (zero, moves)) = (did.0, moved_so (objects_of plain) (objects_of (with_vecs plain x)) 64 min out zero (vecs_move plain x (resizes min) moves))

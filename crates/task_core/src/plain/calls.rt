@@ -4,7 +4,7 @@ ghost use Rattle.bio_records.specs.Items.{item_of};
 ghost use Rattle.bio_books.specs.Views.{linked_of, IsLinkAlone};
 ghost use Rattle.run_machine.specs.Objects.{OpensNode};
 ghost use Rattle.task_steps.specs.Views.{opening_of, IsAskAlone};
-ghost use Rattle.task_core.specs.Resizing.{HasLegs, Resizes};
+ghost use Rattle.task_core.specs.Resizing.{HasLegs, ResizesIfHome};
 
 use bio_books::{Book, Link};
 use bio_records::BioElement;
@@ -45,7 +45,7 @@ pub fn link_in(book: &mut Book, ask: Ask) -> Link
 pub fn resize_home<P: Fresh + Drop>(pool: &mut Pool<P>, min: u32) -> u64
     requires some { 1 ≤ min }
     requires within { min ≤ pool.old.most }
-    ensures { Resizes pool.old min result pool.new }
+    ensures { ResizesIfHome pool.old min result pool.new }
 {
     let out = pool.facts().out;
     if out == 0 {
