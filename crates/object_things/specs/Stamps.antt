@@ -23,6 +23,7 @@ pub record CommonState : Type 0 where
   pub clock : TableId
   pub opened : Plain
 
+-- the stage of the objects as they were opened, and their tally then
 abbrev pub stage_in : CommonState → Stage
 stage_in common = stage_of common.opened
 

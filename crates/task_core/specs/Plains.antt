@@ -85,6 +85,7 @@ objects_of plain = record {
   tally = tally_of plain.tally;
 }
 
+-- the stage of these objects: the routing, how many writes there are, and of each pool the ledger and the most that its reserve may be
 abbrev pub stage_of : Plain → Stage
 stage_of plain = record {
   routing = plain.stage.value;
