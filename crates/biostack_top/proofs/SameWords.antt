@@ -59,15 +59,20 @@ module _ (known : Known) (one other : Stack) (one_scripts other_scripts : List (
   same_task_word task.Keeper = refl
 
   same_words : (does : What) → what_words one does ≡ what_words other does
+  -- pools
   same_words (what.Take pool got) = λ k. codes "take" ∷ same_pool_word pool k ∷ got_word got ∷ []
   same_words (what.Try pool got) = λ k. codes "try" ∷ same_pool_word pool k ∷ got_word got ∷ []
   same_words (what.Give pool) = λ k. codes "give" ∷ same_pool_word pool k ∷ []
+  -- lists of rescuers
   same_words (what.Punt dev moved) = λ k. codes "punt" ∷ same_name dev k ∷ decimal moved ∷ []
   same_words (what.Pop dev) = λ k. codes "pop" ∷ same_name dev k ∷ []
+  -- disks
   same_words (what.Push disk at len leg) = λ k. codes "push" ∷ same_name disk k ∷ decimal at ∷ decimal len ∷ codes "leg" ∷ decimal leg ∷ []
   same_words (what.Complete disk index status) = λ k. codes "complete" ∷ same_name disk k ∷ decimal index ∷ status_word status ∷ []
+  -- books
   same_words (what.Link writer how node) = refl
   same_words (what.Drop writer node status end) = refl
+  -- the tally and reserves
   same_words (what.Done write status) = refl
   same_words (what.Resize pool min) = λ k. codes "resize" ∷ same_pool_word pool k ∷ decimal min ∷ []
   same_words (what.Round round) = refl
@@ -99,15 +104,20 @@ module _ (known : Known) (one other : Stack) (one_scripts other_scripts : List (
   task_too task.Keeper has = tt
 
   what_too : (does : What) → HasWhat one does → HasWhat other does
+  -- pools
   what_too (what.Take pool got) has = pool_too pool has
   what_too (what.Try pool got) has = pool_too pool has
   what_too (what.Give pool) has = pool_too pool has
+  -- lists of rescuers
   what_too (what.Punt dev moved) has = any_too dev has
   what_too (what.Pop dev) has = any_too dev has
+  -- disks
   what_too (what.Push disk at len leg) has = disk_too disk has
   what_too (what.Complete disk index status) has = disk_too disk has
+  -- books
   what_too (what.Link writer how node) has = tt
   what_too (what.Drop writer node status end) has = tt
+  -- the tally and reserves
   what_too (what.Done write status) has = tt
   what_too (what.Resize pool min) has = pool_too pool has
   what_too (what.Round round) has = tt

@@ -81,12 +81,14 @@ undone waits old new (inl (used, missed)) = moved [] missed.0
 undone waits old new (inr (from, between, taken, back)) = then [] [] [] (had old from between taken) (moved [] back)
 
 pool_served : (old : LedgerPool) (asked : Request) (reply : Reply) (new : LedgerPool) → PoolServes old asked reply new → PoolAddsUp old [] new
+-- takes
 pool_served old (TakeBio set waits) (HadBio from bio) new s = had old from new s.0
 pool_served old (TakeBio set waits) (Missed used) new s = moved [] s.0
 pool_served old TakeVec (HadVec from vector) new s = had old from new s.0
 pool_served old TakeVec (Missed used) new s = moved [] s.0
 pool_served old (TakeSlip dev) (HadSlip from slip) new s = had old from new s.0
 pool_served old (TakeSlip dev) (Missed used) new s = moved [] s.0
+-- gives and resizes
 pool_served old (GiveBio bio) Did new s = moved [] s.0
 pool_served old (GiveVec vector) Did new s = moved [] s.0
 pool_served old (GiveSlip slip) Did new s = moved [] s.0
@@ -94,12 +96,15 @@ pool_served old (Resize pool min) (OutIs out) new s = resized old min out new s
 pool_served old asked reply new s = absurd s
 
 pool_looked : (old : ThingState LedgerPool) (asked : Request) (reply : Reply) (new : ThingState LedgerPool) → PoolLooks old asked reply new → PoolAddsUp old.object [] new.object
+-- takes that miss
 pool_looked old (TakeBio set waits) (Missed used) new l = moved [] l.2
 pool_looked old TakeVec (Missed used) new l = moved [] l.2
 pool_looked old (TakeSlip dev) (Missed used) new l = moved [] l.2
+-- takes that find no ticket
 pool_looked old (TakeBio set waits) NoTicket new l = undone waits old.object new.object l.0
 pool_looked old TakeVec NoTicket new l = undone true old.object new.object l.0
 pool_looked old (TakeSlip dev) NoTicket new l = undone true old.object new.object l.0
+-- gives and resizes that find none
 pool_looked old (GiveBio bio) NoTicket new l = same_pool l.0
 pool_looked old (GiveVec vector) NoTicket new l = same_pool l.0
 pool_looked old (GiveSlip slip) NoTicket new l = same_pool l.0

@@ -70,12 +70,15 @@ take_quiet : (waits : Bool) (old new : ThingState LedgerPool) (told : Option Wha
 take_quiet waits old new told is none = record { keeps = inr (refl, none.1); spent = λ h. none.1; told = is }
 
 pub pool_quiet : (old new : ThingState LedgerPool) (asked : Request) (reply : Reply) → PoolLooks old asked reply new → IsQuiet old reply (what_of asked reply) new
+-- takes that miss
 pool_quiet old new (TakeBio set waits) (Missed used) looks = miss_quiet old new waits used _ looks
 pool_quiet old new TakeVec (Missed used) looks = miss_quiet old new true used _ looks
 pool_quiet old new (TakeSlip dev) (Missed used) looks = miss_quiet old new true used _ looks
+-- takes that find no ticket
 pool_quiet old new (TakeBio set waits) NoTicket looks = take_quiet waits old new _ refl looks
 pool_quiet old new TakeVec NoTicket looks = take_quiet true old new _ refl looks
 pool_quiet old new (TakeSlip dev) NoTicket looks = take_quiet true old new _ refl looks
+-- gives and resizes that find none
 pool_quiet old new (GiveBio bio) NoTicket looks = quiet_none old new _ refl looks
 pool_quiet old new (GiveVec vector) NoTicket looks = quiet_none old new _ refl looks
 pool_quiet old new (GiveSlip slip) NoTicket looks = quiet_none old new _ refl looks

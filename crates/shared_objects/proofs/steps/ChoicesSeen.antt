@@ -14,15 +14,21 @@ module _ {S T C : Type 0} (seen : S → T) (chooses : C → ℕ → ℕ → C �
   chosen_by : (own : DevId) (event : Event) (w : What)
       → Chosen chooses (λ objects. picks (seen objects)) now own old (Stepped (record event { what = w })) new
       → Chosen chooses picks (seen now) own old (Stepped (record event { what = w })) new
+  -- completions, which choose
   chosen_by own event (what.Complete disk index status) chosen = chosen
+  -- pools
   chosen_by own event (what.Take pool got) chosen = chosen
   chosen_by own event (what.Try pool got) chosen = chosen
   chosen_by own event (what.Give pool) chosen = chosen
+  -- lists of rescuers
   chosen_by own event (what.Punt dev moved) chosen = chosen
   chosen_by own event (what.Pop dev) chosen = chosen
+  -- pushes to disks
   chosen_by own event (what.Push disk at len leg) chosen = chosen
+  -- books
   chosen_by own event (what.Link writer how node) chosen = chosen
   chosen_by own event (what.Drop writer node status end) chosen = chosen
+  -- the tally and reserves
   chosen_by own event (what.Done write status) chosen = chosen
   chosen_by own event (what.Resize pool min) chosen = chosen
   chosen_by own event (what.Round round) chosen = chosen
