@@ -110,7 +110,7 @@ pub struct Replied<S> {
     pub note: u64,
     /// Whether no draw had failed at the object before.
     pub drew: bool,
-    /// The ticket that was drawn. It has no bytes: only clauses read it.
+    /// The ticket that was drawn. It has no bytes: only clauses read it. So a close shows which call drew each ticket, and none has to be given back.
     pub drawn: Snapshot<Option<u64>>,
     /// The index that a completion was asked for, where it has completed a bio. It has no bytes either.
     pub chosen: Snapshot<Option<u64>>,

@@ -39,7 +39,7 @@ pub struct Locks {
 }
 
 impl Locks {
-    /// The desk of the task that has these seats of the locks.
+    /// The desk of the task that has these seats of the locks. It is made of the locks, since these are what threads share.
     pub fn desk<'a, R: Wait>(&'a self, rt: &'a R, seats: TaskSeats) -> Desk<'a, R>
         requires { DeskHolds self.now seats }
         ensures { (result.locks.now ≡ self.now) × (result.seats ≡ seats) }
