@@ -29,9 +29,10 @@ use Rattle.shared_objects.specs.Desks.{DeskState, HasCalled, PassOn, LooksAndCom
 use Rattle.shared_objects.specs.Logs.{is_event, is_stop, is_glance, events_in, Looked, LogLeads, IsMet, HasPass, IsMade, IsLogged, HasStopped, seen_by, ShowsStep, StepsAreLogged}
 use Rattle.shared_objects.proofs.steps.NothingFound.{idle}
 use Rattle.shared_objects.proofs.logs.OneMoreCall.{one_call}
+use Rattle.shared_objects.proofs.logs.CallsLead.{quiet_first}
 use Rattle.shared_objects.proofs.steps.GlanceStays.{event_struck, glance_struck, glance_kinds, glance_stays}
 use Rattle.shared_objects.proofs.steps.BrokenRests.{broken_rests, stop_breaks, spent_breaks_off}
-use Rattle.shared_objects.proofs.logs.StepTells.{ShowsEvent, seen_made, tells_one, quiet_first, tells_further, no_event, shows_further, shows_step, rests_shows, idle_shows, nothing_none}
+use Rattle.shared_objects.proofs.logs.StepTells.{ShowsEvent, seen_made, tells_one, tells_further, no_event, shows_further, shows_step, rests_shows, idle_shows, nothing_none}
 
 -- a look of the task stands among its calls, and lets it ask
 abbrev Let : List Call → TaskState → Option Request → Type 0

@@ -30,6 +30,7 @@ use Rattle.shared_objects.specs.Desks.{DeskState, HasCalled, PassOn, LooksAndCom
 use Rattle.shared_objects.specs.Logs.{is_event, is_stop, is_glance, events_in, Looked, LogLeads, IsMet, HasPass, IsMade, IsLogged, HasStopped, seen_by, ShowsStep, StepsAreLogged}
 use Rattle.shared_objects.proofs.steps.GlanceStays.{event_struck, glance_struck, glance_kinds, glance_stays}
 use Rattle.shared_objects.proofs.steps.BrokenRests.{broken_rests, stop_breaks, spent_breaks_off}
+use Rattle.shared_objects.proofs.logs.CallsLead.{quiet_first}
 
 -- what the calls for a request show of the event that it is, if it is one
 abbrev pub ShowsEvent : Option What → Request → Reply → ℕ → List Call → Type 0
@@ -61,9 +62,6 @@ tells_one (Some what) call asked reply seen is asks replies last =
     (call, event_alone call true (same_event call asked reply asks replies ∙ ap is_some is), asks, replies, last)
 
 -- glances in front and behind are no events
-pub quiet_first : (look : Call) (calls : List Call) → is_event look.asked look.told.reply ≡ false → events_in (look ∷ calls) ≡ events_in calls
-quiet_first look calls is = ap (λ (e : Bool). cond e (look ∷ events_in calls) (events_in calls)) is
-
 pub tells_further : (told : Option What) (look : Call) (asked : Request) (reply : Reply) (seen : ℕ) (calls : List Call) → is_event look.asked look.told.reply ≡ false
     → ShowsEvent told asked reply seen calls → ShowsEvent told asked reply seen (look ∷ calls)
 tells_further None look asked reply seen calls quiet tells = quiet_first look calls quiet ∙ tells
