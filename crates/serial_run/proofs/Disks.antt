@@ -1,67 +1,34 @@
 -- The disks of one thread stand in the order of the devices.
-use Rattle.std.proofs.Common.{◌≡◌, ◌≢◌, ◌+◌, ◌<◌, ◌++◌, ◌&&◌, if◌then◌else◌, ℕ, zero, suc, Bool, true, false, true≢false, List, [], ◌∷◌, length, map, filter, find, Some, refl, sym, ap, ◌∙◌, subst, arith}
+use Rattle.std.proofs.Common.{◌≡◌, ◌≢◌, ◌+◌, ◌<◌, ◌&&◌, if◌then◌else◌, ℕ, zero, suc, Bool, true, false, true≢false, List, [], ◌∷◌, length, map, filter, find, Some, refl, sym, ap, ◌∙◌, arith}
 use Rattle.std.specs.Prelude.{slice_get}
 use Rattle.std.specs.List.{range_with_len}
 use Rattle.std.specs.Option.{option_map_or}
 use Rattle.std.proofs.lemmas.Bool.{eq-eqb, ne_eqb, lt-ltb}
+use Rattle.std.proofs.lemmas.List.{map-id}
 use Rattle.std.proofs.lemmas.Simd.{map-map}
 use Rattle.std.proofs.lemmas.Option.{slice_get_within}
 use Rattle.stack_base.specs.declared.ids.DevId.{DevId}
 use Rattle.stack_base.specs.declared.stack.Device.{Device}
-use Rattle.stack_base.specs.declared.stack.Kind.{Kind}
-use Rattle.stack_base.specs.declared.stack.Kind.TheVariants as kind
 use Rattle.stack_base.specs.declared.stack.Stack.{Stack}
-use Rattle.stack_base.specs.Tree.{Tree, over, over_shape, tree}
+use Rattle.stack_base.specs.Tree.{tree}
 use Rattle.stack_base.proofs.Unfolded.{tree_is}
 use Rattle.task_core.specs.declared.plain.Plain.{Plain}
-use Rattle.task_core.specs.Leaving.{disk_at, disks_from, disks_of}
+use Rattle.task_core.specs.Leaving.{disks_from, disks_of}
 use Rattle.run_machine.specs.Named.{is_disk_kind}
 use Rattle.run_machine.specs.Opened.{device_at, opened_disk}
 use Rattle.task_core.specs.Plains.{disk_number, objects_of, stage_of, Holds}
 use Rattle.run_machine.specs.Scene.{keeps_data}
 use Rattle.task_steps.specs.Stage.{has_disk}
 use Rattle.task_core.specs.Tables.{is_entry_of, look_up}
-
--- whether a device keeps data, by its kind
-pub by_kind : (n : ℕ) (k : Kind) (trees : List Tree) → keeps_data (over n k trees) ≡ is_disk_kind k
-unfolding over_shape
-by_kind n (kind.Disk sectors bad) trees = refl
-by_kind n kind.Linear trees = refl
-by_kind n (kind.Stripe chunk) trees = refl
-by_kind n (kind.Zoned chunk) trees = refl
-by_kind n (kind.Limit longest chunk) trees = refl
-by_kind n (kind.Mirror records) trees = refl
+use Rattle.task_core.proofs.DisksOfKinds.{disks_found, keeps_by}
 
 -- the numbers of disks, device by device
 numbers : (is : ℕ → Bool) (n : ℕ) (devices : List Device)
     → ((i : ℕ) (device : Device) → slice_get devices i ≡ Some device → is (n + i) ≡ is_disk_kind device.kind)
     → filter is (range_with_len n (length devices)) ≡ map (λ (dev : DevId). dev.0) (disks_from n devices)
-unfolding disks_from
-numbers is n [] each = refl
-numbers is n (device ∷ more) each =
-    by_kind_of device.kind (is n) (ap is same ∙ each 0 device refl)
-    (numbers is (n + 1) more (λ i d found. let next : n + 1 + i ≡ n + suc i = omega arith in ap is next ∙ each (suc i) d found))
-  where
-    same : n ≡ n + 0
-    same = omega arith
-
-    rest : List ℕ
-    rest = filter is (range_with_len (n + 1) (length more))
-
-    take_it : (b : Bool) → b ≡ true → {ns : List ℕ} → n ∷ rest ≡ ns → (if b then n ∷ rest else rest) ≡ ns
-    take_it b is {ns} same = subst (λ (b : Bool). (if b then n ∷ rest else rest) ≡ ns) (sym is) same
-
-    leave_it : (b : Bool) → b ≡ false → {ns : List ℕ} → rest ≡ ns → (if b then n ∷ rest else rest) ≡ ns
-    leave_it b is {ns} same = subst (λ (b : Bool). (if b then n ∷ rest else rest) ≡ ns) (sym is) same
-
-    by_kind_of : (k : Kind) (b : Bool) → b ≡ is_disk_kind k → rest ≡ map (λ (dev : DevId). dev.0) (disks_from (n + 1) more)
-        → (if b then n ∷ rest else rest) ≡ map (λ (dev : DevId). dev.0) (disk_at n k ++ disks_from (n + 1) more)
-    by_kind_of (kind.Disk sectors bad) b is rests = take_it b is (ap (λ xs. n ∷ xs) rests)
-    by_kind_of kind.Linear b is rests = leave_it b is rests
-    by_kind_of (kind.Stripe chunk) b is rests = leave_it b is rests
-    by_kind_of (kind.Zoned chunk) b is rests = leave_it b is rests
-    by_kind_of (kind.Limit longest chunk) b is rests = leave_it b is rests
-    by_kind_of (kind.Mirror records) b is rests = leave_it b is rests
+numbers is n devices each =
+    let found = filter is (range_with_len n (length devices)) in
+    sym (ap (map (λ (dev : DevId). dev.0)) (disks_found is n devices each) ∙ map-map (λ (dev : DevId). dev.0) at found ∙ map-id found)
 
 -- what is found under the numbers of entries that rise
 abbrev first : List ℕ → ℕ
@@ -136,7 +103,7 @@ module _ (plain : Plain) (holds : Holds plain) where
   kinds i device found =
       let same : 0 + i ≡ i = omega arith in
       ap is_disk_at same ∙ ap (λ b. b && keeps_data (tree stack i)) (lt-ltb i (length stack.devices.items) (slice_get_within stack.devices.items i device found))
-      ∙ ap keeps_data (tree_is stack holds.stack_is i device found) ∙ by_kind i device.kind (map (λ (m : DevId). tree stack m.0) device.members.items)
+      ∙ ap keeps_data (tree_is stack holds.stack_is i device found) ∙ keeps_by i device.kind (map (λ (m : DevId). tree stack m.0) device.members.items)
 
   pub disks_in_order : plain.disks.items ≡ map (λ (dev : DevId). (objects_of plain).disk dev.0) (disks_of stack)
   disks_in_order =

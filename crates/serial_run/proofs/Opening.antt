@@ -25,7 +25,7 @@ use Rattle.run_machine.specs.Tasks.{TaskState}
 use Rattle.block_core.specs.Scenarios.{IsScenario, EveryPoolKeepsSome, AreSorted}
 use Rattle.block_core.proofs.start.PostsAtStart.{start_crew}
 use Rattle.run_machine.specs.Named.{is_disk_kind}
-use Rattle.serial_run.proofs.Disks.{by_kind}
+use Rattle.task_core.proofs.DisksOfKinds.{keeps_by}
 
 module _ (o : Opened) (is : IsOpened o) where
   abbrev s : Scenario
@@ -94,7 +94,7 @@ first_is_disk s good some = by_devices s.stack.devices.items refl
         let alone : is_disk_kind device.kind ≡ true =
         disk_alone device.kind (subst (HasShape device.kind) (no_members s.stack good device found) (good.each 0 device found).shape) in
         ap (λ b. b && keeps_data (tree s.stack 0)) (lt-ltb 0 (length s.stack.devices.items) (omega (arith, some)))
-        ∙ ap keeps_data (tree_is s.stack good 0 device found) ∙ by_kind 0 device.kind (map (λ (m : DevId). tree s.stack m.0) device.members.items) ∙ alone
+        ∙ ap keeps_data (tree_is s.stack good 0 device found) ∙ keeps_by 0 device.kind (map (λ (m : DevId). tree s.stack m.0) device.members.items) ∙ alone
 
 -- so where there is a device there is a task
 pub has_task : (s : Scenario) (ledger : ℕ → LedgerId) → IsScenario s → EveryPoolKeepsSome s → AreSorted s.rounds → 1 ≤ length s.stack.devices.items → 1 ≤ length (opened_tasks s)

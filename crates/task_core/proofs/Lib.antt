@@ -3,5 +3,6 @@ pub mod PoolLemmas
 pub mod StageBooks
 pub mod Keeping
 pub mod Quiet
+pub mod DisksOfKinds
 pub mod opened
 pub mod own

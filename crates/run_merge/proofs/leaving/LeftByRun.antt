@@ -31,7 +31,8 @@ use Rattle.shared_objects.specs.Left.{HasClosed}
 use Rattle.shared_objects.specs.declared.closed.Closed.{Closed}
 use Rattle.run_merge.specs.Falling.{DevicePools, row_of, at_number, below, sets_below, records_below, with_facts, falling_below, facts_left}
 use Rattle.run_merge.specs.Outcomes.{state_in, shared_scenario}
-use Rattle.run_merge.proofs.leaving.Devices.{disk_is, set_is, records_is, no_set, no_records, disks_found, below_is, below_past, falls, none_falls}
+use Rattle.task_core.proofs.DisksOfKinds.{disks_found}
+use Rattle.run_merge.proofs.leaving.Devices.{disk_is, set_is, records_is, no_set, no_records, below_is, below_past, falls, none_falls}
 use Rattle.task_steps.specs.Stage.{has_mirror_in}
 use Rattle.run_merge.proofs.leaving.FoundByKey.{map_alike}
 use Rattle.run_merge.proofs.leaving.PoolRows.{of_bios, of_records, all_small, all_sets, all_records, all_disks}
