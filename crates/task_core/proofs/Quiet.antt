@@ -30,60 +30,45 @@ module _ (ledger : ℕ → LedgerId) (setup : Setup) (some old new : Objects) wh
   quiet (requests.TakeBio set true) (requests.HadBio got bio) fair serves untold still = absurd (none-some _ (sym untold))
   quiet (requests.TakeBio set true) (requests.Missed true) fair serves untold still = absurd (none-some _ (sym untold))
   quiet (requests.TakeBio set true) (requests.Missed false) fair serves untold still = (tt, same_pool old new (pool_number (bios_of set)) serves.0.1 serves.1)
-  quiet (requests.TakeBio set true) _ fair serves untold still = absurd serves
   quiet (requests.TakeBio set false) (requests.HadBio got bio) fair serves untold still = absurd (none-some _ (sym untold))
   quiet (requests.TakeBio set false) (requests.Missed used) fair serves untold still = absurd (none-some _ (sym untold))
-  quiet (requests.TakeBio set false) _ fair serves untold still = absurd serves
   quiet requests.TakeVec (requests.HadVec got vector) fair serves untold still = absurd (none-some _ (sym untold))
   quiet requests.TakeVec (requests.Missed true) fair serves untold still = absurd (none-some _ (sym untold))
   quiet requests.TakeVec (requests.Missed false) fair serves untold still = (tt, same_pool old new (pool_number FsVecs) serves.0.1 serves.1)
-  quiet requests.TakeVec _ fair serves untold still = absurd serves
   quiet (requests.TakeSlip dev) (requests.HadSlip got slip) fair serves untold still = absurd (none-some _ (sym untold))
   quiet (requests.TakeSlip dev) (requests.Missed true) fair serves untold still = absurd (none-some _ (sym untold))
   quiet (requests.TakeSlip dev) (requests.Missed false) fair serves untold still = (tt, same_pool old new (pool_number (Records dev)) serves.0.1 serves.1)
-  quiet (requests.TakeSlip dev) _ fair serves untold still = absurd serves
   -- gives are told
   quiet (requests.GiveBio bio) requests.Did fair serves untold still = absurd (none-some _ (sym untold))
-  quiet (requests.GiveBio bio) _ fair serves untold still = absurd serves
   quiet (requests.GiveVec vector) requests.Did fair serves untold still = absurd (none-some _ (sym untold))
-  quiet (requests.GiveVec vector) _ fair serves untold still = absurd serves
   quiet (requests.GiveSlip slip) requests.Did fair serves untold still = absurd (none-some _ (sym untold))
-  quiet (requests.GiveSlip slip) _ fair serves untold still = absurd serves
   -- lists of rescuers: all is told but a pop of an empty list
   quiet (requests.Punt dev moved) requests.Did fair serves untold still = absurd (none-some _ (sym untold))
-  quiet (requests.Punt dev moved) _ fair serves untold still = absurd serves
   quiet (requests.Pop dev) (requests.Popped bio) fair serves untold still = absurd (none-some _ (sym untold))
   quiet (requests.Pop dev) requests.Nothing fair serves untold still = (tt, serves.1)
-  quiet (requests.Pop dev) _ fair serves untold still = absurd serves
   -- disks: all is told but a completion where no bio waits
   quiet (requests.Push bio) requests.Did fair serves untold still = absurd (none-some _ (sym untold))
-  quiet (requests.Push bio) _ fair serves untold still = absurd serves
   quiet (requests.Complete disk) (requests.Completed index bio status) fair serves untold still = absurd (none-some _ (sym untold))
   quiet (requests.Complete disk) requests.Nothing fair serves untold still = (tt, serves.1)
-  quiet (requests.Complete disk) _ fair serves untold still = absurd serves
   -- books: a task that is refused breaks off, and all else is told
   quiet (requests.Link writer opening) (requests.LinkedTo (Made place)) fair serves untold still = absurd (none-some _ (sym untold))
   quiet (requests.Link writer opening) (requests.LinkedTo (NoRoom back)) fair serves untold still = absurd still
   quiet (requests.Link writer opening) (requests.LinkedTo (Stray back)) fair serves untold still = absurd still
-  quiet (requests.Link writer opening) _ fair serves untold still = absurd serves
   quiet (requests.Drop writer node status part) (requests.DroppedTo end.Left) fair serves untold still = absurd (none-some _ (sym untold))
   quiet (requests.Drop writer node status part) (requests.DroppedTo (end.Up closed)) fair serves untold still = absurd (none-some _ (sym untold))
   quiet (requests.Drop writer node status part) (requests.DroppedTo (end.Top closed)) fair serves untold still = absurd (none-some _ (sym untold))
   quiet (requests.Drop writer node status part) (requests.DroppedTo (end.Stray back)) fair serves untold still = absurd still
-  quiet (requests.Drop writer node status part) _ fair serves untold still = absurd serves
   -- ends of writes are told
   quiet (requests.Done write status) requests.Did fair serves untold still = absurd (none-some _ (sym untold))
-  quiet (requests.Done write status) _ fair serves untold still = absurd serves
   -- resizes: one that is not told breaks the keeper off
   quiet (requests.Resize pool min) (requests.OutIs out) fair serves untold still = absurd still
-  quiet (requests.Resize pool min) _ fair serves untold still = absurd serves
   -- starts of rounds are told
   quiet (requests.NextRound round) requests.Did fair serves untold still = absurd (none-some _ (sym untold))
-  quiet (requests.NextRound round) _ fair serves untold still = absurd serves
-  -- looks are not asked for, and rests are not answered
+  -- looks are not asked for
   quiet requests.LookRound reply fair serves untold still = absurd fair
   quiet requests.LookLeft reply fair serves untold still = absurd fair
-  quiet requests.Rest reply fair serves untold still = absurd serves
+  -- no other reply is one to what was asked, and rests are not answered
+  quiet _ _ fair serves untold still = absurd serves
 
 -- where a take missed, none has a spare, and the same entry was used or none
 no_spare : (pool : PoolState) (used : Bool) → CanMove pool (misses used) → CanMove pool takes_spare → ⊥
