@@ -87,20 +87,7 @@ module _ (scene : Scene) (s : State) (w place : ℕ) (none : node_at (s.objects.
   stays_none (moves.Told at disk carried writer key status part node) c other = changed s.objects.book w place none writer key node _ c.4
   stays_none (moves.Closes at disk carried writer key status part node) c other = changed s.objects.book w place none writer key node _ c.4
   -- takes, misses, punts, pops, pushes, completions, gives, ends of writes, resizes and rounds: no book changes
-  stays_none (moves.TakesFirst at writer todo later move) c other = none
-  stays_none (moves.TakesVector at writer todo later item move) c other = none
-  stays_none (moves.TakesSub at x doing lists dev waits move) c other = none
-  stays_none (moves.TakesSlip at x bio lists move) c other = none
-  stays_none (moves.MissesOne at x number used) c other = none
-  stays_none (moves.MissesTry at x doing lists dev used) c other = none
-  stays_none (moves.Punts at x doing lists dev) c other = none
-  stays_none (moves.Pops at dev bio bios) c other = none
-  stays_none (moves.Pushes at x bio lists) c other = none
-  stays_none (moves.Completed at disk index bio status new) c other = none
-  stays_none (moves.Gives at disk writer number closed held) c other = none
-  stays_none (moves.Ends at disk writer closed) c other = none
-  stays_none (moves.Resized at pool min later duties) c other = none
-  stays_none (moves.Started at round later duties) c other = none
+  stays_none _ c other = none
 
 -- What is read opens a node where what is told does, and at the next place.
 abbrev OpensAt : Names → Touch → Touch → Type 0

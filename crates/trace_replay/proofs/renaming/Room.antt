@@ -71,23 +71,10 @@ module _ (scene : Scene) (s : State) (writer key : ℕ) where
   finds_vacant (moves.Chained place x bio lists hand number kind sizes members k node) c is = at_own bio.bio.writer k is c.6
   finds_vacant (moves.Mastered place x bio lists slip k node) c is = at_own bio.bio.writer k is c.5
   finds_vacant (moves.Legged place x bio lists master leg hand k node) c is = at_own bio.writer k is c.5
-  -- no other move opens one
-  finds_vacant (moves.TakesFirst place v todo later move) c is = not_open Passes tt is
-  finds_vacant (moves.TakesVector place v todo later item move) c is = not_open Passes tt is
-  finds_vacant (moves.TakesSub place x doing lists dev waits move) c is = not_open Passes tt is
-  finds_vacant (moves.TakesSlip place x bio lists move) c is = not_open Passes tt is
-  finds_vacant (moves.MissesOne place x number used) c is = not_open Passes tt is
-  finds_vacant (moves.MissesTry place x doing lists dev used) c is = not_open Passes tt is
-  finds_vacant (moves.Punts place x doing lists dev) c is = not_open Passes tt is
-  finds_vacant (moves.Pops place dev bio bios) c is = not_open Passes tt is
-  finds_vacant (moves.Pushes place x bio lists) c is = not_open Passes tt is
-  finds_vacant (moves.Completed place disk index bio status new) c is = not_open Passes tt is
-  finds_vacant (moves.Told place disk carried v k status part node) c is = not_open Passes tt is
+  -- the move that shuts one
   finds_vacant (moves.Closes place disk carried v k status part node) c is = not_open (Shuts v k) tt is
-  finds_vacant (moves.Gives place disk v number closed held) c is = not_open Passes tt is
-  finds_vacant (moves.Ends place disk v closed) c is = not_open Passes tt is
-  finds_vacant (moves.Resized place pool min later duties) c is = not_open Passes tt is
-  finds_vacant (moves.Started place round later duties) c is = not_open Passes tt is
+  -- no other move opens one
+  finds_vacant _ c is = not_open Passes tt is
 
 -- how many nodes were opened behind an event
 more_at : (f : ℕ → ℕ) (writer w : ℕ) → upd f writer (f writer + 1) w ≡ f w + one_if_same writer w
@@ -107,18 +94,7 @@ pub opened_after : (names : Names) (event : What) (w : ℕ) → (names_after nam
 opened_after names (what.Link writer how node) w = more_at names.opened writer w
 -- no other event opens one
 opened_after names (what.Drop writer node status end.Left) w = omega arith
-opened_after names (what.Drop writer node status end.Up) w = omega arith
-opened_after names (what.Drop writer node status end.Top) w = omega arith
-opened_after names (what.Take pool got) w = omega arith
-opened_after names (what.Try pool got) w = omega arith
-opened_after names (what.Give pool) w = omega arith
-opened_after names (what.Punt dev moved) w = omega arith
-opened_after names (what.Pop dev) w = omega arith
-opened_after names (what.Push disk at len leg) w = omega arith
-opened_after names (what.Complete disk index status) w = omega arith
-opened_after names (what.Done write status) w = omega arith
-opened_after names (what.Resize pool min) w = omega arith
-opened_after names (what.Round round) w = omega arith
+opened_after names _ w = omega arith
 
 -- the nodes that were opened and those that are still to be opened have places
 abbrev pub HasLeft : Scene → Names → State → Type 0

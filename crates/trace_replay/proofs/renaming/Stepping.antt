@@ -12,7 +12,7 @@ use Rattle.bio_books.specs.Drops.{Closed}
 use Rattle.run_machine.specs.declared.event.Event.{Event}
 use Rattle.run_machine.specs.Maps.{upd}
 use Rattle.run_machine.specs.Scene.{Scene, Setup}
-use Rattle.run_machine.specs.Submissions.{Takes, WantsPunt, Links, ToPush, ToCut, ToRecord, ToMaster, Doing, Rests, Drives, Copies, Breaks, Submission, submission_request}
+use Rattle.run_machine.specs.Submissions.{Takes, ToCut, Doing, Rests, Drives, Copies, Breaks, Submission, submission_request}
 use Rattle.run_machine.specs.Tasks.{Todo, Gathered, NoBio, HasBio, HasBoth, Carried, Empty, Brings, Carries, Fails, Resizes, Starts, Keeping, Keeps, Stops, TaskState, Writer, Rescuer, Completer, Keeper, needs_vector, with_bio, write_request, writer_request, rescuer_request, closed_request, carried_request, keeper_request, request, look_of, answered}
 use Rattle.run_machine.specs.Requests.{Request, Present, LeftOver}
 use Rattle.run_machine.specs.Objects.{Objects, Serves}
@@ -53,17 +53,9 @@ module _ (scene : Scene) where
   Within = IsWithin scene.setup.count
 
   submission_within : (doing : Doing) (lists : TaskLists) → Within (submission_request scene.setup doing lists)
-  submission_within Rests lists = tt
-  submission_within (Breaks breach kept) lists = tt
-  submission_within (Drives bio ToPush) lists = tt
   submission_within (Drives bio (ToCut (Takes waits))) lists = tt
-  submission_within (Drives bio (ToCut WantsPunt)) lists = tt
-  submission_within (Drives bio (ToCut (Links hand))) lists = tt
-  submission_within (Drives bio ToRecord) lists = tt
-  submission_within (Drives bio (ToMaster slip)) lists = tt
   submission_within (Copies bio master leg (Takes waits)) lists = tt
-  submission_within (Copies bio master leg WantsPunt) lists = tt
-  submission_within (Copies bio master leg (Links hand)) lists = tt
+  submission_within _ lists = tt
 
   bio_within : (writer : ℕ) (todo : Todo) (long : Bool) → Within (with_bio writer long todo)
   bio_within writer todo true = tt
