@@ -43,23 +43,16 @@ pub pool_stays : (old new : LedgerPool) (asked : Request) (reply : Reply) → Po
 -- takes: what is served is an event, an element that was handed out or a miss
 pool_stays old new (TakeBio set waits) (HadBio from bio) h none = wrong none
 pool_stays old new (TakeBio set waits) (Missed used) h none = miss_told waits used _ h.1 none
-pool_stays old new (TakeBio set waits) reply h none = absurd h
 pool_stays old new TakeVec (HadVec from vector) h none = wrong none
 pool_stays old new TakeVec (Missed used) h none = miss_told true used _ h.1 none
-pool_stays old new TakeVec reply h none = absurd h
 pool_stays old new (TakeSlip dev) (HadSlip from slip) h none = wrong none
 pool_stays old new (TakeSlip dev) (Missed used) h none = miss_told true used _ h.1 none
-pool_stays old new (TakeSlip dev) reply h none = absurd h
 -- gives are events
 pool_stays old new (GiveBio bio) Did h none = wrong none
-pool_stays old new (GiveBio bio) reply h none = absurd h
 pool_stays old new (GiveVec vector) Did h none = wrong none
-pool_stays old new (GiveVec vector) reply h none = absurd h
 pool_stays old new (GiveSlip slip) Did h none = wrong none
-pool_stays old new (GiveSlip slip) reply h none = absurd h
 -- a resize that found elements out changed nothing
 pool_stays old new (Resize pool min) (OutIs out) h none = out_stays old new pool min out h.1 none
-pool_stays old new (Resize pool min) reply h none = absurd h
 -- a pool serves nothing else
 pool_stays old new asked reply h none = absurd h
 

@@ -58,12 +58,6 @@ list_found old new asked looks = absurd looks
 
 pub pool_unserved : (old : LedgerPool) (asked : Request) (new : LedgerPool) → PoolServes old asked NoTicket new → ⊥
 pool_unserved old (TakeBio set waits) new serves = serves
-pool_unserved old TakeVec new serves = serves
-pool_unserved old (TakeSlip dev) new serves = serves
-pool_unserved old (GiveBio bio) new serves = serves
-pool_unserved old (GiveVec vector) new serves = serves
-pool_unserved old (GiveSlip slip) new serves = serves
-pool_unserved old (Resize pool min) new serves = serves
 pool_unserved old asked new serves = serves
 
 pub pool_found : (old new : ThingState LedgerPool) (asked : Request) → PoolLooks old asked NoTicket new → new.spent ≡ true
