@@ -3,7 +3,7 @@ use Rattle.std.specs.Prelude.{◌+◌, ◌-◌, ◌*◌, ◌≤◌, ℕ, length,
 use Rattle.elem_ledger.specs.Ledger.{LedgerId}
 use Rattle.fail_script.specs.Script.{Answers, entries_of}
 use Rattle.stack_base.specs.declared.ids.PoolId.{PoolId}
-use Rattle.layout_model.specs.Bound.{all_elements, all_parts}
+use Rattle.layout_model.specs.Bound.{all_elements, all_fragments}
 use Rattle.run_machine.specs.Opened.{Scenario, round_count, scene, start}
 use Rattle.block_core.specs.Charges.{state_rank}
 use Rattle.block_core.specs.Scenarios.{InEveryRun, IsScenario, IsNaming}
@@ -15,7 +15,7 @@ extra_steps s = sum_by (λ (script : PoolId × Answers). entries_of script.1) s.
 -- what no run exceeds: eight events an element, two a fragment, and one an entry of a script, a round behind the first and a change of a
 -- reserve
 abbrev pub most_steps : Scenario → ℕ
-most_steps s = 8 * all_elements s.stack s.writes + 2 * all_parts s.stack s.writes + extra_steps s
+most_steps s = 8 * all_elements s.stack s.writes + 2 * all_fragments s.stack s.writes + extra_steps s
 
 -- nor does the rank of the state in which runs begin
 abbrev pub OpenedRankIsBounded : Type 0

@@ -3,7 +3,7 @@ use Rattle.std.specs.Prelude.{◌≡◌, ◌+◌, not, ℕ, Bool, true, false, L
 use Rattle.stack_base.specs.declared.stack.Stack.{Stack}
 use Rattle.stack_base.specs.Tree.{tree}
 use Rattle.layout_model.specs.declared.write.Write.{Write}
-use Rattle.layout_model.specs.Bound.{all_elements, all_parts}
+use Rattle.layout_model.specs.Bound.{all_elements, all_fragments}
 use Rattle.layout_model.specs.Need.{needed}
 use Rattle.layout_model.specs.NeedCounts.{nodes}
 use Rattle.run_machine.specs.declared.event.Event.{Event}
@@ -42,8 +42,8 @@ abbrev pub exact_steps : Scenario → ℕ
 exact_steps s =
     let takes = all_elements s.stack s.writes in
     let links = all_nodes s.stack s.writes in
-    let pushes = all_parts s.stack s.writes in
-    let ends = all_parts s.stack s.writes + all_below s.stack s.writes in
+    let pushes = all_fragments s.stack s.writes in
+    let ends = all_fragments s.stack s.writes + all_below s.stack s.writes in
     let starts = length (filter starts_round (duties s)) in
     let resizes = length (filter (λ duty. not (starts_round duty)) (duties s)) in
     -- as many gives as takes, and completions as pushes

@@ -7,7 +7,7 @@ use Rattle.stack_base.specs.declared.ids.PoolId.{PoolId}
 use Rattle.stack_base.specs.Mapping.{slot, head}
 use Rattle.stack_base.specs.Tree.{Tree, Leaf, Split, Mirrored, tree}
 use Rattle.layout_model.specs.declared.write.Write.{Write}
-use Rattle.layout_model.specs.Bound.{all_elements, all_parts}
+use Rattle.layout_model.specs.Bound.{all_elements, all_fragments}
 use Rattle.layout_model.specs.Need.{vectors}
 use Rattle.run_machine.specs.declared.event.Event.{Event}
 use Rattle.run_machine.specs.Opened.{Scenario, round_count, scene, start}
@@ -48,7 +48,7 @@ payers s WriteBio = length s.writes
 payers s WriteVector = sum_by (λ (write : Write). vectors write.count) s.writes
 payers s Record = sum_by (λ (write : Write). record_count (tree s.stack write.dev.0) write.start write.count) s.writes
 payers s PieceBio = sum_by (λ (write : Write). piece_count (tree s.stack write.dev.0) write.start write.count) s.writes
-payers s Fragment = all_parts s.stack s.writes
+payers s Fragment = all_fragments s.stack s.writes
 payers s ScriptEntry = sum_by (λ (script : PoolId × Answers). entries_of script.1) s.scripts
 payers s LaterRound = round_count s - 1
 payers s ReserveChange = length s.changes

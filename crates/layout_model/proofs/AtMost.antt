@@ -7,7 +7,7 @@ use Rattle.std.proofs.lemmas.List.FromFn.{length-range_with_len}
 use Rattle.stack_base.specs.Mapping.{slot, head}
 use Rattle.stack_base.specs.Cutting.{next}
 use Rattle.stack_base.specs.Tree.{Tree, Leaf, Split, Mirrored, weight}
-use Rattle.layout_model.specs.Need.{begun, needed, fragments_of}
+use Rattle.layout_model.specs.Need.{elements_begun, needed, fragments_in_run}
 use Rattle.layout_model.specs.Sound.{Sound, NothingBehindMembers}
 use Rattle.layout_model.proofs.RangeSums.{sum_le, term_le_sum, sum_of_one, sum_of_two}
 use Rattle.layout_model.proofs.Begun.{needed_piece, needed_more, needed_legs, fragments_of_disk, fragments_of_piece, fragments_of_more, fragments_of_legs}
@@ -28,8 +28,8 @@ choice_le true n = omega arith
 choice_le false n = omega arith
 
 -- at one sector no more begins than the device weighs
-pub begun_le_weight : (t : Tree) (r s : ℕ) → NothingBehindMembers t → begun t r s ≤ weight t
-unfolding NothingBehindMembers begun weight
+pub begun_le_weight : (t : Tree) (r s : ℕ) → NothingBehindMembers t → elements_begun t r s ≤ weight t
+unfolding NothingBehindMembers elements_begun weight
 begun_le_weight (Leaf number sectors) r s closed = omega arith
 begun_le_weight (Split number kind sizes members) r s closed =
     let below = begun_le_weight (members (slot kind sizes s).member) (slot kind sizes (head kind sizes r s)).at (slot kind sizes s).at (closed.1 (slot kind sizes s).member) in
@@ -39,21 +39,21 @@ begun_le_weight (Mirrored number sizes members) r s closed =
       arith,
       choice_le (r == s) (1 + length sizes),
       sum-map (λ k. weight (members k)) (range_with_len 0 (length sizes)),
-      sum_by-le-sum_by (λ k. begun (members k) r s) (λ k. weight (members k)) (range_with_len 0 (length sizes))
+      sum_by-le-sum_by (λ k. elements_begun (members k) r s) (λ k. weight (members k)) (range_with_len 0 (length sizes))
           (λ k. begun_le_weight (members k) r s (closed.1 k)),
     )
 
 -- a run needs no more than what its device weighs at each of its sectors
 pub needed_le_weight : (t : Tree) (r len : ℕ) → NothingBehindMembers t → needed t r len ≤ weight t * len
 unfolding needed
-needed_le_weight t r len closed = sum_le (begun t r) r len (weight t) (λ s. begun_le_weight t r s closed)
+needed_le_weight t r len closed = sum_le (elements_begun t r) r len (weight t) (λ s. begun_le_weight t r s closed)
 
 -- each fragment but the first has come of a piece or a copy more
-pub fragments_le_needed : (t : Tree) (r len : ℕ) → Sound t → 0 < len → fragments_of t r len ≤ 1 + needed t r len
+pub fragments_le_needed : (t : Tree) (r len : ℕ) → Sound t → 0 < len → fragments_in_run t r len ≤ 1 + needed t r len
 unfolding Sound
 fragments_le_needed (Leaf number sectors) r len sound some = omega (arith, fragments_of_disk number sectors r len some)
 fragments_le_needed (Split number kind sizes members) r len sound some =
-    by_pieces (next kind sizes) (λ r len. fragments_of (Split number kind sizes members) r len ≤ 1 + needed (Split number kind sizes members) r len)
+    by_pieces (next kind sizes) (λ r len. fragments_in_run (Split number kind sizes members) r len ≤ 1 + needed (Split number kind sizes members) r len)
     sound.0.ahead
     (λ r len n is begins whole. omega (
       arith,
@@ -74,7 +74,7 @@ fragments_le_needed (Mirrored number sizes members) r len sound some =
       arith,
       needed_legs number sizes members r len some,
       fragments_of_legs number sizes members r len,
-      sum_by-le-sum_by (λ k. fragments_of (members k) r len) (λ k. 1 + needed (members k) r len) (range_with_len 0 (length sizes))
+      sum_by-le-sum_by (λ k. fragments_in_run (members k) r len) (λ k. 1 + needed (members k) r len) (range_with_len 0 (length sizes))
           (λ k. fragments_le_needed (members k) r len (sound.1 k) some),
       sum_of_two (λ k. 1) (λ k. needed (members k) r len) (range_with_len 0 (length sizes)),
       sum_of_one (range_with_len 0 (length sizes)),

@@ -9,7 +9,7 @@ use Rattle.stack_base.specs.Piece.{IsPiece}
 use Rattle.stack_base.specs.Tree.{Tree, Split}
 use Rattle.stack_base.proofs.Pieces.{piece_len}
 use Rattle.layout_model.specs.Way.{FitsWay, place}
-use Rattle.layout_model.specs.Need.{needed, fragments_of}
+use Rattle.layout_model.specs.Need.{needed, fragments_in_run}
 use Rattle.layout_model.specs.Shown.{shown_sector}
 use Rattle.layout_model.proofs.CountSteps.{fragments_none}
 use Rattle.layout_model.proofs.Begun.{needed_piece, needed_more, fragments_of_piece, fragments_of_more}
@@ -33,22 +33,22 @@ module _ (number : ℕ) (kind : Kind) (sizes : List ℕ) (members : ℕ → Tree
 
   -- the fragments of a run are those of its first piece and those of the rest
   pub fragments_of_both :
-      fragments_of (Split number kind sizes members) start len
-      ≡ fragments_of (members piece.member) piece.at piece.len + fragments_of (Split number kind sizes members) (start + piece.len) (len - piece.len)
+      fragments_in_run (Split number kind sizes members) start len
+      ≡ fragments_in_run (members piece.member) piece.at piece.len + fragments_in_run (Split number kind sizes members) (start + piece.len) (len - piece.len)
   fragments_of_both =
       let split : Tree = Split number kind sizes members in
       let ends = piece_len kind sizes start len piece cut is in
       elim (cases_lt piece.len len) [
         | inl more ↦
             fragments_of_more number kind sizes members start len piece.len cut ends more
-            ∙ ap (λ (to : Slot). fragments_of (members to.member) to.at piece.len + fragments_of split (start + piece.len) (len - piece.len)) is.place
+            ∙ ap (λ (to : Slot). fragments_in_run (members to.member) to.at piece.len + fragments_in_run split (start + piece.len) (len - piece.len)) is.place
         | inr ge ↦
             let whole : piece.len ≡ len = omega (arith, is.within) in
             let none = fragments_none split (start + piece.len) (len - piece.len) (omega arith) in
-            let all : fragments_of split start len ≡ fragments_of (members piece.member) piece.at piece.len =
+            let all : fragments_in_run split start len ≡ fragments_in_run (members piece.member) piece.at piece.len =
             fragments_of_piece number kind sizes members start len piece.len cut ends whole
-            ∙ ap (λ (to : Slot). fragments_of (members to.member) to.at len) is.place
-            ∙ ap (fragments_of (members piece.member) piece.at) (sym whole) in
+            ∙ ap (λ (to : Slot). fragments_in_run (members to.member) to.at len) is.place
+            ∙ ap (fragments_in_run (members piece.member) piece.at) (sym whole) in
             omega arith
       ]
 

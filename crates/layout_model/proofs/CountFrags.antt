@@ -7,7 +7,7 @@ use Rattle.stack_base.specs.declared.stack.Kind.{Kind}
 use Rattle.stack_base.specs.Mapping.{slot}
 use Rattle.stack_base.specs.Cutting.{next}
 use Rattle.stack_base.specs.Tree.{Tree, Leaf, Split, Mirrored}
-use Rattle.layout_model.specs.Need.{fragments_of}
+use Rattle.layout_model.specs.Need.{fragments_in_run}
 use Rattle.layout_model.specs.Plan.{frags}
 use Rattle.layout_model.specs.Sound.{Sound}
 use Rattle.layout_model.proofs.RangeSums.{sum_same}
@@ -29,12 +29,12 @@ frags_piece number kind sizes members write offset r len n sound some is whole =
     ∙ append-nil _
 
 -- a run has as many fragments as the list of them is long
-pub fragments_of_is_length : (t : Tree) (write offset r len : ℕ) → Sound t → 0 < len → fragments_of t r len ≡ length (frags t write offset r len)
+pub fragments_of_is_length : (t : Tree) (write offset r len : ℕ) → Sound t → 0 < len → fragments_in_run t r len ≡ length (frags t write offset r len)
 unfolding Sound frags
 fragments_of_is_length (Leaf number sectors) write offset r len sound some = fragments_of_disk number sectors r len some
 fragments_of_is_length (Split number kind sizes members) write offset r len sound some =
     by_pieces (next kind sizes)
-    (λ r len. (offset : ℕ) → fragments_of (Split number kind sizes members) r len ≡ length (frags (Split number kind sizes members) write offset r len))
+    (λ r len. (offset : ℕ) → fragments_in_run (Split number kind sizes members) r len ≡ length (frags (Split number kind sizes members) write offset r len))
     sound.0.ahead
     (λ r len n is begins whole offset.
     fragments_of_piece number kind sizes members r len n sound.0 is whole
@@ -53,6 +53,6 @@ fragments_of_is_length (Split number kind sizes members) write offset r len soun
     r len some offset
 fragments_of_is_length (Mirrored number sizes members) write offset r len sound some =
     fragments_of_legs number sizes members r len
-    ∙ sum_same (λ k. fragments_of (members k) r len) (λ k. length (frags (members k) write offset r len)) (range_with_len 0 (length sizes))
+    ∙ sum_same (λ k. fragments_in_run (members k) r len) (λ k. length (frags (members k) write offset r len)) (range_with_len 0 (length sizes))
     (λ k. fragments_of_is_length (members k) write offset r len (sound.1 k) some)
     ∙ sym (length-flat_map (λ k. frags (members k) write offset r len) (range_with_len 0 (length sizes)))

@@ -5,7 +5,7 @@ use Rattle.std.proofs.lemmas.Bool.{cases_lt, lt-ltb, le-ltb}
 use Rattle.stack_base.specs.declared.stack.Stack.{Stack}
 use Rattle.stack_base.specs.Tree.{Tree, tree}
 use Rattle.layout_model.specs.declared.piece.FirstRun.{FirstRun}
-use Rattle.layout_model.specs.Need.{needed, fragments_of}
+use Rattle.layout_model.specs.Need.{needed, fragments_in_run}
 use Rattle.layout_model.specs.Pieces.{IsFirstRun}
 
 -- a run without a sector needs nothing
@@ -14,9 +14,9 @@ unfolding needed
 needed_none t r len none = ap (needed t r) none ∙ refl
 
 -- and has no fragment
-pub fragments_none : (t : Tree) (r len : ℕ) → len ≡ 0 → fragments_of t r len ≡ 0
-unfolding fragments_of
-fragments_none t r len none = ap (fragments_of t r) none ∙ refl
+pub fragments_none : (t : Tree) (r len : ℕ) → len ≡ 0 → fragments_in_run t r len ≡ 0
+unfolding fragments_in_run
+fragments_none t r len none = ap (fragments_in_run t r) none ∙ refl
 
 module _ (stack : Stack) (dev start len done : ℕ) (to : FirstRun) (first : IsFirstRun stack dev (start + done) (len - done) to) where
   -- the rest needs what its first piece needs, a bio for this piece where it is not the last, and what is left needs
@@ -41,8 +41,8 @@ module _ (stack : Stack) (dev start len done : ℕ) (to : FirstRun) (first : IsF
 
   -- and has the fragments of both
   pub fragments_step :
-      fragments_of (tree stack dev) (start + done) (len - done)
-      ≡ fragments_of (tree stack to.dev.0) to.at to.len + fragments_of (tree stack dev) (start + (done + to.len)) (len - (done + to.len))
+      fragments_in_run (tree stack dev) (start + done) (len - done)
+      ≡ fragments_in_run (tree stack to.dev.0) to.at to.len + fragments_in_run (tree stack dev) (start + (done + to.len)) (len - (done + to.len))
   fragments_step =
       let on : start + done + to.len ≡ start + (done + to.len) = omega arith in
       let left : len - done - to.len ≡ len - (done + to.len) = omega arith in

@@ -14,7 +14,7 @@ use Rattle.stack_base.specs.Stack.{HasShape, IsStack}
 use Rattle.stack_base.proofs.KindCuts.{kind_cuts}
 use Rattle.stack_base.proofs.Unfolded.{size-tree}
 use Rattle.layout_model.specs.Way.{FitsWay, place}
-use Rattle.layout_model.specs.Need.{needed, fragments_of}
+use Rattle.layout_model.specs.Need.{needed, fragments_in_run}
 use Rattle.layout_model.specs.Pieces.{IsFirstRun}
 use Rattle.layout_model.specs.Shown.{shown_sector}
 use Rattle.layout_model.proofs.Over.{can_cut}
@@ -69,9 +69,9 @@ module _ (stack : Stack) (good : IsStack stack) (number : ℕ) (device : Device)
         inside = omega (arith, in_member.1);
         rest = λ write offset. cut_piece stack good number device found known cuts write offset start len piece m at_member is;
         counts = cc (
-          ap (λ t. fragments_of t start len) whole,
-          ap (λ t. fragments_of t (start + piece.len) (len - piece.len)) whole,
-          ap (λ t. fragments_of t piece.at piece.len) leg,
+          ap (λ t. fragments_in_run t start len) whole,
+          ap (λ t. fragments_in_run t (start + piece.len) (len - piece.len)) whole,
+          ap (λ t. fragments_in_run t piece.at piece.len) leg,
           fragments_of_both number device.kind sizes members cut start len piece is,
         );
         alone = λ ends. ap (λ t. needed t start len) whole

@@ -12,41 +12,41 @@ use Rattle.std.proofs.lemmas.Nat.{same_from_place}
 use Rattle.stack_base.specs.Tree.{Tree}
 use Rattle.stack_base.proofs.NumberLemmas.{eqb_flips}
 use Rattle.layout_model.specs.declared.fragment.Fragment.{Fragment}
-use Rattle.layout_model.specs.Fragments.{IsFragmentOf, AreOther, rank, AreFragments}
+use Rattle.layout_model.specs.Fragments.{IsFragmentOf, AreOther, fragment_order, AreFragments}
 use Rattle.layout_model.specs.Plan.{frags}
 use Rattle.layout_model.proofs.Sound.{Sound}
 use Rattle.layout_model.proofs.Whole.{frags_are}
 use Rattle.layout_model.proofs.Apart.{HasDisk, Apart, frags_have, frags_distinct}
 
 -- fragments that differ in offset or disk differ in rank, where disks have numbers of 32 bits
-rank_apart : (a b : Fragment) → a.disk.0 < 2 ^ 32 → b.disk.0 < 2 ^ 32 → AreOther a b → rank a ≡ rank b → ⊥
+rank_apart : (a b : Fragment) → a.disk.0 < 2 ^ 32 → b.disk.0 < 2 ^ 32 → AreOther a b → fragment_order a ≡ fragment_order b → ⊥
 rank_apart a b small also other same =
     let parts = same_from_place a.offset a.disk.0 b.offset b.disk.0 (2 ^ 32) small also same in
     other parts.0 parts.1
 
 -- ranks of a list whose fragments are different are different
-ranks_distinct : (fragments : List Fragment) → ((f : Fragment) → Contains fragments f → f.disk.0 < 2 ^ 32) → AllPairs AreOther fragments → IsDistinct eqb (map rank fragments)
-ranks_distinct fragments small other = IsDistinct-from_apart eqb (map rank fragments) (λ i j d lt within.
-    let within : j < length fragments = omega (arith, length-map fragments rank) in
+ranks_distinct : (fragments : List Fragment) → ((f : Fragment) → Contains fragments f → f.disk.0 < 2 ^ 32) → AllPairs AreOther fragments → IsDistinct eqb (map fragment_order fragments)
+ranks_distinct fragments small other = IsDistinct-from_apart eqb (map fragment_order fragments) (λ i j d lt within.
+    let within : j < length fragments = omega (arith, length-map fragments fragment_order) in
     let e : Fragment = record { write = 0; offset = 0; len = 0; disk = record { 0 = 0 }; at = 0 } in
-    rw (get_or-map rank fragments i e d (omega arith), get_or-map rank fragments j e d within)
+    rw (get_or-map fragment_order fragments i e d (omega arith), get_or-map fragment_order fragments j e d within)
     (ne_eqb _ _ (rank_apart (get_or fragments i e) (get_or fragments j e) (small _ (Contains-get_or fragments i e (omega arith))) (small _ (Contains-get_or fragments j e within)) (other i j e lt within))))
 
 -- ranks of a list that is sorted by rank do not fall
-ranks_sorted : (fragments : List Fragment) → IsNonDecreasingBy rank fragments → IsNonDecreasing (map rank fragments)
+ranks_sorted : (fragments : List Fragment) → IsNonDecreasingBy fragment_order fragments → IsNonDecreasing (map fragment_order fragments)
 ranks_sorted fragments sorted i j d le within =
-    let within : j < length fragments = omega (arith, length-map fragments rank) in
+    let within : j < length fragments = omega (arith, length-map fragments fragment_order) in
     let e : Fragment = record { write = 0; offset = 0; len = 0; disk = record { 0 = 0 }; at = 0 } in
-    rw (get_or-map rank fragments i e d (omega arith), get_or-map rank fragments j e d within) (sorted i j e le within)
+    rw (get_or-map fragment_order fragments i e d (omega arith), get_or-map fragment_order fragments j e d within) (sorted i j e le within)
 
 module _ (t : Tree) (sound : Sound t) (apart : Apart t) (small : (disk : ℕ) → HasDisk t disk → disk < 2 ^ 32)
     (write offset r len : ℕ) (some : 0 < len) (list : List Fragment) (same : IsPermutation (frags t write offset r len) list) where
   -- the fragments in any order, once sorted by rank, rise
-  pub in_order : IsNonDecreasingBy rank list → IsStrictlyIncreasing (map rank list)
+  pub in_order : IsNonDecreasingBy fragment_order list → IsStrictlyIncreasing (map fragment_order list)
   in_order sorted =
-      IsStrictlyIncreasing-from_distinct (map rank list) (ranks_sorted list sorted)
-      (IsDistinct-IsPermutation eqb eqb_flips (map rank (frags t write offset r len)) (map rank list)
-      (IsPermutation-map rank (frags t write offset r len) list same)
+      IsStrictlyIncreasing-from_distinct (map fragment_order list) (ranks_sorted list sorted)
+      (IsDistinct-IsPermutation eqb eqb_flips (map fragment_order (frags t write offset r len)) (map fragment_order list)
+      (IsPermutation-map fragment_order (frags t write offset r len) list same)
       (ranks_distinct (frags t write offset r len)
       (λ f c. small f.disk.0 (frags_have t sound write offset r len some f c))
       (frags_distinct t sound apart write offset r len some)))
@@ -60,7 +60,7 @@ module _ (t : Tree) (sound : Sound t) (apart : Apart t) (small : (disk : ℕ) �
 
 -- what cutting gives, sorted by rank, is the list of the fragments
 pub are_fragments : (t : Tree) → Sound t → Apart t → ((disk : ℕ) → HasDisk t disk → disk < 2 ^ 32) → (write r len : ℕ) → 0 < len
-    → (list : List Fragment) → IsPermutation (frags t write 0 r len) list → IsNonDecreasingBy rank list → AreFragments t write r len list
+    → (list : List Fragment) → IsPermutation (frags t write 0 r len) list → IsNonDecreasingBy fragment_order list → AreFragments t write r len list
 are_fragments t sound apart small write r len some list same sorted = record {
   each = each_fragment t sound apart small write 0 r len some list same;
   order = in_order t sound apart small write 0 r len some list same sorted;

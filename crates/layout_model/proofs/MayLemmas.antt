@@ -6,7 +6,7 @@ use Rattle.stack_base.specs.declared.ids.Status.TheVariants as status
 use Rattle.stack_base.specs.Fault.{status_eq}
 use Rattle.stack_base.proofs.FaultLemmas.{status_eq_is}
 use Rattle.layout_model.specs.declared.fragment.Fragment.{Fragment}
-use Rattle.layout_model.specs.Plan.{Plan, Plans, Whole, Pieces, Legs, none, also}
+use Rattle.layout_model.specs.Plan.{Plan, Plans, OneFragment, Pieces, Legs, none, also}
 use Rattle.layout_model.specs.May.{may_end, each_may_end, some_may_end}
 use Rattle.layout_model.specs.Laws.{OkIsAlone, SomeEndIsOpen, EndsOfDisk}
 
@@ -20,7 +20,7 @@ mutual
   unfolding may_end each_may_end some_may_end
 
   pub ok_is_alone : OkIsAlone
-  ok_is_alone ends (Whole fragment) end well so =
+  ok_is_alone ends (OneFragment fragment) end well so =
       (status_eq_is end (ends fragment)).0 so ∙ sym ((status_eq_is status.Ok (ends fragment)).0 well)
   ok_is_alone ends (Pieces number plans) status.Ok well so = refl
   ok_is_alone ends (Pieces number plans) status.Io well so = all_alone ends plans status.Io well so
@@ -81,7 +81,7 @@ mutual
   unfolding may_end each_may_end EachOrOther
 
   pub some_end_is_open : SomeEndIsOpen
-  some_end_is_open ends (Whole fragment) = (ends fragment, (status_eq_is (ends fragment) (ends fragment)).1 refl)
+  some_end_is_open ends (OneFragment fragment) = (ends fragment, (status_eq_is (ends fragment) (ends fragment)).1 refl)
   some_end_is_open ends (Pieces number plans) = pieces_open ends number plans (each_or_other ends plans)
   some_end_is_open ends (Legs number plans) = legs_open ends number plans
 

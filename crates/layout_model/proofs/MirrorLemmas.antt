@@ -12,7 +12,7 @@ use Rattle.stack_base.specs.Tree.{Tree, size, Keeps, Copies, shape_of, member_at
 use Rattle.stack_base.specs.Stack.{IsStack}
 use Rattle.stack_base.proofs.Smallest.{smallest_le}
 use Rattle.layout_model.specs.Way.{FitsWay, place}
-use Rattle.layout_model.specs.Need.{needed, fragments_of}
+use Rattle.layout_model.specs.Need.{needed, fragments_in_run}
 use Rattle.layout_model.specs.Shown.{keeps_data, shown_sector}
 use Rattle.layout_model.proofs.RangeSums.{sum_next}
 use Rattle.layout_model.proofs.Begun.{needed_disk, needed_legs, fragments_of_disk, fragments_of_legs}
@@ -58,12 +58,12 @@ module _ (stack : Stack) (good : IsStack stack) (number : ℕ) (device : Device)
       )
 
   -- and has the fragments of each member
-  pub legs_count : (start len : ℕ) → fragments_of (tree stack number) start len ≡ sum_by (λ (m : DevId). fragments_of (tree stack m.0) start len) device.members.items
+  pub legs_count : (start len : ℕ) → fragments_in_run (tree stack number) start len ≡ sum_by (λ (m : DevId). fragments_in_run (tree stack m.0) start len) device.members.items
   legs_count start len =
       let sizes = map (λ (m : DevId). size (tree stack m.0)) device.members.items in
-      ap (λ t. fragments_of t start len) (copies_is stack good number device found copies)
+      ap (λ t. fragments_in_run t start len) (copies_is stack good number device found copies)
       ∙ fragments_of_legs number sizes (member_at number (map (λ (m : DevId). tree stack m.0) device.members.items)) start len
-      ∙ sum_of_legs (λ t. fragments_of t start len)
+      ∙ sum_of_legs (λ t. fragments_in_run t start len)
 
   -- no member is smaller than the mirror
   pub leg_size : (k : ℕ) (m : DevId) → slice_get device.members.items k ≡ Some m → size (tree stack number) ≤ size (tree stack m.0)
@@ -119,9 +119,9 @@ module _ (stack : Stack) (good : IsStack stack) (number : ℕ) (device : Device)
   disk_needed start len = ap (λ t. needed t start len) (keeps_is stack good number device found sectors keeps) ∙ needed_disk number sectors start len
 
   -- and is one fragment
-  pub disk_count : (start len : ℕ) → 1 ≤ len → fragments_of (tree stack number) start len ≡ 1
+  pub disk_count : (start len : ℕ) → 1 ≤ len → fragments_in_run (tree stack number) start len ≡ 1
   disk_count start len some =
-      ap (λ t. fragments_of t start len) (keeps_is stack good number device found sectors keeps) ∙ fragments_of_disk number sectors start len some
+      ap (λ t. fragments_in_run t start len) (keeps_is stack good number device found sectors keeps) ∙ fragments_of_disk number sectors start len some
 
   -- a sector stays where it is
   pub disk_place : (s : ℕ) (choices : List ℕ) → place (tree stack number) s choices ≡ record { disk = number; at = s }

@@ -8,7 +8,7 @@ use Rattle.stack_base.specs.Cutting.{next, IsCut}
 use Rattle.stack_base.specs.Tree.{Tree, Leaf, Split, Mirrored}
 use Rattle.layout_model.specs.declared.fragment.Fragment.{Fragment}
 use Rattle.layout_model.specs.Need.{needed}
-use Rattle.layout_model.specs.Plan.{Part, cuts_in, cuts, frags, Plan, Plans, Whole, Pieces, Legs, none, also, each, plan, leaves, takes, all_takes, count_of}
+use Rattle.layout_model.specs.Plan.{Part, cuts_in, cuts, frags, Plan, Plans, OneFragment, Pieces, Legs, none, also, plans_of, plan, leaves, takes, all_takes, count_of}
 use Rattle.layout_model.specs.Sound.{Sound}
 use Rattle.layout_model.specs.Laws.{IsCutOff}
 use Rattle.layout_model.proofs.RangeSums.{sum_same}
@@ -23,11 +23,11 @@ part_plan kind sizes members write p = plan (members (slot kind sizes p.start).m
 
 -- the plans of the pieces of a run
 abbrev pub piece_plans : Kind → List ℕ → (ℕ → Tree) → ℕ → ℕ → ℕ → ℕ → Plans
-piece_plans kind sizes members write offset r len = each (part_plan kind sizes members write) (cuts (next kind sizes) offset r len)
+piece_plans kind sizes members write offset r len = plans_of (part_plan kind sizes members write) (cuts (next kind sizes) offset r len)
 
 -- a run of no sectors has no pieces
 pub piece_plans_none : (kind : Kind) (sizes : List ℕ) (members : ℕ → Tree) (write offset r : ℕ) → piece_plans kind sizes members write offset r 0 ≡ none
-unfolding each cuts cuts_in
+unfolding plans_of cuts cuts_in
 piece_plans_none kind sizes members write offset r = refl
 
 -- the first piece, and the pieces of the rest
@@ -35,9 +35,9 @@ pub piece_plans_first : (kind : Kind) (sizes : List ℕ) (members : ℕ → Tree
     → IsCut (head kind sizes) (next kind sizes) (slot kind sizes) → 0 < len → n ≡ min (next kind sizes r - r) len
     → piece_plans kind sizes members write offset r len
     ≡ also (plan (members (slot kind sizes r).member) write offset (slot kind sizes r).at n) (piece_plans kind sizes members write (offset + n) (r + n) (len - n))
-unfolding each
+unfolding plans_of
 piece_plans_first kind sizes members write offset r len n cut some is =
-    rw is (ap (each (part_plan kind sizes members write)) (cuts_first (next kind sizes) cut.ahead offset r len some))
+    rw is (ap (plans_of (part_plan kind sizes members write)) (cuts_first (next kind sizes) cut.ahead offset r len some))
 
 -- a run that is one piece
 pub piece_plans_one : (kind : Kind) (sizes : List ℕ) (members : ℕ → Tree) (write offset r len n : ℕ)
@@ -52,7 +52,7 @@ piece_plans_one kind sizes members write offset r len n cut some is whole =
 
 -- the plan of a run at a disk is one fragment
 pub whole_is : (number sectors write offset r len : ℕ)
-    → plan (Leaf number sectors) write offset r len ≡ Whole (record { write = write; offset = offset; len = len; disk = record { 0 = number }; at = r })
+    → plan (Leaf number sectors) write offset r len ≡ OneFragment (record { write = write; offset = offset; len = len; disk = record { 0 = number }; at = r })
 unfolding plan
 whole_is number sectors write offset r len = refl
 
@@ -76,7 +76,7 @@ pieces_first number kind sizes members write offset r len n cut some is = record
 
 -- at a mirror, the plan of the same run in each member
 pub legs_are : (number : ℕ) (sizes : List ℕ) (members : ℕ → Tree) (write offset r len : ℕ)
-    → plan (Mirrored number sizes members) write offset r len ≡ Legs number (each (λ k. plan (members k) write offset r len) (range_with_len 0 (length sizes)))
+    → plan (Mirrored number sizes members) write offset r len ≡ Legs number (plans_of (λ k. plan (members k) write offset r len) (range_with_len 0 (length sizes)))
 unfolding plan
 legs_are number sizes members write offset r len = refl
 
@@ -93,7 +93,7 @@ leaves_plan (Mirrored number sizes members) write offset r len =
     (λ k. leaves_plan (members k) write offset r len)
 
 -- one fragment takes nothing
-takes_whole : (fragment : Fragment) → takes (Whole fragment) ≡ 0
+takes_whole : (fragment : Fragment) → takes (OneFragment fragment) ≡ 0
 unfolding takes
 takes_whole fragment = refl
 
@@ -109,7 +109,7 @@ takes_more number p q others rest is = rw is (unfold takes all_takes count_of in
 
 -- a plan of legs takes a record, a bio for each, and what each takes
 takes_legs : (number : ℕ) (f : ℕ → Plan) (count : ℕ)
-    → takes (Legs number (each f (range_with_len 0 count))) ≡ 1 + count + sum_by (λ k. takes (f k)) (range_with_len 0 count)
+    → takes (Legs number (plans_of f (range_with_len 0 count))) ≡ 1 + count + sum_by (λ k. takes (f k)) (range_with_len 0 count)
 unfolding takes
 takes_legs number f count =
     omega (arith, count_of_each f (range_with_len 0 count), length-range_with_len 0 count, takes_of_each f (range_with_len 0 count))

@@ -4,7 +4,7 @@ use Rattle.std.proofs.Math.Nat.{mul-le-mul}
 use Rattle.stack_base.specs.declared.stack.Stack.{Stack}
 use Rattle.stack_base.specs.Stack.{IsStack}
 use Rattle.stack_base.specs.Tree.{size, weight, tree}
-use Rattle.layout_model.specs.Need.{needed, fragments_of}
+use Rattle.layout_model.specs.Need.{needed, fragments_in_run}
 use Rattle.layout_model.proofs.AtMost.{needed_le_weight, fragments_le_needed}
 use Rattle.layout_model.proofs.Closed.{closed_tree}
 use Rattle.layout_model.proofs.Stacks.{element, tree_sound}
@@ -22,6 +22,6 @@ module _ (stack : Stack) (good : IsStack stack) (number start len : ℕ) (known 
       omega arith
 
   -- and has no more fragments than it needs elements, but for one
-  pub fragments_small : 1 ≤ len → fragments_of (tree stack number) start len ≤ 75497473
+  pub fragments_small : 1 ≤ len → fragments_in_run (tree stack number) start len ≤ 75497473
   fragments_small some =
       omega (arith, needed_small, fragments_le_needed (tree stack number) start len (tree_sound stack good number known) some)

@@ -12,7 +12,7 @@ use Rattle.stack_base.specs.Stack.{IsMember, IsStack}
 use Rattle.stack_base.proofs.KindCuts.{kind_cuts}
 use Rattle.stack_base.proofs.Unfolded.{tree_is}
 use Rattle.layout_model.specs.declared.fragment.Fragment.{Fragment}
-use Rattle.layout_model.specs.Fragments.{rank, AreFragments}
+use Rattle.layout_model.specs.Fragments.{fragment_order, AreFragments}
 use Rattle.layout_model.specs.Plan.{frags}
 use Rattle.layout_model.proofs.Sound.{Sound}
 use Rattle.layout_model.proofs.Apart.{HasDisk, Apart}
@@ -109,7 +109,7 @@ module _ (stack : Stack) (good : IsStack stack) where
 
   -- what cutting at a device gives, sorted by rank, is the list of the fragments
   pub tree_fragments : (number : ℕ) → number < length stack.devices.items → (write r len : ℕ) → 0 < len
-      → (list : List Fragment) → IsPermutation (frags (tree stack number) write 0 r len) list → IsNonDecreasingBy rank list
+      → (list : List Fragment) → IsPermutation (frags (tree stack number) write 0 r len) list → IsNonDecreasingBy fragment_order list
       → AreFragments (tree stack number) write r len list
   tree_fragments number within write r len some list same sorted =
       are_fragments (tree stack number) (tree_sound number within) (tree_apart number within) (disk_small number within) write r len some list same sorted

@@ -5,7 +5,7 @@ use Rattle.stack_base.specs.declared.stack.Stack.{Stack}
 use Rattle.stack_base.specs.Stack.{IsStack}
 use Rattle.stack_base.specs.Tree.{tree}
 use Rattle.layout_model.specs.declared.write.Write.{Write}
-use Rattle.layout_model.specs.NeedCounts.{elements, parts}
+use Rattle.layout_model.specs.NeedCounts.{elements, write_fragments}
 use Rattle.layout_model.specs.Writes.{IsWrite}
 use Rattle.layout_model.proofs.AtMost.{fragments_le_needed}
 use Rattle.layout_model.proofs.SmallCounts.{needed_small}
@@ -22,6 +22,6 @@ module _ (stack : Stack) (good : IsStack stack) (write : Write) (served : IsWrit
       omega (arith, one_or_none (ltb 4 ((write.count + 7) / 8)), needed_small stack good write.dev.0 write.start write.count served.known served.within)
 
   -- it has no more fragments than it needs elements
-  pub parts_le_elements : parts stack write ≤ elements stack write
+  pub parts_le_elements : write_fragments stack write ≤ elements stack write
   parts_le_elements =
       omega (arith, fragments_le_needed (tree stack write.dev.0) write.start write.count (tree_sound stack good write.dev.0 served.known) served.some)

@@ -36,10 +36,10 @@ abbrev pub AreOther : Fragment → Fragment → Type 0
 AreOther a b = a.offset ≡ b.offset → a.disk.0 ≡ b.disk.0 → ⊥
 
 -- fragments stand by their offsets, and by their disks where these are the same
-abbrev pub rank : Fragment → ℕ
-rank f = f.offset * 2 ^ 32 + f.disk.0
+abbrev pub fragment_order : Fragment → ℕ
+fragment_order f = f.offset * 2 ^ 32 + f.disk.0
 
 -- the fragments of the run, each once and in this order
 pub record AreFragments (t : Tree) (write r len : ℕ) (fragments : List Fragment) : Type 0 where
   pub each : (f : Fragment) → Contains fragments f ↔ IsFragmentOf t write 0 r len f
-  pub order : IsStrictlyIncreasing (map rank fragments)
+  pub order : IsStrictlyIncreasing (map fragment_order fragments)

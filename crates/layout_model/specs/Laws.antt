@@ -13,8 +13,8 @@ use Rattle.stack_base.specs.Stack.{IsStack}
 use Rattle.layout_model.specs.declared.fragment.Fragment.{Fragment}
 use Rattle.layout_model.specs.Way.{FitsWay, place, Step, way, heads}
 use Rattle.layout_model.specs.Fragments.{IsFragmentOf, IsIn, AreOther}
-use Rattle.layout_model.specs.Need.{needed, fragments_of}
-use Rattle.layout_model.specs.Plan.{Plan, Plans, Whole, Pieces, Legs, none, also, each, plan, frags, leaves, takes}
+use Rattle.layout_model.specs.Need.{needed, fragments_in_run}
+use Rattle.layout_model.specs.Plan.{Plan, Plans, OneFragment, Pieces, Legs, none, also, plans_of, plan, frags, leaves, takes}
 use Rattle.layout_model.specs.Sound.{Sound}
 use Rattle.layout_model.specs.May.{may_end}
 
@@ -36,13 +36,13 @@ PlanOfPieces = (number : ℕ) (kind : Kind) (sizes : List ℕ) (members : ℕ �
 abbrev pub PlanOfLegs : Type 0
 PlanOfLegs = (number : ℕ) (sizes : List ℕ) (members : ℕ → Tree) (write offset start len : ℕ)
     → plan (Mirrored number sizes members) write offset start len
-    ≡ Legs number (each (λ k. plan (members k) write offset start len) (range_with_len 0 (length sizes)))
+    ≡ Legs number (plans_of (λ k. plan (members k) write offset start len) (range_with_len 0 (length sizes)))
 
 -- at a disk, one fragment
 abbrev pub PlanOfDisk : Type 0
 PlanOfDisk = (number sectors write offset start len : ℕ)
     → plan (Leaf number sectors) write offset start len
-    ≡ Whole (record { write = write; offset = offset; len = len; disk = record { 0 = number }; at = start })
+    ≡ OneFragment (record { write = write; offset = offset; len = len; disk = record { 0 = number }; at = start })
 
 -- the plan's fragments are those of the run
 abbrev pub PlanGivesFragments : Type 0
@@ -60,7 +60,7 @@ PlanTakesNeeded = (t : Tree) (write offset start len : ℕ) → Sound t → 0 < 
 -- the plan has as many fragments as the layout counts
 abbrev pub FragmentsAreCounted : Type 0
 FragmentsAreCounted = (t : Tree) (write offset start len : ℕ) → Sound t → 0 < len
-    → fragments_of t start len ≡ length (leaves (plan t write offset start len))
+    → fragments_in_run t start len ≡ length (leaves (plan t write offset start len))
 
 -- over a stack, the tree of each device is sound
 abbrev pub TreesAreSound : Type 0
@@ -103,4 +103,4 @@ SomeEndIsOpen = (ends : Fragment → Status) (p : Plan) → (end : Status) × Is
 
 -- at a disk, a run ends as its fragment does
 abbrev pub EndsOfDisk : Type 0
-EndsOfDisk = (ends : Fragment → Status) (f : Fragment) (end : Status) → IsTrue (may_end ends (Whole f) end) ↔ (end ≡ ends f)
+EndsOfDisk = (ends : Fragment → Status) (f : Fragment) (end : Status) → IsTrue (may_end ends (OneFragment f) end) ↔ (end ≡ ends f)

@@ -10,13 +10,13 @@ use Rattle.stack_base.specs.Fault.{bads_of_kind, fault, status_eq}
 use Rattle.stack_base.specs.Tree.{tree}
 use Rattle.layout_model.specs.declared.fragment.Fragment.{Fragment}
 use Rattle.layout_model.specs.declared.write.Write.{Write}
-use Rattle.layout_model.specs.Plan.{Plan, Plans, Whole, Pieces, Legs, none, also, plan}
+use Rattle.layout_model.specs.Plan.{Plan, Plans, OneFragment, Pieces, Legs, none, also, plan}
 
 -- Whether a plan may end so, where each fragment ends as `ends` says. A whole run ends as its fragment. Pieces may end well where each of
 -- them may, and with an error where one of them may end with it. Legs may end well where one of them may, and with `Io` where none may.
 unfoldable mutual
   pub may_end : (Fragment → Status) → Plan → Status → Bool
-  may_end ends (Whole fragment) end = status_eq end (ends fragment)
+  may_end ends (OneFragment fragment) end = status_eq end (ends fragment)
   may_end ends (Pieces number plans) status.Ok = each_may_end ends plans status.Ok
   may_end ends (Pieces number plans) end = some_may_end ends plans end
   may_end ends (Legs number plans) status.Ok = some_may_end ends plans status.Ok

@@ -6,28 +6,28 @@ use Rattle.stack_base.specs.Tree.{Tree, Leaf, Split, Mirrored}
 
 -- what begins at sector s of a run that starts at r, here and below: where a device cuts, a bio for each head but the run's first; where
 -- one copies, a record and a bio for each member where the run begins
-unfoldable pub begun : Tree → ℕ → ℕ → ℕ
-begun (Leaf number sectors) r s = 0
-begun (Split number kind sizes members) r s =
+unfoldable pub elements_begun : Tree → ℕ → ℕ → ℕ
+elements_begun (Leaf number sectors) r s = 0
+elements_begun (Split number kind sizes members) r s =
     (if (head kind sizes r s == s) && not (r == s) then 1 else 0)
-    + begun (members (slot kind sizes s).member) (slot kind sizes (head kind sizes r s)).at (slot kind sizes s).at
-begun (Mirrored number sizes members) r s =
-    (if r == s then 1 + length sizes else 0) + sum_by (λ k. begun (members k) r s) (range_with_len 0 (length sizes))
+    + elements_begun (members (slot kind sizes s).member) (slot kind sizes (head kind sizes r s)).at (slot kind sizes s).at
+elements_begun (Mirrored number sizes members) r s =
+    (if r == s then 1 + length sizes else 0) + sum_by (λ k. elements_begun (members k) r s) (range_with_len 0 (length sizes))
 
 -- the elements that the run of len sectors from r on needs besides its own bio
 unfoldable pub needed : Tree → ℕ → ℕ → ℕ
-needed t r len = sum_by (λ s. begun t r s) (range_with_len r len)
+needed t r len = sum_by (λ s. elements_begun t r s) (range_with_len r len)
 
 -- the fragments that begin at a sector of a run
-unfoldable pub ended : Tree → ℕ → ℕ → ℕ
-ended (Leaf number sectors) r s = if r == s then 1 else 0
-ended (Split number kind sizes members) r s =
-    ended (members (slot kind sizes s).member) (slot kind sizes (head kind sizes r s)).at (slot kind sizes s).at
-ended (Mirrored number sizes members) r s = sum_by (λ k. ended (members k) r s) (range_with_len 0 (length sizes))
+unfoldable pub fragments_begun : Tree → ℕ → ℕ → ℕ
+fragments_begun (Leaf number sectors) r s = if r == s then 1 else 0
+fragments_begun (Split number kind sizes members) r s =
+    fragments_begun (members (slot kind sizes s).member) (slot kind sizes (head kind sizes r s)).at (slot kind sizes s).at
+fragments_begun (Mirrored number sizes members) r s = sum_by (λ k. fragments_begun (members k) r s) (range_with_len 0 (length sizes))
 
 -- how many fragments the run has
-unfoldable pub fragments_of : Tree → ℕ → ℕ → ℕ
-fragments_of t r len = sum_by (λ s. ended t r s) (range_with_len r len)
+unfoldable pub fragments_in_run : Tree → ℕ → ℕ → ℕ
+fragments_in_run t r len = sum_by (λ s. fragments_begun t r s) (range_with_len r len)
 
 -- segments of eight sectors; a bio keeps four of them itself
 abbrev pub segments : ℕ → ℕ

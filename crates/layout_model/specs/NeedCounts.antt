@@ -4,7 +4,7 @@ use Rattle.stack_base.specs.declared.stack.Stack.{Stack}
 use Rattle.stack_base.specs.Tree.{tree}
 use Rattle.layout_model.specs.declared.write.Write.{Write}
 use Rattle.layout_model.specs.declared.counts.Needs.{Needs}
-use Rattle.layout_model.specs.Need.{needed, fragments_of, vectors}
+use Rattle.layout_model.specs.Need.{needed, fragments_in_run, vectors}
 
 -- the elements that a write needs: its own bio, the vector of this bio where it has more segments than a bio keeps itself, and what its
 -- run needs below
@@ -16,10 +16,10 @@ abbrev pub nodes : Stack → Write → ℕ
 nodes stack write = 1 + needed (tree stack write.dev.0) write.start write.count
 
 -- the fragments in which a write comes to the disks
-abbrev pub parts : Stack → Write → ℕ
-parts stack write = fragments_of (tree stack write.dev.0) write.start write.count
+abbrev pub write_fragments : Stack → Write → ℕ
+write_fragments stack write = fragments_in_run (tree stack write.dev.0) write.start write.count
 
 pub record IsNeeds (stack : Stack) (write : Write) (needs : Needs) : Type 0 where
   pub elements : needs.elements ≡ elements stack write
   pub nodes : needs.nodes ≡ nodes stack write
-  pub fragments : needs.fragments ≡ parts stack write
+  pub fragments : needs.fragments ≡ write_fragments stack write

@@ -5,7 +5,7 @@ use Rattle.stack_base.specs.declared.stack.Stack.{Stack}
 use Rattle.stack_base.specs.Tree.{tree, size}
 use Rattle.layout_model.specs.declared.piece.FirstRun.{FirstRun}
 use Rattle.layout_model.specs.Way.{FitsWay, place}
-use Rattle.layout_model.specs.Need.{needed, fragments_of}
+use Rattle.layout_model.specs.Need.{needed, fragments_in_run}
 use Rattle.layout_model.specs.Shown.{shown_sector}
 use Rattle.layout_model.specs.Plan.{frags}
 
@@ -22,8 +22,8 @@ pub record IsFirstRun (stack : Stack) (dev start len : ℕ) (to : FirstRun) : Ty
       → frags (tree stack dev) write offset start len
       ≡ frags (tree stack to.dev.0) write offset to.at to.len ++ frags (tree stack dev) write (offset + to.len) (start + to.len) (len - to.len)
   -- so many are they; where there is no rest, it has none
-  pub counts : fragments_of (tree stack dev) start len
-      ≡ fragments_of (tree stack to.dev.0) to.at to.len + fragments_of (tree stack dev) (start + to.len) (len - to.len)
+  pub counts : fragments_in_run (tree stack dev) start len
+      ≡ fragments_in_run (tree stack to.dev.0) to.at to.len + fragments_in_run (tree stack dev) (start + to.len) (len - to.len)
   -- the run needs what the piece needs, and where there is a rest, a bio for the piece and what the rest needs
   pub alone : to.len ≡ len → needed (tree stack dev) start len ≡ needed (tree stack to.dev.0) to.at to.len
   pub more : to.len < len

@@ -36,7 +36,7 @@ frags (Mirrored number sizes members) write offset r len =
 mutual
   pub data Plan : Type 0 where
     -- one fragment
-    Whole : (fragment : Fragment) → Plan
+    OneFragment : (fragment : Fragment) → Plan
     -- a run that a device cuts, by its pieces in order
     Pieces : (number : ℕ) → Plans → Plan
     -- a run that a mirror copies, by its legs in order
@@ -46,22 +46,23 @@ mutual
     none : Plans
     also : Plan → Plans → Plans
 
-unfoldable pub each : {X : Type 0} → (X → Plan) → List X → Plans
-each f [] = none
-each f (x ∷ xs) = also (f x) (each f xs)
+unfoldable pub plans_of : {X : Type 0} → (X → Plan) → List X → Plans
+plans_of f [] = none
+plans_of f (x ∷ xs) = also (f x) (plans_of f xs)
 
+-- how the run of len sectors from r on, which stands so far behind the write's first sector, is cut and copied down to the disks
 unfoldable pub plan : Tree → ℕ → ℕ → ℕ → ℕ → Plan
 plan (Leaf number sectors) write offset r len =
-    Whole (record { write = write; offset = offset; len = len; disk = record { 0 = number }; at = r })
+    OneFragment (record { write = write; offset = offset; len = len; disk = record { 0 = number }; at = r })
 plan (Split number kind sizes members) write offset r len =
-    Pieces number (each (λ p. plan (members (slot kind sizes p.start).member) write p.offset (slot kind sizes p.start).at p.len) (cuts (next kind sizes) offset r len))
+    Pieces number (plans_of (λ p. plan (members (slot kind sizes p.start).member) write p.offset (slot kind sizes p.start).at p.len) (cuts (next kind sizes) offset r len))
 plan (Mirrored number sizes members) write offset r len =
-    Legs number (each (λ k. plan (members k) write offset r len) (range_with_len 0 (length sizes)))
+    Legs number (plans_of (λ k. plan (members k) write offset r len) (range_with_len 0 (length sizes)))
 
 -- the fragments of a plan, in order, and the elements that it takes besides its run's own bio
 unfoldable mutual
   pub leaves : Plan → List Fragment
-  leaves (Whole fragment) = fragment ∷ []
+  leaves (OneFragment fragment) = fragment ∷ []
   leaves (Pieces number plans) = all_leaves plans
   leaves (Legs number plans) = all_leaves plans
 
@@ -71,7 +72,7 @@ unfoldable mutual
 
 unfoldable mutual
   pub takes : Plan → ℕ
-  takes (Whole fragment) = 0
+  takes (OneFragment fragment) = 0
   takes (Pieces number plans) = all_takes plans + (count_of plans - 1)
   takes (Legs number plans) = 1 + count_of plans + all_takes plans
 

@@ -2,7 +2,7 @@
 ghost use Rattle.std.specs.Prelude.{◌≡◌, ◌+◌, ◌<◌, ◌≤◌, length, slice_get};
 ghost use Rattle.stack_base.specs.Stack.{IsStack};
 ghost use Rattle.stack_base.specs.Tree.{Copies, Cuts, shape_of, size, tree};
-ghost use Rattle.layout_model.specs.Need.{fragments_of, needed};
+ghost use Rattle.layout_model.specs.Need.{fragments_in_run, needed};
 ghost use Rattle.layout_model.specs.NeedCounts.{IsNeeds};
 ghost use Rattle.layout_model.specs.Pieces.{IsFirstRun};
 ghost use Rattle.layout_model.specs.Writes.{IsWrite};
@@ -63,7 +63,7 @@ fn count(stack: &Stack, dev: DevId, start: u64, len: u64) -> Counts
     requires some { 1 ≤ len }
     requires within { start + len ≤ size (tree stack.now dev.0) }
     ensures needed { result.needed ≡ needed (tree stack.now dev.0) start len }
-    ensures fragments { result.fragments ≡ fragments_of (tree stack.now dev.0) start len }
+    ensures fragments { result.fragments ≡ fragments_in_run (tree stack.now dev.0) start len }
 {
     let device = stack.device(dev);
     match device.kind {
@@ -86,7 +86,7 @@ fn count_pieces(stack: &Stack, device: &Device, dev: DevId, start: u64, len: u64
     requires some { 1 ≤ len }
     requires within { start + len ≤ size (tree stack.now dev.0) }
     ensures needed { result.needed ≡ needed (tree stack.now dev.0) start len }
-    ensures fragments { result.fragments ≡ fragments_of (tree stack.now dev.0) start len }
+    ensures fragments { result.fragments ≡ fragments_in_run (tree stack.now dev.0) start len }
 {
     let first = first_piece(stack, device, dev, start, len);
     // Most runs are one piece at most devices: they need what this piece needs, and the way down a chain leaves nothing behind.
@@ -115,7 +115,7 @@ fn count_split(
     requires first { IsFirstRun stack.now dev.0 start len first }
     requires split { first.len < len }
     ensures needed { result.needed ≡ needed (tree stack.now dev.0) start len }
-    ensures fragments { result.fragments ≡ fragments_of (tree stack.now dev.0) start len }
+    ensures fragments { result.fragments ≡ fragments_in_run (tree stack.now dev.0) start len }
 {
     let mut piece = first;
     let mut needed = 0;
@@ -145,7 +145,7 @@ fn count_legs(stack: &Stack, dev: DevId, start: u64, len: u64) -> Counts
     requires some { 1 ≤ len }
     requires within { start + len ≤ size (tree stack.now dev.0) }
     ensures needed { result.needed ≡ needed (tree stack.now dev.0) start len }
-    ensures fragments { result.fragments ≡ fragments_of (tree stack.now dev.0) start len }
+    ensures fragments { result.fragments ≡ fragments_in_run (tree stack.now dev.0) start len }
 {
     let device = stack.device(dev);
     let mut needed = 1 + device.members.len() as u64;

@@ -4,7 +4,7 @@ ghost use Rattle.stack_base.specs.Stack.{IsStack};
 ghost use Rattle.stack_base.specs.Tree.{tree, size, shape_of, Cuts, Copies};
 ghost use Rattle.layout_model.specs.Writes.{IsWrite};
 ghost use Rattle.layout_model.specs.Plan.{frags};
-ghost use Rattle.layout_model.specs.Fragments.{AreFragments, rank};
+ghost use Rattle.layout_model.specs.Fragments.{AreFragments, fragment_order};
 
 use crate::Write;
 use crate::piece::first_piece;
@@ -14,7 +14,7 @@ use std::alloc::{AllocError, Global};
 /// A part of a write that comes to a disk as one bio. Places and lengths count sectors.
 ///
 /// By its definition it is an interval, with a law that no sector is left out, so that a class of sectors that were none could not go unseen. Its
-/// rank, by which fragments are sorted, is one number: its offset times 2^32 and its disk.
+/// order, by which fragments are sorted, is one number: its offset times 2^32 and its disk.
 #[derive(Clone, Copy, Debug, PartialEq, Eq)]
 pub struct Fragment {
     /// The number of the write.
@@ -137,8 +137,8 @@ fn copy_legs(
 }
 
 // Fragments stand by their offsets, and by their disks where these are the same.
-fn rank(fragment: &Fragment) -> u128
-    ensures { result ≡ rank fragment.now }
+fn fragment_order(fragment: &Fragment) -> u128
+    ensures { result ≡ fragment_order fragment.now }
 {
     let disk = fragment.disk.0;
     u128::from(fragment.offset) * (1 << 32) + u128::from(disk)
@@ -168,6 +168,6 @@ pub fn fragments(
         len: write.count,
     };
     cut(stack, number, write.dev, run, &mut found)?;
-    found.sort_by_key(|fragment| rank(fragment))?;
+    found.sort_by_key(|fragment| fragment_order(fragment))?;
     Ok(found)
 }

@@ -11,7 +11,7 @@ use Rattle.layout_model.specs.declared.write.Write.{Write}
 use Rattle.layout_model.specs.declared.counts.Needs.{Needs}
 use Rattle.layout_model.specs.declared.totals.Bounds.{Bounds}
 use Rattle.layout_model.specs.Need.{needed, vectors}
-use Rattle.layout_model.specs.NeedCounts.{IsNeeds, elements, parts}
+use Rattle.layout_model.specs.NeedCounts.{IsNeeds, elements, write_fragments}
 use Rattle.layout_model.specs.Bound.{IsBound, most_elements, all_elements}
 use Rattle.layout_model.specs.Writes.{IsWrite}
 use Rattle.layout_model.proofs.WriteSizes.{parts_le_elements}
@@ -172,7 +172,7 @@ pub bound_more : (stack : Stack) → IsStack stack → (writes : List Write) (z 
     → IsBound stack (writes ++ write ∷ []) z (record { e = bound.e + needs.elements; g = bound.g + needs.fragments; z = bound.z })
 bound_more stack good writes z bound write needs so_far need is allowed =
     let more = sum_by_push (λ (w : Write). elements stack w) writes write in
-    let more_parts = sum_by_push (λ (w : Write). parts stack w) writes write in
+    let more_parts = sum_by_push (λ (w : Write). write_fragments stack w) writes write in
     let fewer = parts_le_elements stack good write is in
     record {
       allowed = omega (arith, so_far.elements, need.elements);

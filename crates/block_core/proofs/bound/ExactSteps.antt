@@ -8,9 +8,9 @@ use Rattle.elem_ledger.specs.Ledger.{LedgerId}
 use Rattle.stack_base.specs.Tree.{tree}
 use Rattle.layout_model.specs.declared.write.Write.{Write}
 use Rattle.layout_model.specs.declared.fragment.Fragment.{Fragment}
-use Rattle.layout_model.specs.Bound.{all_elements, all_parts}
+use Rattle.layout_model.specs.Bound.{all_elements, all_fragments}
 use Rattle.layout_model.specs.Need.{needed, vectors}
-use Rattle.layout_model.specs.NeedCounts.{elements as elements_of, nodes, parts}
+use Rattle.layout_model.specs.NeedCounts.{elements as elements_of, nodes, write_fragments}
 use Rattle.layout_model.specs.Plan.{frags}
 use Rattle.layout_model.specs.Writes.{IsWrite}
 use Rattle.layout_model.proofs.CountFrags.{fragments_of_is_length}
@@ -115,7 +115,7 @@ kinds (Resizes pool min later ∷ ds) = omega (arith, kinds ds)
 module _ (s : Scenario) (good : IsScenario s) (ledger : ℕ → LedgerId) where
   -- what a write is due, by what it needs
   abbrev write_parts : Write → ℕ
-  write_parts write = 4 + 2 * vectors write.count + 4 * needed (tree s.stack write.dev.0) write.start write.count + 3 * parts s.stack write
+  write_parts write = 4 + 2 * vectors write.count + 4 * needed (tree s.stack write.dev.0) write.start write.count + 3 * write_fragments s.stack write
 
   todo_is : (todo : Todo) → IsWrite s.stack todo.write → write_due (setup_in s) todo ≡ write_parts todo.write
   todo_is todo is =
@@ -145,7 +145,7 @@ module _ (s : Scenario) (good : IsScenario s) (ledger : ℕ → LedgerId) where
       )
 
   table : (ws : List Write) → sum_by write_parts ws
-      ≡ all_elements s.stack ws + all_nodes s.stack ws + 2 * all_parts s.stack ws + (all_parts s.stack ws + all_below s.stack ws) + all_elements s.stack ws + length ws
+      ≡ all_elements s.stack ws + all_nodes s.stack ws + 2 * all_fragments s.stack ws + (all_fragments s.stack ws + all_below s.stack ws) + all_elements s.stack ws + length ws
   table [] = refl
   table (w ∷ ws) =
       omega (
@@ -153,7 +153,7 @@ module _ (s : Scenario) (good : IsScenario s) (ledger : ℕ → LedgerId) where
         sum_by-cons write_parts w ws,
         sum_by-cons (λ write. elements_of s.stack write) w ws,
         sum_by-cons (λ write. nodes s.stack write) w ws,
-        sum_by-cons (λ write. parts s.stack write) w ws,
+        sum_by-cons (λ write. write_fragments s.stack write) w ws,
         sum_by-cons (λ (write : Write). needed (tree s.stack write.dev.0) write.start write.count) w ws,
         table ws,
       )

@@ -8,9 +8,9 @@ use Rattle.stack_base.specs.declared.stack.Stack.{Stack}
 use Rattle.stack_base.specs.Mapping.{slot, head}
 use Rattle.stack_base.specs.Tree.{Tree, Leaf, Split, Mirrored, tree}
 use Rattle.layout_model.specs.declared.write.Write.{Write}
-use Rattle.layout_model.specs.Bound.{all_elements, all_parts}
-use Rattle.layout_model.specs.Need.{begun, needed, ended, fragments_of, vectors}
-use Rattle.layout_model.specs.NeedCounts.{elements, parts}
+use Rattle.layout_model.specs.Bound.{all_elements, all_fragments}
+use Rattle.layout_model.specs.Need.{elements_begun, needed, fragments_begun, fragments_in_run, vectors}
+use Rattle.layout_model.specs.NeedCounts.{elements, write_fragments}
 use Rattle.layout_model.proofs.RangeSums.{sum_next}
 use Rattle.run_machine.specs.Opened.{Scenario, Change, round_count}
 use Rattle.run_machine.specs.Tasks.{needs_vector}
@@ -49,8 +49,8 @@ module _ (price : Paid → ℕ) where
 
   -- what begins at a sector
   begun_counts : (t : Tree) (r s : ℕ)
-      → begun_charge price t r s ≡ cost price Record * records_begun t r s + cost price PieceBio * pieces_begun t r s + cost price Fragment * ended t r s
-  unfolding begun_charge records_begun pieces_begun ended
+      → begun_charge price t r s ≡ cost price Record * records_begun t r s + cost price PieceBio * pieces_begun t r s + cost price Fragment * fragments_begun t r s
+  unfolding begun_charge records_begun pieces_begun fragments_begun
   begun_counts (Leaf number sectors) r s = omega (arith, times_choice (cost price Fragment) (r == s))
   begun_counts (Split number kind sizes members) r s =
       let start = (slot kind sizes (head kind sizes r s)).at in
@@ -70,14 +70,14 @@ module _ (price : Paid → ℕ) where
         mul-add (cost price Record) (cond (r == s) 1 0) (sum_by (λ k. records_begun (members k) r s) legs),
         mul-add (cost price PieceBio) (cond (r == s) (length sizes) 0) (sum_by (λ k. pieces_begun (members k) r s) legs),
         three_sums (cost price Record) (cost price PieceBio) (cost price Fragment) (λ k. begun_charge price (members k) r s) (λ k. records_begun (members k) r s)
-            (λ k. pieces_begun (members k) r s) (λ k. ended (members k) r s) legs (λ k. begun_counts (members k) r s),
+            (λ k. pieces_begun (members k) r s) (λ k. fragments_begun (members k) r s) legs (λ k. begun_counts (members k) r s),
       )
 
   run_counts : (t : Tree) (r len : ℕ)
-      → run_charge price t r len ≡ cost price Record * record_count t r len + cost price PieceBio * piece_count t r len + cost price Fragment * fragments_of t r len
-  unfolding run_charge record_count piece_count fragments_of
+      → run_charge price t r len ≡ cost price Record * record_count t r len + cost price PieceBio * piece_count t r len + cost price Fragment * fragments_in_run t r len
+  unfolding run_charge record_count piece_count fragments_in_run
   run_counts t r len =
-      three_sums (cost price Record) (cost price PieceBio) (cost price Fragment) (begun_charge price t r) (records_begun t r) (pieces_begun t r) (ended t r)
+      three_sums (cost price Record) (cost price PieceBio) (cost price Fragment) (begun_charge price t r) (records_begun t r) (pieces_begun t r) (fragments_begun t r)
       (range_with_len r len) (λ s. begun_counts t r s)
 
   vector_counts : (write : Write) → vector_charge price write ≡ cost price WriteVector * vectors write.count
@@ -87,7 +87,7 @@ module _ (price : Paid → ℕ) where
       ≡ cost price WriteBio * length ws + cost price WriteVector * sum_by (λ (write : Write). vectors write.count) ws
       + cost price Record * sum_by (λ (write : Write). record_count (tree stack write.dev.0) write.start write.count) ws
       + cost price PieceBio * sum_by (λ (write : Write). piece_count (tree stack write.dev.0) write.start write.count) ws
-      + cost price Fragment * all_parts stack ws
+      + cost price Fragment * all_fragments stack ws
   writes_count stack [] = omega arith
   writes_count stack (w ∷ ws) =
       let more : cost price WriteBio * length (w ∷ ws) ≡ cost price WriteBio + cost price WriteBio * length ws = omega (arith, mul-add (cost price WriteBio) 1 (length ws)) in
@@ -100,7 +100,7 @@ module _ (price : Paid → ℕ) where
         times_list (cost price WriteVector) (λ (write : Write). vectors write.count) w ws,
         times_list (cost price Record) (λ (write : Write). record_count (tree stack write.dev.0) write.start write.count) w ws,
         times_list (cost price PieceBio) (λ (write : Write). piece_count (tree stack write.dev.0) write.start write.count) w ws,
-        times_list (cost price Fragment) (λ write. parts stack write) w ws,
+        times_list (cost price Fragment) (λ write. write_fragments stack write) w ws,
         writes_count stack ws,
       )
 
@@ -118,8 +118,8 @@ pieces_choice : (b : Bool) (n : ℕ) → cond b (1 + n) 0 ≡ cond b 1 0 + cond 
 pieces_choice true n = omega arith
 pieces_choice false n = omega arith
 
-begun_both : (t : Tree) (r s : ℕ) → begun t r s ≡ records_begun t r s + pieces_begun t r s
-unfolding begun records_begun pieces_begun
+begun_both : (t : Tree) (r s : ℕ) → elements_begun t r s ≡ records_begun t r s + pieces_begun t r s
+unfolding elements_begun records_begun pieces_begun
 begun_both (Leaf number sectors) r s = refl
 begun_both (Split number kind sizes members) r s =
     omega (arith, begun_both (members (slot kind sizes s).member) (slot kind sizes (head kind sizes r s)).at (slot kind sizes s).at)
@@ -127,14 +127,14 @@ begun_both (Mirrored number sizes members) r s =
     omega (
       arith,
       pieces_choice (r == s) (length sizes),
-      three_sums 1 1 0 (λ k. begun (members k) r s) (λ k. records_begun (members k) r s) (λ k. pieces_begun (members k) r s) (λ k. 0) (range_with_len 0 (length sizes))
+      three_sums 1 1 0 (λ k. elements_begun (members k) r s) (λ k. records_begun (members k) r s) (λ k. pieces_begun (members k) r s) (λ k. 0) (range_with_len 0 (length sizes))
           (λ k. omega (arith, begun_both (members k) r s)),
     )
 
 needed_both : (t : Tree) (r len : ℕ) → needed t r len ≡ record_count t r len + piece_count t r len
 unfolding needed record_count piece_count
 needed_both t r len =
-    omega (arith, three_sums 1 1 0 (begun t r) (records_begun t r) (pieces_begun t r) (λ s. 0) (range_with_len r len) (λ s. omega (arith, begun_both t r s)))
+    omega (arith, three_sums 1 1 0 (elements_begun t r) (records_begun t r) (pieces_begun t r) (λ s. 0) (range_with_len r len) (λ s. omega (arith, begun_both t r s)))
 
 elements_count : (stack : Stack) (ws : List Write)
     → length ws + sum_by (λ (write : Write). vectors write.count) ws + sum_by (λ (write : Write). record_count (tree stack write.dev.0) write.start write.count) ws

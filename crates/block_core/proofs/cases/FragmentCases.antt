@@ -11,7 +11,7 @@ use Rattle.block_core.specs.Images.{held_after}
 use Rattle.elem_ledger.specs.Ledger.{LedgerId}
 use Rattle.layout_model.specs.declared.fragment.Fragment.{Fragment}
 use Rattle.layout_model.specs.May.{bads_of}
-use Rattle.layout_model.specs.Plan.{each, plan, leaves}
+use Rattle.layout_model.specs.Plan.{plans_of, plan, leaves}
 use Rattle.run_machine.specs.Maps.{upd}
 use Rattle.run_machine.specs.Scene.{Scene}
 use Rattle.run_machine.specs.Runs.{State}
@@ -26,7 +26,7 @@ on disk = record { write = 0; offset = 0; len = 1; disk = record { 0 = disk }; a
 
 -- one on each disk
 of_the_write : todo_fragments (setup true) todo ≡ on 0 ∷ on 1 ∷ []
-unfolding each plan leaves
+unfolding plans_of plan leaves
 of_the_write = refl
 
 -- each of them once
@@ -43,11 +43,11 @@ module _ (some : LedgerId) where
 
   -- both are to come all the time, in the writer's hand, in its submission, and then the first in the submission and the second in the legs that are left
   both_to_come : left (λ f. 1) start (begun some) ≡ 2 ∷ 2 ∷ 2 ∷ 2 ∷ 2 ∷ 2 ∷ 2 ∷ []
-  unfolding sum_at upd each plan leaves
+  unfolding sum_at upd plans_of plan leaves
   both_to_come = refl
 
   second_to_come : left (is_it (on 1)) start (begun some) ≡ 1 ∷ 1 ∷ 1 ∷ 1 ∷ 1 ∷ 1 ∷ 1 ∷ []
-  unfolding sum_at upd each plan leaves
+  unfolding sum_at upd plans_of plan leaves
   second_to_come = refl
 
 -- a disk of which sector 5 is bad, and three writes to it of two sectors each, of which two follow at a sector's distance

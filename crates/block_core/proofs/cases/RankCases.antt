@@ -7,7 +7,7 @@ use Rattle.run_machine.specs.Runs.{State}
 use Rattle.run_machine.proofs.Turns.{Turn, behind}
 use Rattle.run_machine.proofs.cases.MirrorRun.{setup, mirror, start, ledger, begun}
 use Rattle.block_core.specs.Weights.{sum_at, one_if_same}
-use Rattle.layout_model.specs.Need.{begun as begun_below, needed, ended, fragments_of, vectors}
+use Rattle.layout_model.specs.Need.{elements_begun as begun_below, needed, fragments_begun, fragments_in_run, vectors}
 use Rattle.run_machine.specs.Tasks.{Resizes, Starts}
 use Rattle.stack_base.specs.declared.ids.PoolId.TheVariants.{FsBios}
 use Rattle.block_core.specs.Exact.{starts_round}
@@ -44,8 +44,8 @@ of_a_write : length (pays_for WriteBio) + length (pays_for WriteVector) ≡ 7
 of_a_write = refl
 
 -- Without misses: four elements are taken and given back and linked, two fragments pushed and completed, five ends told, and the write is done.
-without_misses : 4 + 2 * vectors 1 + 4 * needed mirror 0 1 + 3 * fragments_of mirror 0 1 ≡ 4 + 4 + 2 * 2 + (2 + 3) + 4 + 1
-unfolding begun_below needed ended fragments_of
+without_misses : 4 + 2 * vectors 1 + 4 * needed mirror 0 1 + 3 * fragments_in_run mirror 0 1 ≡ 4 + 4 + 2 * 2 + (2 + 3) + 4 + 1
+unfolding begun_below needed fragments_begun fragments_in_run
 without_misses = refl
 
 -- 200 writes through stripes, limits and a mirror: 1,874 elements, of which 120 are vectors, and 1,354 fragments

@@ -5,7 +5,7 @@ use Rattle.stack_base.specs.declared.ids.Status.{Status}
 use Rattle.stack_base.specs.declared.ids.Status.TheVariants.{Ok, Io, Medium, NoSpace}
 use Rattle.layout_model.specs.declared.fragment.Fragment.{Fragment}
 use Rattle.layout_model.specs.May.{may_end, some_may_end}
-use Rattle.layout_model.specs.Plan.{each, plan}
+use Rattle.layout_model.specs.Plan.{plans_of, plan}
 use Rattle.run_machine.specs.declared.event.How.TheVariants as how
 use Rattle.run_machine.specs.declared.event.What.TheVariants as what
 use Rattle.run_machine.specs.Maps.{upd}
@@ -29,11 +29,11 @@ all = Ok ∷ Io ∷ Medium ∷ NoSpace ∷ []
 
 -- well where the second disk is, and else with an error of no kind
 where_one_is_well : map (todo_may (setup true) (ends Ok) todo) all ≡ 1 ∷ 0 ∷ 0 ∷ 0 ∷ []
-unfolding each plan may_end some_may_end
+unfolding plans_of plan may_end some_may_end
 where_one_is_well = refl
 
 where_none_is_well : map (todo_may (setup true) (ends NoSpace) todo) all ≡ 0 ∷ 1 ∷ 0 ∷ 0 ∷ []
-unfolding each plan may_end some_may_end
+unfolding plans_of plan may_end some_may_end
 where_none_is_well = refl
 
 -- the run of a master of that write's bio, where the second disk ends so
@@ -42,20 +42,20 @@ OfBio second end = BioMayEnd (setup true) (ends second) (first_bio 0 todo 0) end
 
 -- it may be marked where one disk is well, and is decided then; with both bad it may not
 may_mark : IsAllowed true (OfBio Ok) Ok
-unfolding each plan may_end some_may_end
+unfolding plans_of plan may_end some_may_end
 may_mark = λ same. refl
 
 is_marked : Decides true (OfBio Ok)
-unfolding each plan may_end some_may_end
+unfolding plans_of plan may_end some_may_end
 is_marked = refl
 
 no_mark : IsAllowed true (OfBio NoSpace) Ok → ⊥
-unfolding each plan may_end some_may_end
+unfolding plans_of plan may_end some_may_end
 no_mark allowed = let well = allowed refl in absurd cc
 
 -- and a node that is no master keeps no failure with which the run cannot end
 no_failure : IsAllowed false (OfBio Ok) Medium → ⊥
-unfolding each plan may_end some_may_end
+unfolding plans_of plan may_end some_may_end
 no_failure allowed = let fails = allowed (λ same. absurd cc) in absurd cc
 
 -- the marks of the top node, of the master and of the first leg
@@ -81,29 +81,29 @@ module _ (some : LedgerId) where
 
   -- no end comes where it must not, behind each event
   well_fits : fits Ok Ok ≡ 0 ∷ 0 ∷ 0 ∷ 0 ∷ 0 ∷ 0 ∷ 0 ∷ []
-  unfolding sum_at one_if_same upd each plan may_end some_may_end
+  unfolding sum_at one_if_same upd plans_of plan may_end some_may_end
   well_fits = refl
 
   medium_fits : fits Ok Medium ≡ 0 ∷ 0 ∷ 0 ∷ 0 ∷ 0 ∷ 0 ∷ 0 ∷ []
-  unfolding sum_at one_if_same upd each plan may_end some_may_end
+  unfolding sum_at one_if_same upd plans_of plan may_end some_may_end
   medium_fits = refl
 
   -- the second leg will mark the master, once this is there, and nothing makes the top node fail
   master_is_marked : decide Ok true 1 ≡ 0 ∷ 0 ∷ 0 ∷ 0 ∷ 1 ∷ 1 ∷ 1 ∷ []
-  unfolding sum_at one_if_same upd each plan may_end some_may_end
+  unfolding sum_at one_if_same upd plans_of plan may_end some_may_end
   master_is_marked = refl
 
   top_is_well : decide Ok false 0 ≡ 0 ∷ 0 ∷ 0 ∷ 0 ∷ 0 ∷ 0 ∷ 0 ∷ []
-  unfolding sum_at one_if_same upd each plan may_end some_may_end
+  unfolding sum_at one_if_same upd plans_of plan may_end some_may_end
   top_is_well = refl
 
   -- with both disks bad no leg will, and the top node is told of a failure, by its bio and then by the master
   master_is_not : decide NoSpace true 1 ≡ 0 ∷ 0 ∷ 0 ∷ 0 ∷ 0 ∷ 0 ∷ 0 ∷ []
-  unfolding sum_at one_if_same upd each plan may_end some_may_end
+  unfolding sum_at one_if_same upd plans_of plan may_end some_may_end
   master_is_not = refl
 
   top_fails : decide NoSpace false 0 ≡ 0 ∷ 0 ∷ 1 ∷ 1 ∷ 1 ∷ 1 ∷ 1 ∷ []
-  unfolding sum_at one_if_same upd each plan may_end some_may_end
+  unfolding sum_at one_if_same upd plans_of plan may_end some_may_end
   top_fails = refl
 
 -- the writer opens the top node for the bio of the whole write

@@ -10,7 +10,7 @@ use Rattle.stack_base.specs.declared.stack.Stack.{Stack}
 use Rattle.stack_base.specs.Stack.{IsStack}
 use Rattle.stack_base.specs.Tree.{tree}
 use Rattle.layout_model.specs.declared.write.Write.{Write}
-use Rattle.layout_model.specs.NeedCounts.{elements, parts}
+use Rattle.layout_model.specs.NeedCounts.{elements, write_fragments}
 use Rattle.layout_model.specs.Writes.{IsWrite}
 use Rattle.layout_model.proofs.AtMost.{fragments_le_needed}
 use Rattle.layout_model.proofs.PlanLaws.{trees_are_sound}
@@ -94,7 +94,7 @@ accepted_texts_are_runnable accepted work read =
     )
 
 -- a write has no more fragments than it needs elements
-parts_few : (stack : Stack) → IsStack stack → (write : Write) → IsWrite stack write → parts stack write ≤ elements stack write
+parts_few : (stack : Stack) → IsStack stack → (write : Write) → IsWrite stack write → write_fragments stack write ≤ elements stack write
 parts_few stack good write is =
     let t = tree stack write.dev.0 in
     let known = is.known in
@@ -106,4 +106,4 @@ steps_fit_in_24_bits s runnable =
     let good = runnable.scenario in
     let allowed = runnable.allowed in
     let few = runnable.few in
-    omega (arith, allowed, few, all_le (IsWrite s.stack) (parts s.stack) (elements s.stack) s.writes (parts_few s.stack good.stack) good.writes)
+    omega (arith, allowed, few, all_le (IsWrite s.stack) (write_fragments s.stack) (elements s.stack) s.writes (parts_few s.stack good.stack) good.writes)

@@ -25,7 +25,7 @@ use Rattle.stack_base.specs.Tree.{Shape, Keeps as KeeperManned, Cuts, Copies as 
 use Rattle.stack_base.proofs.KindCuts.{kind_cuts}
 use Rattle.stack_base.proofs.Pieces.{is_piece}
 use Rattle.layout_model.specs.Pieces.{IsFirstRun}
-use Rattle.layout_model.specs.Need.{needed, fragments_of}
+use Rattle.layout_model.specs.Need.{needed, fragments_in_run}
 use Rattle.layout_model.proofs.Over.{can_cut}
 use Rattle.layout_model.proofs.ByShape.{cuts_is, copies_is, keeps_is, member_is}
 use Rattle.layout_model.proofs.FirstRuns.{member_there, first_run_is}
@@ -201,7 +201,7 @@ module _ (stack : Stack) (good : IsStack stack) (places : ℕ → ℕ) where
 
   -- how many fragments a bio has
   abbrev pub parts : Bio → ℕ
-  parts bio = fragments_of (tree stack bio.dev.0) bio.range.start bio.range.len
+  parts bio = fragments_in_run (tree stack bio.dev.0) bio.range.start bio.range.len
 
   pub lands_needs : (bio : Bio) → IsThere setup bio → needs (landed (tree_at setup bio.dev) bio) ≡ needs bio
   lands_needs bio there = (falls needs whole_needs (bio.dev.0 + 1) bio (omega arith) there).same
@@ -244,7 +244,7 @@ module _ (stack : Stack) (good : IsStack stack) (places : ℕ → ℕ) where
           let wide : size (tree stack child.dev.0) ≡ size (tree stack to.dev.0) = ap (λ n. size (tree stack n)) dev in
           let known = run.known in
           let same : needs child ≡ needed (tree stack to.dev.0) first.at first.len = ap (λ n. needed (tree stack n) first.at first.len) dev in
-          let same_parts : parts child ≡ fragments_of (tree stack to.dev.0) first.at first.len = ap (λ n. fragments_of (tree stack n) first.at first.len) dev in
+          let same_parts : parts child ≡ fragments_in_run (tree stack to.dev.0) first.at first.len = ap (λ n. fragments_in_run (tree stack n) first.at first.len) dev in
           record {
             piece_there = record { device = omega arith; some = run.some; within = omega arith };
             low = omega arith;

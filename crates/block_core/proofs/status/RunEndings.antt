@@ -17,7 +17,7 @@ use Rattle.stack_base.specs.Tree.{Tree, Leaf, Split, Mirrored, Cuts, shape_of, t
 use Rattle.stack_base.proofs.KindCuts.{kind_cuts}
 use Rattle.layout_model.specs.declared.fragment.Fragment.{Fragment}
 use Rattle.layout_model.specs.May.{may_end, each_may_end, some_may_end}
-use Rattle.layout_model.specs.Plan.{Plan, Plans, Whole, Pieces, Legs, none, also, each, plan}
+use Rattle.layout_model.specs.Plan.{Plan, Plans, OneFragment, Pieces, Legs, none, also, plans_of, plan}
 use Rattle.layout_model.proofs.Over.{can_cut}
 use Rattle.layout_model.proofs.ByShape.{cuts_is}
 use Rattle.layout_model.proofs.Planned.{piece_plans, pieces_are, piece_plans_first, piece_plans_one, legs_are, whole_is}
@@ -102,30 +102,30 @@ module _ (ends : Fragment → Status) where
       others status.Medium ne = or_both (may_end ends p status.Medium) (some_may_end ends rest status.Medium)
       others status.NoSpace ne = or_both (may_end ends p status.NoSpace) (some_may_end ends rest status.NoSpace)
 
-  some_each : (f : ℕ → Plan) (ks : List ℕ) (end : Status) → yes (some_may_end ends (each f ks) end) ≤ sum_by (λ k. may ends (f k) end) ks
-  unfolding some_may_end each
+  some_each : (f : ℕ → Plan) (ks : List ℕ) (end : Status) → yes (some_may_end ends (plans_of f ks) end) ≤ sum_by (λ k. may ends (f k) end) ks
+  unfolding some_may_end plans_of
   some_each f [] end = omega arith
   some_each f (k ∷ ks) end =
-      omega (arith, or_some (may_end ends (f k) end) (some_may_end ends (each f ks) end), sum_by-cons (λ k. may ends (f k) end) k ks, some_each f ks end)
+      omega (arith, or_some (may_end ends (f k) end) (some_may_end ends (plans_of f ks) end), sum_by-cons (λ k. may ends (f k) end) k ks, some_each f ks end)
 
-  each_some : (f : ℕ → Plan) (n a k : ℕ) (end : Status) → a ≤ k → k < a + n → may ends (f k) end ≤ yes (some_may_end ends (each f (range_with_len a n)) end)
-  unfolding some_may_end each
+  each_some : (f : ℕ → Plan) (n a k : ℕ) (end : Status) → a ≤ k → k < a + n → may ends (f k) end ≤ yes (some_may_end ends (plans_of f (range_with_len a n)) end)
+  unfolding some_may_end plans_of
   each_some f zero a k end ge lt = absurd (omega (arith, ge, lt))
   each_some f (suc n) a k end ge lt = by_place (same_or_not k a) (λ ne. each_some f n (a + 1) k end (omega (arith, ge, ne)) (omega (arith, lt)))
     where
-      by_place : (k ≡ a) ⊎ (k ≢ a) → ((k ≢ a) → may ends (f k) end ≤ yes (some_may_end ends (each f (range_with_len (a + 1) n)) end))
-          → may ends (f k) end ≤ yes (may_end ends (f a) end || some_may_end ends (each f (range_with_len (a + 1) n)) end)
-      by_place (inl e) later = omega (arith, ap (λ j. may ends (f j) end) e, (or_both (may_end ends (f a) end) (some_may_end ends (each f (range_with_len (a + 1) n)) end)).0)
-      by_place (inr ne) later = omega (arith, later ne, (or_both (may_end ends (f a) end) (some_may_end ends (each f (range_with_len (a + 1) n)) end)).1)
+      by_place : (k ≡ a) ⊎ (k ≢ a) → ((k ≢ a) → may ends (f k) end ≤ yes (some_may_end ends (plans_of f (range_with_len (a + 1) n)) end))
+          → may ends (f k) end ≤ yes (may_end ends (f a) end || some_may_end ends (plans_of f (range_with_len (a + 1) n)) end)
+      by_place (inl e) later = omega (arith, ap (λ j. may ends (f j) end) e, (or_both (may_end ends (f a) end) (some_may_end ends (plans_of f (range_with_len (a + 1) n)) end)).0)
+      by_place (inr ne) later = omega (arith, later ne, (or_both (may_end ends (f a) end) (some_may_end ends (plans_of f (range_with_len (a + 1) n)) end)).1)
 
-  legs_of_plan : (number : ℕ) (f : ℕ → Plan) (n : ℕ) → IsOfLegs (may ends (Legs number (each f (range_with_len 0 n)))) (λ k. may ends (f k)) n
+  legs_of_plan : (number : ℕ) (f : ℕ → Plan) (n : ℕ) → IsOfLegs (may ends (Legs number (plans_of f (range_with_len 0 n)))) (λ k. may ends (f k)) n
   unfolding may_end
   legs_of_plan number f n =
       let all : n - 0 ≡ n = omega arith in
       record {
         some = omega (arith, some_each f (range_with_len 0 n) status.Ok, ap (λ m. sum_by (λ k. may ends (f k) status.Ok) (range_with_len 0 m)) all);
         any = λ k lt. each_some f n 0 k status.Ok (omega arith) (omega (arith, lt));
-        failed = one_of_two (some_may_end ends (each f (range_with_len 0 n)) status.Ok);
+        failed = one_of_two (some_may_end ends (plans_of f (range_with_len 0 n)) status.Ok);
       }
 
   -- a run that may end well can end with nothing else
@@ -138,7 +138,7 @@ module _ (ends : Fragment → Status) where
       by_tests false true so well = omega arith
       by_tests false false so well = omega arith
 
-  whole_may : (f : Fragment) (end : Status) → may ends (Whole f) end ≡ yes (status_eq end (ends f))
+  whole_may : (f : Fragment) (end : Status) → may ends (OneFragment f) end ≡ yes (status_eq end (ends f))
   unfolding may_end
   whole_may f end = refl
 

@@ -13,7 +13,7 @@ use Rattle.decl_text.specs.Commands.{command_of}
 use Rattle.decl_text.specs.Items.{meaning}
 use Rattle.decl_text.specs.Known.{declared_pool as pool_at}
 use Rattle.decl_text.specs.Refusals.{refusal, first_found}
-use Rattle.layout_model.specs.Need.{needed, begun as begins}
+use Rattle.layout_model.specs.Need.{needed, elements_begun as begins}
 use Rattle.mempool_core.specs.Move.{takes_spare, misses, gives}
 use Rattle.bio_records.specs.declared.bio.Pad.{Pad}
 use Rattle.bio_records.specs.Items.{Item}

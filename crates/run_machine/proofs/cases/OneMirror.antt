@@ -12,7 +12,7 @@ use Rattle.stack_base.specs.declared.stack.Stack.{Stack}
 use Rattle.stack_base.specs.Tree.{Tree, Leaf, Mirrored, tree, tree_below, over_shape, member_at}
 use Rattle.layout_model.specs.declared.write.Write.{Write}
 use Rattle.layout_model.specs.May.{bads_of}
-use Rattle.layout_model.specs.Need.{needed, begun as begins}
+use Rattle.layout_model.specs.Need.{needed, elements_begun as begins}
 use Rattle.layout_model.specs.NeedCounts.{nodes as nodes_of}
 use Rattle.run_machine.specs.Scene.{Setup}
 use Rattle.run_machine.specs.Tasks.{Todo}

@@ -13,7 +13,7 @@ use Rattle.decl_text.specs.Items.{meaning}
 use Rattle.decl_text.specs.Known.{declared_pool as pool_at}
 use Rattle.decl_text.specs.Refusals.{refusal, first_found}
 use Rattle.layout_model.specs.declared.write.Write.{Write}
-use Rattle.layout_model.specs.Need.{needed, begun}
+use Rattle.layout_model.specs.Need.{needed, elements_begun}
 use Rattle.layout_model.specs.NeedCounts.{nodes}
 use Rattle.mempool_core.specs.Move.{takes_ordinary, gives}
 use Rattle.bio_records.specs.declared.bio.Pad.{Pad}
@@ -162,7 +162,7 @@ module _ (memory : Global) where
   scenario = record { stack = stack memory 64; scripts = scripts; writes = write ∷ []; rounds = 0 ∷ []; changes = [] }
 
   one_node : 1 ≡ nodes (stack memory 64) write
-  unfolding tree_below over_shape needed begun
+  unfolding tree_below over_shape needed elements_begun
   one_node = refl
 
   tasks_are : tasks ≡ texts.opened_tasks scenario
@@ -185,5 +185,5 @@ module _ (memory : Global) where
       begins.text_runs setup reserve tally scenario is_of_text tasks tasks_are (ledger some) (events some) (follow setup start (turns some)) (one_write_runs some)
 
   says : SaysScenario text scenario
-  unfolding refusal without_empty_end first_found command_of is_name number_of meaning pool_at over_shape needed begun
+  unfolding refusal without_empty_end first_found command_of is_name number_of meaning pool_at over_shape needed elements_begun
   says = says_of text scenario refl (refl, tt) refl

@@ -13,7 +13,7 @@ use Rattle.decl_text.specs.Items.{meaning}
 use Rattle.decl_text.specs.Known.{declared_pool as pool_at}
 use Rattle.decl_text.specs.Refusals.{refusal, first_found}
 use Rattle.layout_model.specs.declared.write.Write.{Write}
-use Rattle.layout_model.specs.Need.{needed, begun}
+use Rattle.layout_model.specs.Need.{needed, elements_begun}
 use Rattle.layout_model.specs.NeedCounts.{nodes as nodes_of}
 use Rattle.mempool_core.specs.Move.{takes_spare, gives, resizes}
 use Rattle.bio_records.specs.declared.bio.Pad.{Pad}
@@ -226,7 +226,7 @@ module _ (memory : Global) where
 
   places_if : (first second : Bool)
       → (if first then 1 else 0) + (if second then 1 else 0) ≡ sum_by (λ (todo : Todo). nodes_of (stack memory 8) todo.write) (among first second)
-  unfolding tree_below over_shape needed begun
+  unfolding tree_below over_shape needed elements_begun
   places_if true true = refl
   places_if true false = refl
   places_if false true = refl
@@ -260,5 +260,5 @@ module _ (memory : Global) where
   text_runs some = runs_as _ _ _ _ (events some) (follow setup start (turns some)) (scene_is some) start_is (rounds_run some)
 
   says : SaysScenario text scenario
-  unfolding refusal without_empty_end first_found command_of is_name number_of meaning pool_at over_shape needed begun
+  unfolding refusal without_empty_end first_found command_of is_name number_of meaning pool_at over_shape needed elements_begun
   says = says_of text scenario refl (refl, tt) refl

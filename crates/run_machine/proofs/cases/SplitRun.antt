@@ -21,7 +21,7 @@ use Rattle.decl_text.specs.Known.{declared_pool as pool_at}
 use Rattle.decl_text.specs.Refusals.{refusal, first_found}
 use Rattle.layout_model.specs.declared.write.Write.{Write}
 use Rattle.layout_model.specs.May.{bads_of}
-use Rattle.layout_model.specs.Need.{needed, begun}
+use Rattle.layout_model.specs.Need.{needed, elements_begun}
 use Rattle.layout_model.specs.NeedCounts.{nodes as nodes_of}
 use Rattle.mempool_core.specs.Move.{takes_spare, gives}
 use Rattle.bio_records.specs.declared.bio.Pad.{Pad}
@@ -305,7 +305,7 @@ module _ (memory : Global) where
   rescuer_is (suc (suc (suc (suc n)))) = refl
 
   three_nodes : 3 ≡ nodes_of stack write
-  unfolding tree_below over_shape size_of smallest needed begun head slot among next next_member
+  unfolding tree_below over_shape size_of smallest needed elements_begun head slot among next next_member
   three_nodes = refl
 
   bads_are : (dev : ℕ) → [] ≡ bads_of stack dev
@@ -349,5 +349,5 @@ module _ (memory : Global) where
       begins.text_runs setup reserve tally scenario is_of_text tasks tasks_are (ledger some) (events some) (follow setup start (turns some)) (split_runs some)
 
   says : SaysScenario text scenario
-  unfolding refusal without_empty_end first_found command_of is_name number_of meaning pool_at over_shape size_of smallest needed begun head slot among next next_member
+  unfolding refusal without_empty_end first_found command_of is_name number_of meaning pool_at over_shape size_of smallest needed elements_begun head slot among next next_member
   says = says_of text scenario refl (refl, (refl, (refl, (refl, tt)))) refl

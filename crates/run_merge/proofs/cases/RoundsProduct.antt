@@ -9,7 +9,7 @@ use Rattle.stack_base.specs.declared.ids.PoolId.TheVariants.{FsBios}
 use Rattle.stack_base.specs.declared.ids.SetId.TheVariants.{Fs}
 use Rattle.stack_base.specs.declared.ids.Status.TheVariants.{Ok}
 use Rattle.stack_base.specs.Tree.{tree_below, over_shape}
-use Rattle.layout_model.specs.Need.{needed, begun}
+use Rattle.layout_model.specs.Need.{needed, elements_begun}
 use Rattle.bio_books.specs.Drops as end
 use Rattle.bio_books.specs.Links.{Made}
 use Rattle.run_machine.specs.declared.event.Event.{Event}
@@ -115,7 +115,7 @@ module _ (memory : Global) (some : LedgerId) where
   module _ (last : State) where
     -- the others are none: the first take of a write stands before the start of its round,
     take_missed : IsProduct s (ledger some) (take_early some) last → ⊥
-    unfolding upd tree_below over_shape needed begun
+    unfolding upd tree_below over_shape needed elements_begun
     take_missed p = let come = p.takes (take some 0 ∷ written some 0 ++ done some 0 ∷ resize some ∷ []) (round some ∷ written some 1 ++ done some 1 ∷ []) (take some 1) refl in omega (arith, come)
 
     -- the start of a round before the end of a write of an earlier one,
@@ -128,7 +128,7 @@ module _ (memory : Global) (some : LedgerId) where
 
     -- or an entry answers another request.
     asked_missed : IsProduct s (ledger some) (other_asked some) last → ⊥
-    unfolding upd tree_below over_shape needed begun
+    unfolding upd tree_below over_shape needed elements_begun
     asked_missed p = absurd (let is = (p.tasks 0).0 in cc)
 
     -- So they are of no run.

@@ -5,7 +5,7 @@ use Rattle.std.proofs.lemmas.List.Sums.{sum_by_more_le}
 use Rattle.std.proofs.lemmas.Option.{slice_get-get_or, slice_get_within}
 use Rattle.stack_base.specs.declared.ids.DevId.{DevId}
 use Rattle.stack_base.specs.Tree.{size, tree}
-use Rattle.layout_model.specs.Need.{fragments_of, needed}
+use Rattle.layout_model.specs.Need.{fragments_in_run, needed}
 use Rattle.layout_model.proofs.CountSteps.{needed_step, fragments_step, fragments_none}
 use Rattle.layout_model.proofs.SmallCounts.{needed_small, fragments_small}
 use Rattle.layout_model.proofs.MirrorLemmas.{legs_needed, legs_count, leg_size, disk_needed, disk_count}
@@ -63,7 +63,7 @@ count_legs-overflow_add-fragments t c =
     let items = device.members.items in
     let place = c.loop-member.member-index in
     let inside : place < length items = omega (arith, ap length c.deref-member-items.ensures.0) in
-    let need_of = λ (m : DevId). fragments_of (tree c.args.stack.now m.0) c.args.start c.args.len in
+    let need_of = λ (m : DevId). fragments_in_run (tree c.args.stack.now m.0) c.args.start c.args.len in
     omega (
       arith,
       rw c.deref-member-items.ensures.0 at c.loop-member.invariant.fragments,
@@ -92,7 +92,7 @@ count_legs-returns-clause-fragments t c =
     let device = c.device-device.result.now in
     let found = c.device-device.ensures.found in
     let items = device.members.items in
-    let need_of = λ (m : DevId). fragments_of (tree c.args.stack.now m.0) c.args.start c.args.len in
+    let need_of = λ (m : DevId). fragments_in_run (tree c.args.stack.now m.0) c.args.start c.args.len in
     let all : take c.loop-member.member-index items ≡ items = take_all c.loop-member.member-index items (omega (arith, ap length c.deref-member-items.ensures.0)) in
     omega (
       arith,

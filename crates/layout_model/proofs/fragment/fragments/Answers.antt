@@ -2,7 +2,7 @@ use Rattle.std.proofs.Common.{rules, ◌++◌, ◌∙◌, subst, ap, arith}
 use Rattle.std.specs.List.Sorted.{IsPermutation}
 use Rattle.std.proofs.lemmas.List.Sorted.{IsNonDecreasingBy-from_sort_by_key}
 use Rattle.stack_base.specs.Tree.{tree}
-use Rattle.layout_model.specs.Fragments.{rank}
+use Rattle.layout_model.specs.Fragments.{fragment_order}
 use Rattle.layout_model.specs.Plan.{frags}
 use Rattle.layout_model.proofs.Stacks.{element, tree_fragments}
 use Rattle.layout_model.proofs.fragment.fragments.Goals as goal
@@ -20,4 +20,4 @@ returns c =
     tree_fragments c.args.stack.now c.requires.stack write.dev.0 c.requires.write.known c.args.number write.start write.count c.requires.write.some
     c.sort_by_key.new.self.items
     (subst (λ xs. IsPermutation xs c.sort_by_key.new.self.items) gathered c.in_ok-sort_by_key.ensures.permutation)
-    (IsNonDecreasingBy-from_sort_by_key rank _ c.in_ok-sort_by_key.ensures.sorted (λ a r q k. search rules))
+    (IsNonDecreasingBy-from_sort_by_key fragment_order _ c.in_ok-sort_by_key.ensures.sorted (λ a r q k. search rules))

@@ -2,7 +2,7 @@ use Rattle.std.proofs.Common.{◌<◌, length, get_or, arith}
 use Rattle.std.proofs.lemmas.List.Elements.{Contains-get_or}
 use Rattle.std.proofs.lemmas.List.Sums.{sum_by_more}
 use Rattle.layout_model.specs.declared.write.Write.{Write}
-use Rattle.layout_model.specs.NeedCounts.{elements, parts}
+use Rattle.layout_model.specs.NeedCounts.{elements, write_fragments}
 use Rattle.layout_model.specs.Writes.{IsWrite}
 use Rattle.layout_model.proofs.WriteSizes.{elements_small, parts_le_elements, no_write}
 use Rattle.layout_model.proofs.totals.bound.Goals as goal
@@ -45,7 +45,7 @@ loop-number-preserved c =
         arith,
         c.need-needs.ensures.fragments,
         c.loop-number.invariant.fragments,
-        sum_by_more (λ (w : Write). parts c.args.stack.now w) writes number no_write inside,
+        sum_by_more (λ (w : Write). write_fragments c.args.stack.now w) writes number no_write inside,
       );
       fewer = omega (
         arith,
