@@ -38,10 +38,11 @@ abbrev pub has_script : List Scripted → Option PoolId → Bool
 has_script scripts None = false
 has_script scripts (Some pool) = list_any (is_of_pool pool) scripts
 
--- the reserve of this pool from this round on
+-- a change of the reserve of this pool, from this round on
 abbrev pub is_resize_of : ℕ → PoolId → Change → Bool
 is_resize_of round pool change = (change.round == round) && (pool_number change.pool == pool_number pool)
 
+-- such a change is among these, where there is the pool
 abbrev pub has_resize : List Change → ℕ → Option PoolId → Bool
 has_resize resizes round None = false
 has_resize resizes round (Some pool) = list_any (is_resize_of round pool) resizes

@@ -24,7 +24,7 @@ HasReserves (what.Zoned chunk) reserve rescuer = IsReserve reserve
 HasReserves (what.Limit longest chunk) reserve rescuer = IsReserve reserve
 HasReserves (what.Mirror records) reserve rescuer = IsReserve records × IsReserve reserve
 
--- a device by itself
+-- a device of a stack with its name and its reserves as they may be
 pub record IsFitDevice (device : Declared) : Type 0 where
   pub named : IsTrue (is_name device.name)
   pub reserves : HasReserves device.what device.reserve device.rescuer

@@ -20,17 +20,19 @@ abbrev pub NonePass : {X : Type 0} → (X → Bool) → List X → Type 0
 NonePass p [] = Unit {0}
 NonePass p (x ∷ xs) = (p x ≡ false) × NonePass p xs
 
--- the lines before the first write or `sync` line
+-- a line of a write, or a `sync` line
 abbrev pub is_work_line : List ℕ → Bool
 is_work_line line = begins_work (words line)
 
+-- the lines before the first write or `sync` line
 abbrev pub declarations : List (List ℕ) → List (List ℕ)
 declarations all = before_first is_work_line all
 
--- these lines up to the first that is wrong by itself
+-- a line is wrong by itself, whatever stands before it
 abbrev pub is_wrong : List ℕ → Bool
 is_wrong line = is_some (first_found line_checks nothing line)
 
+-- these lines up to the first that is wrong by itself
 abbrev pub right_lines : List (List ℕ) → List (List ℕ)
 right_lines all = before_first is_wrong all
 

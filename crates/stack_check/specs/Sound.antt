@@ -24,7 +24,7 @@ abbrev pub records_of_what : What → ℕ
 records_of_what (what.Mirror records) = records
 records_of_what _ = 0
 
--- a device by itself
+-- what the checks of its own line leave of a declared device
 pub record IsFit (device : Declared) : Type 0 where
   pub named : IsTrue (is_name device.name)
   pub numbers : HasNumbers device.what
