@@ -2,7 +2,7 @@
 use Rattle.std.proofs.Common.{◌≡◌, ◌+◌, ◌==◌, if◌then◌else◌, not, ℕ, Bool, true, false, List, [], ◌∷◌, filter, Option, None, Some, refl, ap, ◌∙◌}
 use Rattle.std.specs.Option.{option_map, option_or}
 use Rattle.decl_text.specs.Items.{said}
-use Rattle.decl_text.specs.Known.{Known, after_line, nothing}
+use Rattle.decl_text.specs.Known.{Declarations, after_line, nothing}
 use Rattle.decl_text.specs.Reasons.{number_of_reason}
 use Rattle.decl_text.specs.Refusals.{Check, first_found, line_reason, refusal, refused, said_reason}
 use Rattle.decl_text.specs.Text.{words}
@@ -11,7 +11,7 @@ use Rattle.decl_text.proofs.Unrefused.{cond_none, line_passes, none_refused}
 use Rattle.work_text.specs.Work.{all_checks, checks_by}
 
 module _ (keeps : Check Item → Bool) where
-  kept_pass : (checks : List (Check Item)) (known : Known) (item : Item) → first_found checks known item ≡ None → first_found (filter keeps checks) known item ≡ None
+  kept_pass : (checks : List (Check Item)) (known : Declarations) (item : Item) → first_found checks known item ≡ None → first_found (filter keeps checks) known item ≡ None
   unfolding first_found
   kept_pass [] known item none = refl
   kept_pass (check ∷ checks) known item none =
@@ -23,11 +23,11 @@ module _ (keeps : Check Item → Bool) where
       by true right rest = ap (λ finds. if finds then Some check.reason else first_found (filter keeps checks) known item) right ∙ rest
       by false right rest = rest
 
-  said_pass : (checks : List (Check Item)) (known : Known) (o : Option Item) → said_reason checks known o ≡ None → said_reason (filter keeps checks) known o ≡ None
+  said_pass : (checks : List (Check Item)) (known : Declarations) (o : Option Item) → said_reason checks known o ≡ None → said_reason (filter keeps checks) known o ≡ None
   said_pass checks known None none = refl
   said_pass checks known (Some item) none = kept_pass checks known item none
 
-  lines_pass : (checks : List (Check Item)) (known : Known) (number : ℕ) (all : List (List ℕ)) → refusal checks known number all ≡ None
+  lines_pass : (checks : List (Check Item)) (known : Declarations) (number : ℕ) (all : List (List ℕ)) → refusal checks known number all ≡ None
       → refusal (filter keeps checks) known number all ≡ None
   unfolding refusal
   lines_pass checks known number [] none = refl

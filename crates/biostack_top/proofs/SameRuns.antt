@@ -10,8 +10,8 @@ use Rattle.stack_base.specs.Tree.{Tree, size, tree}
 use Rattle.layout_model.specs.Need.{needed}
 use Rattle.mempool_core.specs.Move.{opened}
 use Rattle.model_disks.specs.Moves as disk
-use Rattle.decl_text.specs.Accepting.{Means}
-use Rattle.decl_text.specs.Known.{Known}
+use Rattle.decl_text.specs.Accepting.{MeansStack}
+use Rattle.decl_text.specs.Known.{Declarations}
 use Rattle.run_machine.specs.declared.event.Event.{Event}
 use Rattle.run_machine.specs.Events.{pool_of}
 use Rattle.run_machine.specs.Submissions.{rests}
@@ -21,8 +21,8 @@ use Rattle.run_machine.specs.Scene.{Scene, Setup, is_disk}
 use Rattle.run_machine.specs.Tasks.{Todo, NoBio, Empty, TaskState, Writer, Rescuer, Completer}
 use Rattle.biostack_top.proofs.SameStacks.{same_bads, same_count, same_rescuer, same_reserve, same_tree}
 
-module _ (known : Known) (s : Scenario) (other : Stack) (one_scripts other_scripts : List (PoolId × Answers)) (a : Means known s.stack one_scripts)
-    (b : Means known other other_scripts) where
+module _ (known : Declarations) (s : Scenario) (other : Stack) (one_scripts other_scripts : List (PoolId × Answers)) (a : MeansStack known s.stack one_scripts)
+    (b : MeansStack known other other_scripts) where
   abbrev over_other : Scenario
   over_other = record s { stack = other }
 

@@ -16,8 +16,8 @@ use Rattle.stack_base.specs.declared.stack.Stack.{Stack}
 use Rattle.stack_base.specs.Tree.{Tree, Leaf, built, over, tree, tree_below}
 use Rattle.stack_base.specs.Fault.{bads_of_kind}
 use Rattle.layout_model.specs.May.{bads_of}
-use Rattle.decl_text.specs.Accepting.{Means, bad_ranges, shown, what_of_kind}
-use Rattle.decl_text.specs.Known.{Declared, Known, device_tree}
+use Rattle.decl_text.specs.Accepting.{MeansStack, bad_ranges, declared_form, what_of_kind}
+use Rattle.decl_text.specs.Known.{Declared, Declarations, device_tree}
 use Rattle.decl_text.specs.declared.item.What.{What}
 use Rattle.decl_text.specs.declared.item.What.TheVariants as what
 use Rattle.decl_text.proofs.ShownTrees.{grown_over}
@@ -25,8 +25,8 @@ use Rattle.run_machine.specs.Opened.{records_of, reserve_of}
 use Rattle.run_machine.specs.Scene.{rescuer_at}
 
 -- what is told of a device by its declaration
-of_declared : {A : Type 0} (f : Device → A) (g : Declared → A) (none : A) → ((d : Device) → f d ≡ g (shown d)) → (found : Option Device)
-    → option_map_or f found none ≡ option_map_or g (option_map shown found) none
+of_declared : {A : Type 0} (f : Device → A) (g : Declared → A) (none : A) → ((d : Device) → f d ≡ g (declared_form d)) → (found : Option Device)
+    → option_map_or f found none ≡ option_map_or g (option_map declared_form found) none
 of_declared f g none same None = refl
 of_declared f g none same (Some d) = same d
 
@@ -57,7 +57,7 @@ records_are (Limit longest chunk) = refl
 records_are (Mirror records) = refl
 
 -- the bad ranges of a device are those of its lines
-bads_told : (known : Known) (stack : Stack) (scripts : List (PoolId × Answers)) → Means known stack scripts → (number : ℕ)
+bads_told : (known : Declarations) (stack : Stack) (scripts : List (PoolId × Answers)) → MeansStack known stack scripts → (number : ℕ)
     → bads_of stack number ≡ option_map_or (λ (d : Device). bad_ranges known number) (slice_get stack.devices.items number) []
 bads_told known stack scripts means number = by (slice_get stack.devices.items number) refl
   where
@@ -66,20 +66,20 @@ bads_told known stack scripts means number = by (slice_get stack.devices.items n
     by None is = refl
     by (Some d) is = means.bad number d is
 
-module _ (known : Known) (one other : Stack) (one_scripts other_scripts : List (PoolId × Answers)) (a : Means known one one_scripts) (b : Means known other other_scripts) where
-  declared_at : (number : ℕ) → option_map shown (slice_get one.devices.items number) ≡ option_map shown (slice_get other.devices.items number)
+module _ (known : Declarations) (one other : Stack) (one_scripts other_scripts : List (PoolId × Answers)) (a : MeansStack known one one_scripts) (b : MeansStack known other other_scripts) where
+  declared_at : (number : ℕ) → option_map declared_form (slice_get one.devices.items number) ≡ option_map declared_form (slice_get other.devices.items number)
   declared_at number =
-      sym (slice_get-map shown one.devices.items number) ∙ ap (λ (ds : List Declared). slice_get ds number) (a.devices ∙ sym b.devices)
-      ∙ slice_get-map shown other.devices.items number
+      sym (slice_get-map declared_form one.devices.items number) ∙ ap (λ (ds : List Declared). slice_get ds number) (a.devices ∙ sym b.devices)
+      ∙ slice_get-map declared_form other.devices.items number
 
-  pub same_of : {A : Type 0} (f : Device → A) (g : Declared → A) (none : A) → ((d : Device) → f d ≡ g (shown d)) → (number : ℕ)
+  pub same_of : {A : Type 0} (f : Device → A) (g : Declared → A) (none : A) → ((d : Device) → f d ≡ g (declared_form d)) → (number : ℕ)
       → option_map_or f (slice_get one.devices.items number) none ≡ option_map_or f (slice_get other.devices.items number) none
   same_of f g none same number =
       of_declared f g none same (slice_get one.devices.items number) ∙ ap (λ (o : Option Declared). option_map_or g o none) (declared_at number)
       ∙ sym (of_declared f g none same (slice_get other.devices.items number))
 
   pub same_count : length one.devices.items ≡ length other.devices.items
-  same_count = sym (length-map one.devices.items shown) ∙ ap (λ (ds : List Declared). length ds) (a.devices ∙ sym b.devices) ∙ length-map other.devices.items shown
+  same_count = sym (length-map one.devices.items declared_form) ∙ ap (λ (ds : List Declared). length ds) (a.devices ∙ sym b.devices) ∙ length-map other.devices.items declared_form
 
   pub same_rescuer : (number : ℕ) → rescuer_at (slice_get one.devices.items number) ≡ rescuer_at (slice_get other.devices.items number)
   same_rescuer number =

@@ -12,9 +12,9 @@ use Rattle.stack_base.specs.declared.stack.Kind.TheVariants.{Disk, Linear, Strip
 use Rattle.stack_base.specs.declared.stack.Device.{Device}
 use Rattle.stack_base.specs.declared.stack.Stack.{Stack}
 use Rattle.stack_base.specs.Names.{name_of_device, pool_name}
-use Rattle.decl_text.specs.Accepting.{Means, what_of_kind}
+use Rattle.decl_text.specs.Accepting.{MeansStack, what_of_kind}
 use Rattle.decl_text.specs.Known as declared
-use Rattle.decl_text.specs.Known.{Declared, Known}
+use Rattle.decl_text.specs.Known.{Declared, Declarations}
 use Rattle.decl_text.specs.declared.item.What.{What as Does}
 use Rattle.run_machine.specs.declared.event.Event.{Event}
 use Rattle.run_machine.specs.declared.event.TaskId.{TaskId}
@@ -42,7 +42,7 @@ mirror_told (Zoned chunk) = refl
 mirror_told (Limit longest chunk) = refl
 mirror_told (Mirror records) = refl
 
-module _ (known : Known) (one other : Stack) (one_scripts other_scripts : List (PoolId × Answers)) (a : Means known one one_scripts) (b : Means known other other_scripts) where
+module _ (known : Declarations) (one other : Stack) (one_scripts other_scripts : List (PoolId × Answers)) (a : MeansStack known one one_scripts) (b : MeansStack known other other_scripts) where
   same_name : (dev : DevId) → name_of_device one dev.0 ≡ name_of_device other dev.0
   same_name dev = same_of known one other one_scripts other_scripts a b (λ (d : Device). d.name.bytes) (λ (d : Declared). d.name) [] (λ d. refl) dev.0
 

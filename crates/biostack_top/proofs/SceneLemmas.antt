@@ -17,7 +17,7 @@ use Rattle.work_text.specs.Whole.{RestDecides, known_of_text, text_refusal_by, w
 use Rattle.work_text.proofs.Wholes.{refused_first, rest_decides}
 use Rattle.std.proofs.lemmas.List.{length-map}
 use Rattle.layout_model.specs.Bound.{IsBound}
-use Rattle.decl_text.specs.Known.{Known}
+use Rattle.decl_text.specs.Known.{Declarations}
 use Rattle.biostack_top.specs.declared.scene.Scene.{Scene}
 use Rattle.biostack_top.specs.Scene.{IsSaidBy, ReadsScene, SaysBy}
 
@@ -57,15 +57,15 @@ says_all loose text read scene is accepts reads served same =
       stack = accepted.is_stack;
       means = by.means fine;
       rescuers = accepts.2;
-      writes = reads.1.writes ∙ ap (λ (k : Known). k.writes) work;
+      writes = reads.1.writes ∙ ap (λ (k : Declarations). k.writes) work;
       served = served;
-      rounds = reads.1.rounds ∙ ap (λ (k : Known). k.rounds) work;
-      resizes = reads.1.resizes ∙ ap (λ (k : Known). kept_resizes (last_round k.rounds) k.resizes) work;
+      rounds = reads.1.rounds ∙ ap (λ (k : Declarations). k.rounds) work;
+      resizes = reads.1.resizes ∙ ap (λ (k : Declarations). kept_resizes (last_round k.rounds) k.resizes) work;
       needs = subst (λ z. IsBound accepted.stack scene.work.writes.items z scene.work.bound)
           (omega (
             arith,
-            ap last_round (reads.1.rounds ∙ ap (λ (k : Known). k.rounds) work),
-            ap length (reads.1.resizes ∙ ap (λ (k : Known). kept_resizes (last_round k.rounds) k.resizes) work),
+            ap last_round (reads.1.rounds ∙ ap (λ (k : Declarations). k.rounds) work),
+            ap length (reads.1.resizes ∙ ap (λ (k : Declarations). kept_resizes (last_round k.rounds) k.resizes) work),
             length-map scene.work.resizes.items change_of,
           ))
           reads.1.bound;

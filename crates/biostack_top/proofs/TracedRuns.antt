@@ -5,8 +5,8 @@ use Rattle.std.specs.List.{flat_map}
 use Rattle.std.proofs.lemmas.List.{length-map}
 use Rattle.stack_base.specs.declared.stack.Stack.{Stack}
 use Rattle.layout_model.specs.declared.write.Write.{Write}
-use Rattle.decl_text.specs.Accepting.{Means}
-use Rattle.decl_text.specs.Known.{Known, Written, nothing}
+use Rattle.decl_text.specs.Accepting.{MeansStack}
+use Rattle.decl_text.specs.Known.{Declarations, Written, nothing}
 use Rattle.decl_text.specs.Refusals.{known_after, refusal, refused}
 use Rattle.decl_text.specs.Text.{lines, most_bytes}
 use Rattle.decl_text.specs.declared.accepted.Accepted.{Accepted}
@@ -49,8 +49,8 @@ writes_back [] = refl
 writes_back (write ∷ more) = ap (λ all. write ∷ all) (writes_back more)
 
 -- two readings of texts that declare the same, but for their stacks
-module _ (known : Known) (one other : Accepted) (first second : Work)
-    (a : Means known one.stack one.scripts.items) (b : Means known other.stack other.scripts.items)
+module _ (known : Declarations) (one other : Accepted) (first second : Work)
+    (a : MeansStack known one.stack one.scripts.items) (b : MeansStack known other.stack other.scripts.items)
     (one_writes : map as_written first.writes.items ≡ known.writes) (other_writes : map as_written second.writes.items ≡ known.writes)
     (one_rounds : first.rounds.items ≡ known.rounds) (other_rounds : second.rounds.items ≡ known.rounds)
     (one_resizes : map change_of first.resizes.items ≡ kept_resizes (last_round known.rounds) known.resizes)
@@ -131,14 +131,14 @@ module _ (stacks_named : AcceptedStacksAreNamed) (replays : TracesReplay) (no_ev
     same_known : known_of_text again.scenario ≡ known_of_text text
     same_known = ap (known_after nothing) (again.before ∙ scenario_is)
 
-    means : Means (known_of_text text) other.stack other.scripts.items
-    means = subst (λ (known : Known). Means known other.stack other.scripts.items) same_known again.says.means
+    means : MeansStack (known_of_text text) other.stack other.scripts.items
+    means = subst (λ (known : Declarations). MeansStack known other.stack other.scripts.items) same_known again.says.means
 
     same : record (scenario_of accepted work) { stack = other.stack } ≡ scenario_of other again.work
     same =
         same_scenario (known_of_text text) accepted other work again.work says.means means says.writes
-        (again.says.writes ∙ ap (λ (known : Known). known.writes) same_known) says.rounds (again.says.rounds ∙ ap (λ (known : Known). known.rounds) same_known)
-        says.resizes (again.says.resizes ∙ ap (λ (known : Known). kept_resizes (last_round known.rounds) known.resizes) same_known)
+        (again.says.writes ∙ ap (λ (known : Declarations). known.writes) same_known) says.rounds (again.says.rounds ∙ ap (λ (known : Declarations). known.rounds) same_known)
+        says.resizes (again.says.resizes ∙ ap (λ (known : Declarations). kept_resizes (last_round known.rounds) known.resizes) same_known)
 
     runs : IsRun (scene (scenario_of other again.work) run.6.ledger) (start (scenario_of other again.work)) events run.6.state
     runs =

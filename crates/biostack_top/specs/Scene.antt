@@ -4,8 +4,8 @@ use Rattle.stack_base.specs.Stack.{IsStack}
 use Rattle.layout_model.specs.declared.write.Write.{Write}
 use Rattle.layout_model.specs.Bound.{IsBound}
 use Rattle.layout_model.specs.Writes.{IsWrite}
-use Rattle.decl_text.specs.Accepting.{Means}
-use Rattle.decl_text.specs.Known.{Known}
+use Rattle.decl_text.specs.Accepting.{MeansStack}
+use Rattle.decl_text.specs.Known.{Declarations}
 use Rattle.decl_text.specs.Reading.{declarations}
 use Rattle.decl_text.specs.declared.accepted.Accepted.{Accepted}
 use Rattle.decl_text.specs.declared.reason.ReadFault.{ReadFault}
@@ -18,7 +18,7 @@ use Rattle.work_text.specs.declared.Work.{Work}
 use Rattle.biostack_top.specs.declared.scene.Scene.{Scene}
 
 -- how many `resize` lines are not left out
-abbrev pub kept_lines : Known → ℕ
+abbrev pub kept_lines : Declarations → ℕ
 kept_lines known = length (kept_resizes (last_round known.rounds) known.resizes)
 
 -- The text is not refused, its declarations mean this stack with these scripts, and its other lines this work. By the
@@ -26,7 +26,7 @@ kept_lines known = length (kept_resizes (last_round known.rounds) known.resizes)
 pub record SaysBy (loose : Bool) (text : List ℕ) (accepted : Accepted) (work : Work) : Type 0 where
   pub fine : text_refusal_by loose text ≡ None
   pub stack : IsStack accepted.stack
-  pub means : Means (known_of_text text) accepted.stack accepted.scripts.items
+  pub means : MeansStack (known_of_text text) accepted.stack accepted.scripts.items
   pub rescuers : HasRescuersAsked loose accepted.stack
   pub writes : map as_written work.writes.items ≡ (known_of_text text).writes
   pub served : (write : Write) → Contains work.writes.items write → IsWrite accepted.stack write

@@ -2,7 +2,7 @@
 use Rattle.std.proofs.Common.{◌≡◌, ℕ, suc, ◌+◌, Bool, true, false, List, [], ◌∷◌, ◌++◌, length, drop, take, refl, sym, ◌∙◌, ap, subst, arith}
 use Rattle.std.specs.List.{before_first, position_or_len}
 use Rattle.decl_text.specs.Reading.{NonePass}
-use Rattle.decl_text.specs.Steps.{Begins}
+use Rattle.decl_text.specs.Steps.{FirstPasses}
 
 -- what is left
 abbrev pub rest : {X : Type 0} → (X → Bool) → List X → List X
@@ -36,21 +36,21 @@ pub none_pass : {X : Type 0} (p : X → Bool) (xs : List X) → NonePass p (befo
 none_pass p [] = tt
 none_pass p (x ∷ xs) = first_fails p x xs (p x) refl (none_pass p xs)
 
-first_begins : {X : Type 0} (p : X → Bool) (x : X) (xs : List X) (b : Bool) → p x ≡ b → Begins p (rest p xs) → Begins p (rest p (x ∷ xs))
-first_begins p x xs true is starts = subst (λ front. Begins p (drop (length front) (x ∷ xs))) (sym (no_more p x xs is)) is
-first_begins p x xs false is starts = subst (λ front. Begins p (drop (length front) (x ∷ xs))) (sym (more p x xs is)) starts
+first_begins : {X : Type 0} (p : X → Bool) (x : X) (xs : List X) (b : Bool) → p x ≡ b → FirstPasses p (rest p xs) → FirstPasses p (rest p (x ∷ xs))
+first_begins p x xs true is starts = subst (λ front. FirstPasses p (drop (length front) (x ∷ xs))) (sym (no_more p x xs is)) is
+first_begins p x xs false is starts = subst (λ front. FirstPasses p (drop (length front) (x ∷ xs))) (sym (more p x xs is)) starts
 
-pub begins : {X : Type 0} (p : X → Bool) (xs : List X) → Begins p (rest p xs)
+pub begins : {X : Type 0} (p : X → Bool) (xs : List X) → FirstPasses p (rest p xs)
 begins p [] = tt
 begins p (x ∷ xs) = first_begins p x xs (p x) refl (begins p xs)
 
 -- before such a list stands nothing
-pub none_before : {X : Type 0} (p : X → Bool) (xs : List X) → Begins p xs → before_first p xs ≡ []
+pub none_before : {X : Type 0} (p : X → Bool) (xs : List X) → FirstPasses p xs → before_first p xs ≡ []
 none_before p [] starts = refl
 none_before p (x ∷ xs) starts = rw starts refl
 
 -- what stands before elements of which none passes and a list that begins with one that does is these
-pub before_is : {X : Type 0} (p : X → Bool) (front back : List X) → NonePass p front → Begins p back → before_first p (front ++ back) ≡ front
+pub before_is : {X : Type 0} (p : X → Bool) (front back : List X) → NonePass p front → FirstPasses p back → before_first p (front ++ back) ≡ front
 before_is p [] back none starts = none_before p back starts
 before_is p (x ∷ front) back none starts = more p x (front ++ back) none.0 ∙ ap (λ ys. x ∷ ys) (before_is p front back none.1 starts)
 

@@ -14,11 +14,11 @@ use Rattle.fail_script.specs.Script.{Answers, entries_of}
 use Rattle.stack_base.specs.declared.ids.PoolId.{PoolId}
 use Rattle.stack_base.specs.declared.stack.Stack.{Stack}
 use Rattle.stack_base.specs.Stack.{IsStack}
-use Rattle.decl_text.specs.Accepting.{IsDeclaredSo, shown, device_pools, loose_checks, pools, script_of, scripts_of}
+use Rattle.decl_text.specs.Accepting.{IsDeclaredSo, declared_form, device_pools, loose_checks, pools, script_of, scripts_of}
 use Rattle.decl_text.specs.Text.{words}
 use Rattle.decl_text.specs.Items.{said}
 use Rattle.decl_text.specs.Checks.{is_of_pool, too_large}
-use Rattle.decl_text.specs.Known.{Known, Declared, Scripted, after, after_line, nothing, declared_pool}
+use Rattle.decl_text.specs.Known.{Declarations, Declared, Scripted, after, after_line, nothing, declared_pool}
 use Rattle.decl_text.specs.Refusals.{check, first_found, known_after, refusal, said_reason}
 use Rattle.decl_text.specs.declared.item.Item.{Item}
 use Rattle.decl_text.specs.declared.item.Item.TheVariants as item
@@ -31,7 +31,7 @@ use Rattle.decl_text.proofs.Unrefused.{finds_nothing, kept_behind, line_passes}
 abbrev declared_entries : List Scripted → ℕ
 declared_entries scripts = sum_by (λ (s : Scripted). length s.script.entries) scripts
 
-pub not_large : (known : Known) (said : Item) → first_found loose_checks known said ≡ None → too_large known said ≡ false
+pub not_large : (known : Declarations) (said : Item) → first_found loose_checks known said ≡ None → too_large known said ≡ false
 not_large known said none = finds_nothing loose_checks known said 4 (check reason.TooLarge too_large) none refl
 
 -- one more script
@@ -41,7 +41,7 @@ entries_more scripts script None few = rw (append-nil scripts) (omega arith)
 entries_more scripts script (Some pool) few =
     rw (sum_by_push (λ (s : Scripted). length s.script.entries) scripts (record { pool = pool; script = script })) few
 
-after_few : (known : Known) (said : Item) → too_large known said ≡ false → declared_entries known.scripts ≤ 65536 → declared_entries (after known said).scripts ≤ 65536
+after_few : (known : Declarations) (said : Item) → too_large known said ≡ false → declared_entries known.scripts ≤ 65536 → declared_entries (after known said).scripts ≤ 65536
 after_few known (item.Device name does members reserve rescuer) small few = few
 after_few known (item.Bad disk range kind) small few = few
 after_few known (item.Fs bios vecs) small few = few
@@ -53,7 +53,7 @@ after_few known (item.Write task dev range tag) small few = few
 after_few known item.Sync small few = few
 after_few known (item.Resize pool min) small few = few
 
-line_few : (known : Known) (o : Option Item) → said_reason loose_checks known o ≡ None → declared_entries known.scripts ≤ 65536 → declared_entries (after_line known o).scripts ≤ 65536
+line_few : (known : Declarations) (o : Option Item) → said_reason loose_checks known o ≡ None → declared_entries known.scripts ≤ 65536 → declared_entries (after_line known o).scripts ≤ 65536
 line_few known None none few = few
 line_few known (Some said) none few = after_few known said (not_large known said none) few
 
@@ -97,7 +97,7 @@ pools_few devices =
     )
 
 -- so the scripts of all pools have few
-all_few : (known : Known) → declared_entries known.scripts ≤ 65536 → length known.devices ≤ 32
+all_few : (known : Declarations) → declared_entries known.scripts ≤ 65536 → length known.devices ≤ 32
     → sum_by (λ (script : PoolId × Answers). entries_of script.1) (scripts_of known) ≤ 66 * 65536
 all_few known few devices =
     let script : PoolId → PoolId × Answers = λ pool. (pool, script_of known pool) in
@@ -123,7 +123,7 @@ entries_few stack scripts good so =
           let known = known_after nothing declared.0 in
           let means = declared.3 in
           let entries : declared_entries known.scripts ≤ 65536 = lines_few declared.0 declared.2 in
-          let devices : length known.devices ≤ 32 = omega (arith, ap length means.devices, length-map stack.devices.items shown, good.few) in
+          let devices : length known.devices ≤ 32 = omega (arith, ap length means.devices, length-map stack.devices.items declared_form, good.few) in
           let same = ap (λ (ss : List (PoolId × Answers)). sum_by (λ (script : PoolId × Answers). entries_of script.1) ss) means.scripts in
           omega (arith, same, all_few known entries devices)))
     ]

@@ -20,9 +20,9 @@ use Rattle.std.proofs.Math.Logic.{∥∥₁_elim}
 use Rattle.decl_text.specs.Text.{words}
 use Rattle.decl_text.specs.Items.{said}
 use Rattle.decl_text.specs.Read.{IsFormed}
-use Rattle.decl_text.specs.Known.{Known, Declared, BadOf, nothing, after_line, declared, device_of, device_tree, declares_disk, number_in, sectors_of, tree_of, tree_over}
+use Rattle.decl_text.specs.Known.{Declarations, Declared, BadOf, nothing, after_line, declared, device_of, device_tree, declares_disk, number_in, sectors_of, tree_of, tree_over}
 use Rattle.decl_text.specs.Checks.{bad_shape, is_disk_device, is_one_too_many, name_taken, past_end, reserve_zero, reserves}
-use Rattle.decl_text.specs.Accepting.{IsDeclaredSo, Means, loose_checks, reserves_or_two, shown, what_of_kind}
+use Rattle.decl_text.specs.Accepting.{IsDeclaredSo, MeansStack, loose_checks, reserves_or_two, declared_form, what_of_kind}
 use Rattle.decl_text.specs.Fit.{HasReserves, IsFitBad, IsFitDevice, IsFitStack, IsReserve}
 use Rattle.decl_text.specs.Refusals.{check, first_found, known_after, line_reason, refusal, said_reason}
 use Rattle.decl_text.specs.declared.accepted.Accepted.{Accepted}
@@ -55,7 +55,7 @@ abbrev AreNamedApart : List Declared → Type 0
 AreNamedApart devices =
     (i j : ℕ) (one other : Declared) → slice_get devices i ≡ Some one → slice_get devices j ≡ Some other → one.name ≡ other.name → i ≡ j
 
-record IsFit (known : Known) : Type 0 where
+record IsFit (known : Declarations) : Type 0 where
   front : IsFront known
   fs_bios : IsReserve (reserves_or_two known.fs).bios
   fs_vecs : IsReserve (reserves_or_two known.fs).vecs
@@ -160,16 +160,16 @@ apart_more devices device apart free = λ i j one other found also same.
     apart_by devices device i j one other apart free (pushed devices device one i found) (pushed devices device other j also) same
 
 -- the checks by their places
-is_new : (known : Known) (said : Item) → first_found loose_checks known said ≡ None → name_taken known said ≡ false
+is_new : (known : Declarations) (said : Item) → first_found loose_checks known said ≡ None → name_taken known said ≡ false
 is_new known said none = finds_nothing loose_checks known said 0 (check reason.NameTaken name_taken) none refl
 
-not_odd : (known : Known) (said : Item) → first_found loose_checks known said ≡ None → bad_shape known said ≡ false
+not_odd : (known : Declarations) (said : Item) → first_found loose_checks known said ≡ None → bad_shape known said ≡ false
 not_odd known said none = finds_nothing loose_checks known said 3 (check reason.BadShape bad_shape) none refl
 
-no_zero : (known : Known) (said : Item) → first_found loose_checks known said ≡ None → reserve_zero known said ≡ false
+no_zero : (known : Declarations) (said : Item) → first_found loose_checks known said ≡ None → reserve_zero known said ≡ false
 no_zero known said none = finds_nothing loose_checks known said 6 (check reason.ReserveZero reserve_zero) none refl
 
-not_past : (known : Known) (said : Item) → first_found loose_checks known said ≡ None → past_end known said ≡ false
+not_past : (known : Declarations) (said : Item) → first_found loose_checks known said ≡ None → past_end known said ≡ false
 not_past known said none = finds_nothing loose_checks known said 8 (check reason.PastEnd past_end) none refl
 
 reserve_by : (reserve : ℕ) → nat_lt 1024 reserve ≡ false → (reserve == 0) ≡ false → IsReserve reserve
@@ -196,7 +196,7 @@ has_reserves name (what.Limit longest chunk) members reserve rescuer formed smal
 has_reserves name (what.Mirror records) members reserve rescuer formed small some = two_reserves records reserve small some
 
 -- a line that passes all checks keeps this
-after_fit : (known : Known) (o : Option Item) → Declares o → said_reason loose_checks known o ≡ None → IsFit known → IsFit (after_line known o)
+after_fit : (known : Declarations) (o : Option Item) → Declares o → said_reason loose_checks known o ≡ None → IsFit known → IsFit (after_line known o)
 after_fit known None is none fit = fit
 after_fit known (Some (item.Device name does members reserve rescuer)) is none fit =
     let said = item.Device name does members reserve rescuer in
@@ -260,7 +260,7 @@ after_fit known (Some (item.Write task dev range tag)) is none fit = absurd is
 after_fit known (Some item.Sync) is none fit = absurd is
 after_fit known (Some (item.Resize pool min)) is none fit = absurd is
 
-line_fit : (known : Known) (line : List ℕ) → is_work_line line ≡ false → line_reason loose_checks known line ≡ None → IsFit known → IsFit (after_line known (said (words line)))
+line_fit : (known : Declarations) (line : List ℕ) → is_work_line line ≡ false → line_reason loose_checks known line ≡ None → IsFit known → IsFit (after_line known (said (words line)))
 line_fit known line other none fit =
     let parts = line_passes loose_checks known line none in
     after_fit known (said (words line)) (front_declares known line fit.front other parts.0) parts.1 fit
@@ -282,10 +282,10 @@ lines_fit : (all : List (List ℕ)) → NonePass is_work_line all → refusal lo
 lines_fit all front none = kept_in_front loose_checks IsFit line_fit nothing 1 all front none nothing_fit
 
 -- so it is with the stack that they mean
-module _ (known : Known) (fit : IsFit known) (stack : Stack) (scripts : List (PoolId × Answers)) (means : Means known stack scripts) where
-  shown_at : (number : ℕ) (device : Device) → slice_get stack.devices.items number ≡ Some device → slice_get known.devices number ≡ Some (shown device)
+module _ (known : Declarations) (fit : IsFit known) (stack : Stack) (scripts : List (PoolId × Answers)) (means : MeansStack known stack scripts) where
+  shown_at : (number : ℕ) (device : Device) → slice_get stack.devices.items number ≡ Some device → slice_get known.devices number ≡ Some (declared_form device)
   shown_at number device found =
-      ap (λ (ds : List Declared). slice_get ds number) (sym means.devices) ∙ slice_get-map shown stack.devices.items number ∙ ap (option_map shown) found
+      ap (λ (ds : List Declared). slice_get ds number) (sym means.devices) ∙ slice_get-map declared_form stack.devices.items number ∙ ap (option_map declared_form) found
 
   bads_fit : (number : ℕ) (device : Device) (bad : Bad) → slice_get stack.devices.items number ≡ Some device
       → Contains (bads_of_kind device.kind) bad → IsFitBad (sectors_of (what_of_kind device.kind)) bad
@@ -312,8 +312,8 @@ module _ (known : Known) (fit : IsFit known) (stack : Stack) (scripts : List (Po
   stack_fit = record {
     fs_bios = (omega (arith, fit.fs_bios.0, means.fs_bios), omega (arith, fit.fs_bios.1, means.fs_bios));
     fs_vecs = (omega (arith, fit.fs_vecs.0, means.fs_vecs), omega (arith, fit.fs_vecs.1, means.fs_vecs));
-    devices = λ number device found. fit.devices number (shown device) (shown_at number device found);
-    names = λ i j one other found also same. fit.names i j (shown one) (shown other) (shown_at i one found) (shown_at j other also) same;
+    devices = λ number device found. fit.devices number (declared_form device) (shown_at number device found);
+    names = λ i j one other found also same. fit.names i j (declared_form one) (declared_form other) (shown_at i one found) (shown_at j other also) same;
     bad = bads_fit;
   }
 

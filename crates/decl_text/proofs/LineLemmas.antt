@@ -6,7 +6,7 @@ use Rattle.decl_text.specs.Text.{is_text, words}
 use Rattle.decl_text.specs.Commands.{command_of}
 use Rattle.decl_text.specs.Forms.{form, is_malformed, is_misnumbered}
 use Rattle.decl_text.specs.Items.{is_comment, said, meaning, malformed, misnumbered}
-use Rattle.decl_text.specs.Known.{Known}
+use Rattle.decl_text.specs.Known.{Declarations}
 use Rattle.decl_text.specs.Stands.{may_stand, misplaced, stand_of}
 use Rattle.decl_text.specs.declared.stand.Stand.{Stand}
 use Rattle.decl_text.specs.Refusals.{first_found, line_checks}
@@ -25,7 +25,7 @@ abbrev by_checks : (text malformed misplaced misnumbered : Bool) → Option Reas
 by_checks text malformed misplaced misnumbered =
     if not text then Some NotText else (if malformed || misplaced then Some BadWord else (if misnumbered then Some BadNumber else None))
 
-found_by : (known : Known) (line : List ℕ) (all : List (List ℕ)) → words line ≡ all
+found_by : (known : Declarations) (line : List ℕ) (all : List (List ℕ)) → words line ≡ all
     → first_found line_checks known line ≡ by_checks (is_text line) (malformed all) (misplaced (stand_of known) all) (misnumbered all)
 unfolding first_found
 found_by known line all is = rw is refl
@@ -46,13 +46,13 @@ right_by true false true n none = absurd (some_none none)
 right_by true false false true none = absurd (some_none none)
 right_by true false false false none = (refl, refl, refl)
 
-pub told_parts : (known : Known) (line : List ℕ) → first_found line_checks known line ≡ None → AreRight (stand_of known) (words line)
+pub told_parts : (known : Declarations) (line : List ℕ) → first_found line_checks known line ≡ None → AreRight (stand_of known) (words line)
 told_parts known line none =
     let parts = right_by (is_text line) (malformed (words line)) (misplaced (stand_of known) (words line)) (misnumbered (words line)) (sym (found_by known line (words line) refl) ∙ none) in
     record { formed = parts.0; placed = parts.1; numbered = parts.2 }
 
 -- of what is known, the checks of a line go by where it stands
-pub same_found : (a b : Known) (line : List ℕ) → stand_of a ≡ stand_of b → first_found line_checks a line ≡ first_found line_checks b line
+pub same_found : (a b : Declarations) (line : List ℕ) → stand_of a ≡ stand_of b → first_found line_checks a line ≡ first_found line_checks b line
 same_found a b line same =
     found_by a line (words line) refl
     ∙ ap (λ (s : Stand). by_checks (is_text line) (malformed (words line)) (misplaced s (words line)) (misnumbered (words line))) same
@@ -62,7 +62,7 @@ pub says_no_text : (stand : Stand) (line : List ℕ) → is_text line ≡ false 
 says_no_text stand line odd = λ known at. rw (found_by known line (words line) refl, odd) refl
 
 -- a line of text is as its words are
-told : (known : Known) (line : List ℕ) (all : List (List ℕ)) → is_text line ≡ true → words line ≡ all
+told : (known : Declarations) (line : List ℕ) (all : List (List ℕ)) → is_text line ≡ true → words line ≡ all
     → first_found line_checks known line ≡ (if malformed all || misplaced (stand_of known) all then Some BadWord else (if misnumbered all then Some BadNumber else None))
 told known line all text is = rw (found_by known line all is, text) refl
 
@@ -121,7 +121,7 @@ command_by false None command is = absurd (unknown_command command is)
 command_by false (Some other) command is = (refl, rw (same_command other command is) refl)
 
 pub record Commanded (stand : Stand) (line : List ℕ) (command : Command) (rest : List (List ℕ)) : Type 0 where
-  pub told : (known : Known) → stand_of known ≡ stand
+  pub told : (known : Declarations) → stand_of known ≡ stand
       → first_found line_checks known line
       ≡ (if is_malformed (form command) rest || not (may_stand stand command) then Some BadWord else (if is_misnumbered (form command) rest then Some BadNumber else None))
   pub said : said (words line) ≡ meaning command rest
@@ -138,7 +138,7 @@ late_said stand line rest command c late = λ known at. rw (c.told known at, lat
 
 -- it may
 told_there : (stand : Stand) (line : List ℕ) (rest : List (List ℕ)) (command : Command) → Commanded stand line command rest → may_stand stand command ≡ true
-    → (known : Known) → stand_of known ≡ stand → first_found line_checks known line ≡ (if is_malformed (form command) rest then Some BadWord else (if is_misnumbered (form command) rest then Some BadNumber else None))
+    → (known : Declarations) → stand_of known ≡ stand → first_found line_checks known line ≡ (if is_malformed (form command) rest then Some BadWord else (if is_misnumbered (form command) rest then Some BadNumber else None))
 told_there stand line rest command c stands known at = rw (c.told known at, stands, or-false) refl
 
 item_said : (stand : Stand) (line : List ℕ) (rest : List (List ℕ)) (command : Command) (item : Item) → Commanded stand line command rest → may_stand stand command ≡ true

@@ -13,7 +13,7 @@ use Rattle.stack_base.specs.Tree.{Tree, Leaf, over_shape, over, tree}
 use Rattle.stack_base.proofs.Unfolded.{GoesDown, tree_going_down}
 use Rattle.stack_base.proofs.ListLemmas.{map_same}
 use Rattle.decl_text.specs.Known.{device_tree, tree_over, trees, tree_of}
-use Rattle.decl_text.specs.Accepting.{what_of_kind, shown, shown_devices}
+use Rattle.decl_text.specs.Accepting.{what_of_kind, declared_form, shown_devices}
 
 -- the first of what is left, and the rest of it
 at_front : {A : Type 0} (n : ℕ) (xs : List A) (d : A) (ds : List A) → drop n xs ≡ d ∷ ds → (slice_get xs n ≡ Some d) × (drop (suc n) xs ≡ ds)
@@ -50,7 +50,7 @@ module _ (stack : Stack) (down : GoesDown stack) where
   trees_of_none = refl
 
   -- the next tree
-  tree_next : (n : ℕ) (d : Device) → slice_get stack.devices.items n ≡ Some d → tree_over (first n) (shown d) ≡ tree stack n
+  tree_next : (n : ℕ) (d : Device) → slice_get stack.devices.items n ≡ Some d → tree_over (first n) (declared_form d) ≡ tree stack n
   unfolding first
   tree_next n d found =
       let number : length (first n) ≡ n = length-map-range_with_len (tree stack) 0 n in
@@ -65,15 +65,15 @@ module _ (stack : Stack) (down : GoesDown stack) where
 
   -- the trees of the first devices, and of those behind them
   trees_from : (n : ℕ) (devices : List Device) → drop n stack.devices.items ≡ devices
-      → fold (λ below device. below ++ tree_over below device ∷ []) (first n) (map shown devices) ≡ first (n + length devices)
+      → fold (λ below device. below ++ tree_over below device ∷ []) (first n) (map declared_form devices) ≡ first (n + length devices)
   trees_from n [] left = ap first (sym (add-zero n))
   trees_from n (d ∷ ds) left =
       let here = at_front n stack.devices.items d ds left in
       let rest : drop (n + 1) stack.devices.items ≡ ds = ap (λ k. drop k stack.devices.items) (add-one n) ∙ here.1 in
-      let grows : first n ++ tree_over (first n) (shown d) ∷ [] ≡ first (n + 1) =
+      let grows : first n ++ tree_over (first n) (declared_form d) ∷ [] ≡ first (n + 1) =
       ap (λ t. first n ++ t ∷ []) (tree_next n d here.0) ∙ sym (first_more n) in
       let long : n + 1 + length ds ≡ n + suc (length ds) = omega arith in
-      ap (λ ts. fold (λ below device. below ++ tree_over below device ∷ []) ts (map shown ds)) grows ∙ trees_from (n + 1) ds rest ∙ ap first long
+      ap (λ ts. fold (λ below device. below ++ tree_over below device ∷ []) ts (map declared_form ds)) grows ∙ trees_from (n + 1) ds rest ∙ ap first long
 
 pub shown_trees : (stack : Stack)
     → ((number : ℕ) (device : Device) (i : ℕ) (m : DevId) → slice_get stack.devices.items number ≡ Some device → slice_get device.members.items i ≡ Some m → m.0 < number)
@@ -81,7 +81,7 @@ pub shown_trees : (stack : Stack)
 shown_trees stack below number lt =
     let down : GoesDown stack = record { below = below } in
     let all : trees (shown_devices stack) ≡ first stack down (length stack.devices.items) =
-    ap (λ ts. fold (λ below device. below ++ tree_over below device ∷ []) ts (map shown stack.devices.items)) (sym (trees_of_none stack down))
+    ap (λ ts. fold (λ below device. below ++ tree_over below device ∷ []) ts (map declared_form stack.devices.items)) (sym (trees_of_none stack down))
     ∙ trees_from stack down 0 stack.devices.items refl
     ∙ ap (first stack down) (omega arith) in
     ap (λ ts. slice_index_or ts number (Leaf number 0)) all ∙ first_at stack down (length stack.devices.items) number lt

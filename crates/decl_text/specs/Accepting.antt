@@ -13,7 +13,7 @@ use Rattle.stack_base.specs.declared.stack.Kind.{Kind}
 use Rattle.stack_base.specs.declared.stack.Kind.TheVariants as kind
 use Rattle.stack_base.specs.declared.stack.Device.{Device}
 use Rattle.stack_base.specs.declared.stack.Stack.{Stack}
-use Rattle.decl_text.specs.Known.{Known, Declared, Reserves, nothing}
+use Rattle.decl_text.specs.Known.{Declarations, Declared, Reserves, nothing}
 use Rattle.stack_base.specs.Stack.{HasShape, IsStack}
 use Rattle.stack_base.specs.Fault.{bads_of_kind}
 use Rattle.decl_text.specs.Reasons.{number_of_reason}
@@ -33,8 +33,8 @@ what_of_kind (kind.Limit longest chunk) = what.Limit longest chunk
 what_of_kind (kind.Mirror records) = what.Mirror records
 
 -- a device of a stack as it was declared
-abbrev pub shown : Device → Declared
-shown device = record {
+abbrev pub declared_form : Device → Declared
+declared_form device = record {
   name = device.name.bytes;
   what = what_of_kind device.kind;
   members = map (λ m. m.0) device.members.items;
@@ -43,10 +43,10 @@ shown device = record {
 }
 
 abbrev pub shown_devices : Stack → List Declared
-shown_devices stack = map shown stack.devices.items
+shown_devices stack = map declared_form stack.devices.items
 
 -- the bad ranges of a disk, in the order of their lines
-abbrev pub bad_ranges : Known → ℕ → List Bad
+abbrev pub bad_ranges : Declarations → ℕ → List Bad
 bad_ranges known number = map (λ b. b.bad) (filter (λ b. b.disk == number) known.bad)
 
 -- the reserves of the writers' set, which are 2 where no line says otherwise
@@ -68,14 +68,14 @@ abbrev pub pools : List Declared → List PoolId
 pools devices = FsBios ∷ FsVecs ∷ flat_map (λ at. device_pools at.0 at.1.what) (reverse (zip (range_with_len 0 (length devices)) devices))
 
 -- the script of a pool: its line's, or none of entries, with memory for all takes unless a line says otherwise
-abbrev pub script_of : Known → PoolId → Answers
+abbrev pub script_of : Declarations → PoolId → Answers
 script_of known pool = unwrap_or (option_map (λ s. s.script) (find (is_of_pool pool) known.scripts)) (only_tail (not known.no_memory))
 
-abbrev pub scripts_of : Known → List (PoolId × Answers)
+abbrev pub scripts_of : Declarations → List (PoolId × Answers)
 scripts_of known = map (λ pool. (pool, script_of known pool)) (pools known.devices)
 
 -- the stack and the scripts that these declarations mean
-pub record Means (known : Known) (stack : Stack) (pool_scripts : List (PoolId × Answers)) : Type 0 where
+pub record MeansStack (known : Declarations) (stack : Stack) (pool_scripts : List (PoolId × Answers)) : Type 0 where
   pub devices : shown_devices stack ≡ known.devices
   pub bad : (number : ℕ) (device : Device) → slice_get stack.devices.items number ≡ Some device
       → bads_of_kind device.kind ≡ bad_ranges known number
@@ -95,7 +95,7 @@ checks_for false = item_checks
 -- some lines before all writes and `sync` lines, which have no refusal but perhaps that of rescuers, mean this stack and these scripts
 abbrev pub IsDeclaredSo : Stack → List (PoolId × Answers) → Type 0
 IsDeclaredSo stack pool_scripts =
-    (all : List (List ℕ)) × NonePass is_work_line all × (refusal loose_checks nothing 1 all ≡ None) × Means (known_after nothing all) stack pool_scripts
+    (all : List (List ℕ)) × NonePass is_work_line all × (refusal loose_checks nothing 1 all ≡ None) × MeansStack (known_after nothing all) stack pool_scripts
 
 pub HasShape-prop : (kind : Kind) (members : ℕ) → IsProp (HasShape kind members)
 HasShape-prop (kind.Disk sectors bad) members = hlevel (ℕ_set, le_prop)

@@ -7,7 +7,7 @@ use Rattle.stack_base.specs.declared.stack.Stack.{Stack}
 use Rattle.stack_base.specs.Fault.{bads_of_kind}
 use Rattle.decl_text.specs.Text.{is_name}
 use Rattle.decl_text.specs.Known.{Declared, sectors_of}
-use Rattle.decl_text.specs.Accepting.{shown, what_of_kind}
+use Rattle.decl_text.specs.Accepting.{declared_form, what_of_kind}
 use Rattle.decl_text.specs.declared.item.What.{What}
 use Rattle.decl_text.specs.declared.item.What.TheVariants as what
 
@@ -38,7 +38,7 @@ pub record IsFitBad (sectors : ℕ) (bad : Bad) : Type 0 where
 pub record IsFitStack (stack : Stack) : Type 0 where
   pub fs_bios : IsReserve stack.fs_bios
   pub fs_vecs : IsReserve stack.fs_vecs
-  pub devices : (number : ℕ) (device : Device) → slice_get stack.devices.items number ≡ Some device → IsFitDevice (shown device)
+  pub devices : (number : ℕ) (device : Device) → slice_get stack.devices.items number ≡ Some device → IsFitDevice (declared_form device)
   -- no two devices have one name
   pub names : (i j : ℕ) (one other : Device) → slice_get stack.devices.items i ≡ Some one → slice_get stack.devices.items j ≡ Some other
       → one.name.bytes ≡ other.name.bytes → i ≡ j

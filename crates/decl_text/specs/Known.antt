@@ -48,7 +48,7 @@ pub record Change : Type 0 where
   pub min : ℕ
 
 -- what was declared, each in the order of its lines
-pub record Known : Type 0 where
+pub record Declarations : Type 0 where
   pub devices : List Declared
   pub fs : Option Reserves
   pub bad : List BadOf
@@ -62,7 +62,7 @@ pub record Known : Type 0 where
   pub syncs : ℕ
   pub resizes : List Change
 
-abbrev pub nothing : Known
+abbrev pub nothing : Declarations
 nothing = record { devices = []; fs = None; bad = []; scripts = []; no_memory = false; writes = []; rounds = []; syncs = 0; resizes = [] }
 
 -- the device with this name
@@ -143,7 +143,7 @@ declared devices name does members reserve rescuer =
     record { name = name; what = does; members = map (number_in devices) members; reserve = reserve; rescuer = rescuer }
 
 -- what is known behind a line that says this
-abbrev pub after : Known → Item → Known
+abbrev pub after : Declarations → Item → Declarations
 after known (item.Device name does members reserve rescuer) =
     record known { devices = known.devices ++ declared known.devices name does members reserve rescuer ∷ [] }
 after known (item.Bad disk range kind) =
@@ -162,10 +162,10 @@ after known (item.Resize pool min) =
     record known { resizes = known.resizes ++ option_to_list (option_map (λ p. record { round = known.syncs; pool = p; min = min }) (declared_pool known.devices pool)) }
 
 -- the writes of the present round
-abbrev pub present : Known → List Written
+abbrev pub present : Declarations → List Written
 present known = map (λ at. at.0) (filter (λ at. at.1 == known.syncs) (zip known.writes known.rounds))
 
 -- behind a line that says this, or says nothing
-abbrev pub after_line : Known → Option Item → Known
+abbrev pub after_line : Declarations → Option Item → Declarations
 after_line known None = known
 after_line known (Some said) = after known said

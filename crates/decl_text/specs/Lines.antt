@@ -4,7 +4,7 @@ use Rattle.decl_text.specs.Text.{words}
 use Rattle.decl_text.specs.Forms.{form, is_malformed, is_misnumbered}
 use Rattle.decl_text.specs.Commands.{command_of}
 use Rattle.decl_text.specs.Items.{said, meaning, is_comment}
-use Rattle.decl_text.specs.Known.{Known}
+use Rattle.decl_text.specs.Known.{Declarations}
 use Rattle.decl_text.specs.Stands.{stand_of}
 use Rattle.decl_text.specs.declared.stand.Stand.{Stand}
 use Rattle.decl_text.specs.Refusals.{first_found, line_checks}
@@ -34,11 +34,11 @@ CommandSays command rest (Err Memory) = Unit {0}
 CommandSays command rest (Err (Wrong other)) = ⊥
 
 -- the line says this behind what is known, or is wrong there by its words, by the first check that finds it
-abbrev pub SaysBehind : Known → List ℕ → Result (Option Item) LineFault → Type 0
+abbrev pub SaysBehind : Declarations → List ℕ → Result (Option Item) LineFault → Type 0
 SaysBehind known line (Ok item) = (first_found line_checks known line ≡ None) × (said (words line) ≡ item)
 SaysBehind known line (Err (Wrong reason)) = first_found line_checks known line ≡ Some reason
 SaysBehind known line (Err Memory) = Unit {0}
 
 -- so it does behind all by which it stands there
 abbrev pub LineSays : Stand → List ℕ → Result (Option Item) LineFault → Type 0
-LineSays stand line result = (known : Known) → stand_of known ≡ stand → SaysBehind known line result
+LineSays stand line result = (known : Declarations) → stand_of known ≡ stand → SaysBehind known line result

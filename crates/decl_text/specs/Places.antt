@@ -7,8 +7,8 @@ pub record TextPlace : Type 0 where
   pub place : ℕ
 
 -- what stands from there on
-abbrev pub left : TextPlace → List ℕ
-left at = drop at.place at.text
+abbrev pub text_left : TextPlace → List ℕ
+text_left at = drop at.place at.text
 
 -- the text begins with this line, which takes so many bytes, wherever the text is cut behind it
 abbrev pub BeginsWhereverCut : List ℕ → List ℕ → ℕ → Type 0
@@ -16,11 +16,11 @@ BeginsWhereverCut text line taken = (more : ℕ) → lines (take (taken + more) 
 
 -- no line is left there, and the place stays
 abbrev pub StaysAtEnd : TextPlace → TextPlace → Type 0
-StaysAtEnd old new = (lines (left old) ≡ []) × (new ≡ old)
+StaysAtEnd old new = (lines (text_left old) ≡ []) × (new ≡ old)
 
 -- the line is the next one, and those behind it are left
 abbrev pub IsNextLine : TextPlace → List ℕ → TextPlace → Type 0
-IsNextLine old line new = lines (left old) ≡ line ∷ lines (left new)
+IsNextLine old line new = lines (text_left old) ≡ line ∷ lines (text_left new)
 
 -- the same line comes where the text ends at any place behind it
 abbrev pub IsNextOfFront : TextPlace → List ℕ → TextPlace → Type 0

@@ -4,7 +4,7 @@ use Rattle.std.specs.List.{before_first}
 use Rattle.std.specs.Option.{option_map, option_or}
 use Rattle.decl_text.specs.Text.{lines, words, most_bytes}
 use Rattle.decl_text.specs.Items.{said, begins_work}
-use Rattle.decl_text.specs.Known.{Known, nothing, after}
+use Rattle.decl_text.specs.Known.{Declarations, nothing, after}
 use Rattle.decl_text.specs.Refusals.{Check, first_found, line_checks, refused}
 use Rattle.decl_text.specs.declared.reason.Reason.{Reason}
 use Rattle.decl_text.specs.declared.reason.Reason.TheVariants.{TooLong}
@@ -81,13 +81,13 @@ ReadsDecl text (Err (Refused refusal)) = (most_bytes < length text) × (refusal 
 ReadsDecl text (Err Memory) = Unit {0}
 
 -- the first refusal of what lines say, behind what is known, and else the fault of the line behind them
-unfoldable pub refusal_of_items : List (Check Item) → Known → List Numbered → Option Refusal → Option Refusal
+unfoldable pub refusal_of_items : List (Check Item) → Declarations → List Numbered → Option Refusal → Option Refusal
 refusal_of_items checks known [] fault = fault
 refusal_of_items checks known (next ∷ more) fault =
     option_or (option_map (refused next.line) (first_found checks known next.item))
     (refusal_of_items checks (after known next.item) more fault)
 
 -- what is known behind it
-abbrev pub known_of_items : Known → List Numbered → Known
+abbrev pub known_of_items : Declarations → List Numbered → Declarations
 known_of_items known [] = known
 known_of_items known (next ∷ more) = known_of_items (after known next.item) more

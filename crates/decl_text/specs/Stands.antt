@@ -1,7 +1,7 @@
 -- Where a line stands among the others, and what it may be about there.
 use Rattle.std.specs.Prelude.{◌==◌, if◌then◌else◌, not, Bool, true, false, List, [], ◌∷◌, ℕ}
 use Rattle.decl_text.specs.Items.{line_is}
-use Rattle.decl_text.specs.Known.{Known, Written, present}
+use Rattle.decl_text.specs.Known.{Declarations, Written, present}
 use Rattle.decl_text.specs.declared.command.Command.{Command}
 use Rattle.decl_text.specs.declared.command.Command.TheVariants as command
 use Rattle.decl_text.specs.declared.stand.Stand.{Stand}
@@ -12,7 +12,7 @@ abbrev pub stand_by : List Written → ℕ → Stand
 stand_by [] syncs = if syncs == 0 then Front else BehindSync
 stand_by (write ∷ writes) syncs = BehindWrite
 
-abbrev pub stand_of : Known → Stand
+abbrev pub stand_of : Declarations → Stand
 stand_of known = stand_by (present known) known.syncs
 
 abbrev pub is_front : Stand → Bool

@@ -8,9 +8,9 @@ use Rattle.decl_text.specs.declared.decl.DeclParts.{DeclParts}
 use Rattle.decl_text.specs.declared.item.Item.{Item}
 
 -- the first element passes, where there is one
-abbrev pub Begins : {X : Type 0} → (X → Bool) → List X → Type 0
-Begins p [] = Unit {0}
-Begins p (x ∷ xs) = p x ≡ true
+abbrev pub FirstPasses : {X : Type 0} → (X → Bool) → List X → Type 0
+FirstPasses p [] = Unit {0}
+FirstPasses p (x ∷ xs) = p x ≡ true
 
 abbrev pub read_of : DeclParts → Read
 read_of parts = record { items = parts.items.items; fault = parts.fault; rest = parts.rest; line = parts.line }
@@ -25,8 +25,8 @@ passed read said place = record {
 }
 
 -- what is read in the end, where these lines are left: what was read so far, and what they say
-abbrev pub whole : Read → List (List ℕ) → Formed
-whole read left = added read.items (formed read.line (declarations left))
+abbrev pub read_in_the_end : Read → List (List ℕ) → Formed
+read_in_the_end read left = added read.items (formed read.line (declarations left))
 
 -- no line was wrong and none was a write or a `sync` line so far
 pub record IsSoFar (text : List ℕ) (read : Read) : Type 0 where
@@ -39,9 +39,9 @@ pub record IsSoFar (text : List ℕ) (read : Read) : Type 0 where
   pub none : NonePass is_work_line passed
   pub right : NonePass is_wrong passed
   pub counted : read.line ≡ length passed + 1
-  pub whole : whole read (lines (drop read.rest text)) ≡ formed 1 (declarations (lines text))
+  pub whole : read_in_the_end read (lines (drop read.rest text)) ≡ formed 1 (declarations (lines text))
 
 -- more declarations may follow, or all were read
-abbrev pub Goes : Bool → List ℕ → Read → Type 0
-Goes true text read = IsSoFar text read
-Goes false text read = IsReadDecl text read × AreDeclarations read.items
+abbrev pub IsReadSoFar : Bool → List ℕ → Read → Type 0
+IsReadSoFar true text read = IsSoFar text read
+IsReadSoFar false text read = IsReadDecl text read × AreDeclarations read.items

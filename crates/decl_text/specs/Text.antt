@@ -32,9 +32,9 @@ is_some_text (byte ∷ bytes) = true
 abbrev pub between_blanks : List ℕ → List (List ℕ)
 between_blanks line = slice_split is_blank line
 
--- a line is cut at its first blank: this stands before it, and that behind it
-abbrev pub IsCutAtBlank : List ℕ → List ℕ → List ℕ → Type 0
-IsCutAtBlank line front rest = between_blanks line ≡ front ∷ between_blanks rest
+-- the parts of a line are this one and those of the rest
+abbrev pub IsFirstPart : List ℕ → List ℕ → List ℕ → Type 0
+IsFirstPart line front rest = between_blanks line ≡ front ∷ between_blanks rest
 
 -- the words of a line: its maximal parts without blanks
 abbrev pub words : List ℕ → List (List ℕ)

@@ -1,7 +1,7 @@
 //! The declarations of a text.
 ghost use Rattle.std.specs.Prelude.{◌≡◌, ◌+◌, ◌-◌, ◌^◌, ◌<◌, ◌≤◌, true, IfErr, IfOk, length};
 ghost use Rattle.decl_text.specs.declared.reason.ReadFault.TheVariants.{Memory};
-ghost use Rattle.decl_text.specs.Steps.{Goes, IsSoFar, passed, read_of};
+ghost use Rattle.decl_text.specs.Steps.{IsReadSoFar, IsSoFar, passed, read_of};
 ghost use Rattle.decl_text.specs.Read.{AreDeclarations};
 ghost use Rattle.decl_text.specs.Reading.{AreOfLines, ReadsDecl};
 
@@ -92,7 +92,7 @@ impl<'a> DeclParts<'a> {
         requires place { lines.old.place ≡ self.old.rest }
         requires few { length lines.old.text ≤ 4194304 }
         ensures text { lines.new.text ≡ lines.old.text }
-        ensures goes { IfOk result (λ more. Goes more lines.old.text (read_of self.new)) }
+        ensures goes { IfOk result (λ more. IsReadSoFar more lines.old.text (read_of self.new)) }
         ensures place { IfOk result (λ more. more ≡ true → lines.new.place ≡ self.new.rest) }
         ensures on { IfOk result (λ more. more ≡ true → lines.old.place < lines.new.place) }
         ensures within { lines.new.place ≤ length lines.old.text }

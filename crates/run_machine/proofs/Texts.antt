@@ -11,8 +11,8 @@ use Rattle.stack_base.specs.declared.stack.Device.{Device}
 use Rattle.stack_base.specs.declared.stack.Stack.{Stack}
 use Rattle.stack_base.specs.Fault.{bads_of_kind}
 use Rattle.fail_script.specs.Script.{Answers}
-use Rattle.decl_text.specs.Known.{BadOf, Change, Declared, Known, Written}
-use Rattle.decl_text.specs.Accepting.{Means, reserves_or_two, scripts_of, shown_devices}
+use Rattle.decl_text.specs.Known.{BadOf, Change, Declared, Declarations, Written}
+use Rattle.decl_text.specs.Accepting.{MeansStack, reserves_or_two, scripts_of, shown_devices}
 use Rattle.work_text.specs.Work.{as_written, last_round, kept_resizes}
 use Rattle.work_text.specs.Whole.{text_refusal, known_of_text}
 use Rattle.run_machine.specs.Opened.{Scenario, device_at}
@@ -59,7 +59,7 @@ module _ (memory : Global) where
 -- No line of the text is refused, and they say this scenario.
 pub record SaysScenario (text : List ℕ) (s : Scenario) : Type 0 where
   pub right : text_refusal text ≡ None
-  pub means : Means (known_of_text text) s.stack s.scripts
+  pub means : MeansStack (known_of_text text) s.stack s.scripts
   pub writes : map as_written s.writes ≡ (known_of_text text).writes
   pub rounds : s.rounds ≡ (known_of_text text).rounds
   pub changes : s.changes ≡ kept_resizes (last_round (known_of_text text).rounds) (known_of_text text).resizes
@@ -86,7 +86,7 @@ pub record Told : Type 0 where
   pub rounds : List ℕ
   pub changes : List Change
 
-abbrev pub told_in : Known → Told
+abbrev pub told_in : Declarations → Told
 told_in known = record {
   devices = known.devices;
   bad = known.bad;

@@ -8,7 +8,7 @@ use Rattle.stack_base.specs.declared.stack.Device.{Device}
 use Rattle.stack_base.specs.Fault.{bads_of_kind}
 use Rattle.decl_text.specs.Known.{BadOf, Declared, declares_disk}
 use Rattle.decl_text.specs.Checks.{is_disk_device}
-use Rattle.decl_text.specs.Accepting.{shown}
+use Rattle.decl_text.specs.Accepting.{declared_form}
 use Rattle.stack_check.specs.Sound.{AreOfDisks}
 use Rattle.stack_check.specs.Finish.{ranges_of}
 use Rattle.stack_check.proofs.Passing.{push_cases}
@@ -18,20 +18,20 @@ between : {X : Type 0} (front rest : List X) (x : X) → slice_get (front ++ x �
 between [] rest x = refl
 between (y ∷ front) rest x = between front rest x
 
-module _ (all : List Declared) (built : List Device) (next : Declared) (rest : List Declared) (so_far : map shown built ++ next ∷ rest ≡ all) where
+module _ (all : List Declared) (built : List Device) (next : Declared) (rest : List Declared) (so_far : map declared_form built ++ next ∷ rest ≡ all) where
   -- the next device has the number that the count of those built is
   pub next_at : slice_get all (length built) ≡ Some next
-  next_at = ap (slice_get all) (sym (length-map built shown)) ∙ ap (λ ds. slice_get ds (length (map shown built))) (sym so_far) ∙ between (map shown built) rest next
+  next_at = ap (slice_get all) (sym (length-map built declared_form)) ∙ ap (λ ds. slice_get ds (length (map declared_form built))) (sym so_far) ∙ between (map declared_form built) rest next
 
   pub built_few : length all ≤ 32 → length built < 32
-  built_few few = omega (arith, ap length so_far, length-append (map shown built) (next ∷ rest), length-map built shown)
+  built_few few = omega (arith, ap length so_far, length-append (map declared_form built) (next ∷ rest), length-map built declared_form)
 
   -- and once it is built, the rest is left
-  pub built_more : (device : Device) (more : List Device) → more ≡ built ++ device ∷ [] → shown device ≡ next → map shown more ++ rest ≡ all
+  pub built_more : (device : Device) (more : List Device) → more ≡ built ++ device ∷ [] → declared_form device ≡ next → map declared_form more ++ rest ≡ all
   built_more device more is same =
-      ap (λ ds. map shown ds ++ rest) is ∙ ap (λ ds. ds ++ rest) (map_push shown built device)
-      ∙ ap (λ d. (map shown built ++ d ∷ []) ++ rest) same
-      ∙ append_assoc (map shown built) (next ∷ []) rest ∙ so_far
+      ap (λ ds. map declared_form ds ++ rest) is ∙ ap (λ ds. ds ++ rest) (map_push declared_form built device)
+      ∙ ap (λ d. (map declared_form built ++ d ∷ []) ++ rest) same
+      ∙ append_assoc (map declared_form built) (next ∷ []) rest ∙ so_far
 
 clean : (all : List Declared) (n : ℕ) (device : Declared) (k : ℕ) → slice_get all n ≡ Some device → declares_disk device.what ≡ false → is_disk_device (slice_get all k) ≡ true → k ≡ n → ⊥
 clean all n device k found other disk same =

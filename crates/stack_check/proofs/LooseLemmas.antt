@@ -4,7 +4,7 @@ use Rattle.std.specs.Prelude.{filter}
 use Rattle.std.specs.Option.{option_map, option_or}
 use Rattle.decl_text.specs.Text.{words}
 use Rattle.decl_text.specs.Items.{said}
-use Rattle.decl_text.specs.Known.{Known, after_line, nothing}
+use Rattle.decl_text.specs.Known.{Declarations, after_line, nothing}
 use Rattle.decl_text.specs.Reasons.{number_of_reason}
 use Rattle.decl_text.specs.Refusals.{Check, first_found, item_checks, line_reason, refusal, refused, said_reason}
 use Rattle.decl_text.specs.Accepting.{loose_checks}
@@ -14,14 +14,14 @@ use Rattle.decl_text.specs.declared.reason.Reason.{Reason}
 use Rattle.decl_text.specs.declared.reason.Refusal.{Refusal}
 
 kept :
-    (b : Bool) (check : Check Item) (checks : List (Check Item)) (known : Known) (said : Item) → check.finds known said ≡ false → first_found checks known said ≡ None
+    (b : Bool) (check : Check Item) (checks : List (Check Item)) (known : Declarations) (said : Item) → check.finds known said ≡ false → first_found checks known said ≡ None
     → first_found (cond b (check ∷ checks) checks) known said ≡ None
 unfolding first_found
 kept true check checks known said right none = ap (λ f. cond f (Some check.reason) (first_found checks known said)) right ∙ none
 kept false check checks known said right none = none
 
 some_checks :
-    (keeps : Check Item → Bool) (checks : List (Check Item)) (known : Known) (said : Item) → first_found checks known said ≡ None
+    (keeps : Check Item → Bool) (checks : List (Check Item)) (known : Declarations) (said : Item) → first_found checks known said ≡ None
     → first_found (filter keeps checks) known said ≡ None
 unfolding first_found
 some_checks keeps [] known said none = refl
@@ -35,12 +35,12 @@ map_or_none number None rest none = (refl, none)
 map_or_none number (Some reason) rest none = absurd (grind arith)
 
 some_reason :
-    (keeps : Check Item → Bool) (checks : List (Check Item)) (known : Known) (o : Option Item) → said_reason checks known o ≡ None → said_reason (filter keeps checks) known o ≡ None
+    (keeps : Check Item → Bool) (checks : List (Check Item)) (known : Declarations) (o : Option Item) → said_reason checks known o ≡ None → said_reason (filter keeps checks) known o ≡ None
 some_reason keeps checks known None none = refl
 some_reason keeps checks known (Some said) none = some_checks keeps checks known said none
 
 some_pass :
-    (keeps : Check Item → Bool) (checks : List (Check Item)) (known : Known) (number : ℕ) (all : List (List ℕ)) → refusal checks known number all ≡ None
+    (keeps : Check Item → Bool) (checks : List (Check Item)) (known : Declarations) (number : ℕ) (all : List (List ℕ)) → refusal checks known number all ≡ None
     → refusal (filter keeps checks) known number all ≡ None
 unfolding refusal
 some_pass keeps checks known number [] none = refl

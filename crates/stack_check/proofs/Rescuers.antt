@@ -14,9 +14,9 @@ use Rattle.fail_script.specs.Script.{Answers}
 use Rattle.stack_base.specs.declared.ids.PoolId.{PoolId}
 use Rattle.decl_text.specs.Text.{words}
 use Rattle.decl_text.specs.Items.{said}
-use Rattle.decl_text.specs.Known.{Known, Declared, after_line, declared, declares_mirror, nothing, number_in}
+use Rattle.decl_text.specs.Known.{Declarations, Declared, after_line, declared, declares_mirror, nothing, number_in}
 use Rattle.decl_text.specs.Checks.{needs_rescuer}
-use Rattle.decl_text.specs.Accepting.{Means, shown, what_of_kind}
+use Rattle.decl_text.specs.Accepting.{MeansStack, declared_form, what_of_kind}
 use Rattle.decl_text.specs.Refusals.{check, item_checks, known_after, refusal, said_reason}
 use Rattle.decl_text.specs.declared.item.Item.{Item}
 use Rattle.decl_text.specs.declared.item.Item.TheVariants as item
@@ -28,7 +28,7 @@ use Rattle.decl_text.proofs.Unrefused.{finds_nothing, kept_behind, line_passes}
 abbrev IsHelped : Declared → Type 0
 IsHelped device = declares_mirror device.what ≡ true → 2 ≤ length device.members → device.rescuer ≡ true
 
-abbrev AreHelped : Known → Type 0
+abbrev AreHelped : Declarations → Type 0
 AreHelped known = (number : ℕ) (device : Declared) → slice_get known.devices number ≡ Some device → IsHelped device
 
 helped_by : (mirror two rescuer : Bool) → (mirror && two && not rescuer) ≡ false → mirror ≡ true → two ≡ true → rescuer ≡ true
@@ -40,7 +40,7 @@ helped_more : (devices : List Declared) (device next : Declared) (number : ℕ) 
 helped_more devices device next number all one (before found lt) = all number next found
 helped_more devices device next number all one (last at is) = subst IsHelped is one
 
-after_helped : (known : Known) (o : Option Item) → said_reason item_checks known o ≡ None → AreHelped known → AreHelped (after_line known o)
+after_helped : (known : Declarations) (o : Option Item) → said_reason item_checks known o ≡ None → AreHelped known → AreHelped (after_line known o)
 after_helped known None none all = all
 after_helped known (Some (item.Device name does members reserve rescuer)) none all =
     let said = item.Device name does members reserve rescuer in
@@ -62,12 +62,12 @@ lines_helped all none =
     kept_behind item_checks AreHelped (λ known line fine helped. after_helped known (said (words line)) (line_passes item_checks known line fine).1 helped) nothing 1 all none
     (λ number device found. absurd (grind arith))
 
-pub stack_helped : (all : List (List ℕ)) (stack : Stack) (scripts : List (PoolId × Answers)) → refusal item_checks nothing 1 all ≡ None → Means (known_after nothing all) stack scripts
+pub stack_helped : (all : List (List ℕ)) (stack : Stack) (scripts : List (PoolId × Answers)) → refusal item_checks nothing 1 all ≡ None → MeansStack (known_after nothing all) stack scripts
     → HasRescuers stack
 stack_helped all stack scripts none means = λ number records device found mirror many.
-    let here : slice_get (known_after nothing all).devices number ≡ Some (shown device) =
-    ap (λ (ds : List Declared). slice_get ds number) (sym means.devices) ∙ slice_get-map shown stack.devices.items number ∙ ap (option_map shown) found in
-    lines_helped all none number (shown device) here (ap (λ (k : Kind). declares_mirror (what_of_kind k)) mirror) (omega (arith, many, length-map device.members.items (λ (m : DevId). m.0)))
+    let here : slice_get (known_after nothing all).devices number ≡ Some (declared_form device) =
+    ap (λ (ds : List Declared). slice_get ds number) (sym means.devices) ∙ slice_get-map declared_form stack.devices.items number ∙ ap (option_map declared_form) found in
+    lines_helped all none number (declared_form device) here (ap (λ (k : Kind). declares_mirror (what_of_kind k)) mirror) (omega (arith, many, length-map device.members.items (λ (m : DevId). m.0)))
 
 pub HasRescuers-prop : (stack : Stack) → IsProp (HasRescuers stack)
 HasRescuers-prop stack = hlevel Bool-set

@@ -17,7 +17,7 @@ use Rattle.stack_base.specs.Tree.{Leaf, size}
 use Rattle.stack_base.proofs.DeclaredBounds.{declared_stack}
 use Rattle.decl_text.specs.Known.{Declared, sectors_of, trees}
 use Rattle.decl_text.specs.Checks.{all_sectors, has_count}
-use Rattle.decl_text.specs.Accepting.{shown, shown_devices, what_of_kind}
+use Rattle.decl_text.specs.Accepting.{declared_form, shown_devices, what_of_kind}
 use Rattle.decl_text.proofs.ShownTrees.{shown_trees}
 use Rattle.stack_check.specs.Sound.{AreSound, IsFit, HasNumbers}
 use Rattle.stack_check.proofs.MembersOnce.{IsMemberOf, member_once}
@@ -52,41 +52,41 @@ own_is (kind.Zoned chunk) = refl
 own_is (kind.Limit longest chunk) = refl
 own_is (kind.Mirror records) = refl
 
-all_own : (devices : List Device) → sum (map (λ (device : Device). own_sectors device.kind) devices) ≡ all_sectors (map shown devices)
+all_own : (devices : List Device) → sum (map (λ (device : Device). own_sectors device.kind) devices) ≡ all_sectors (map declared_form devices)
 all_own [] = refl
 all_own (device ∷ devices) =
     omega (
       arith,
       sum_by-cons (λ (n : ℕ). n) (own_sectors device.kind) (map (λ (d : Device). own_sectors d.kind) devices),
-      sum_by-cons (λ (d : Declared). sectors_of d.what) (shown device) (map shown devices),
+      sum_by-cons (λ (d : Declared). sectors_of d.what) (declared_form device) (map declared_form devices),
       own_is device.kind,
       all_own devices,
     )
 
 module _ (stack : Stack) (sound : AreSound (shown_devices stack)) where
-  shown_at : (number : ℕ) (device : Device) → slice_get stack.devices.items number ≡ Some device → slice_get (shown_devices stack) number ≡ Some (shown device)
-  shown_at number device found = seen_at shown stack.devices.items number device found
+  shown_at : (number : ℕ) (device : Device) → slice_get stack.devices.items number ≡ Some device → slice_get (shown_devices stack) number ≡ Some (declared_form device)
+  shown_at number device found = seen_at declared_form stack.devices.items number device found
 
   goes_down : (number : ℕ) (device : Device) (i : ℕ) (m : DevId) → slice_get stack.devices.items number ≡ Some device → slice_get device.members.items i ≡ Some m → m.0 < number
   goes_down number device i m found is =
-      sound.below number i m.0 (shown device) (shown_at number device found) (seen_at (λ (id : DevId). id.0) device.members.items i m is)
+      sound.below number i m.0 (declared_form device) (shown_at number device found) (seen_at (λ (id : DevId). id.0) device.members.items i m is)
 
   shape_at : (number : ℕ) (device : Device) → slice_get stack.devices.items number ≡ Some device → HasShape device.kind (length device.members.items)
   shape_at number device found =
       let here = shown_at number device found in
-      let fit : IsFit (shown device) =
-      subst IsFit (get_or_from_slice_get (shown_devices stack) number (shown device) (shown device) here)
-      (sound.fit number (shown device) (slice_get_within (shown_devices stack) number (shown device) here)) in
+      let fit : IsFit (declared_form device) =
+      subst IsFit (get_or_from_slice_get (shown_devices stack) number (declared_form device) (declared_form device) here)
+      (sound.fit number (declared_form device) (slice_get_within (shown_devices stack) number (declared_form device) here)) in
       has_shape device.kind (length device.members.items) fit.numbers
       (ap (has_count (what_of_kind device.kind)) (sym (length-map device.members.items (λ (id : DevId). id.0))) ∙ fit.count)
 
   member_shown : (d i m : ℕ) → IsMember stack d i m → IsMemberOf (shown_devices stack) d i m
   member_shown d i m one =
-      (shown one.0, shown_at d one.0 one.1, seen_at (λ (id : DevId). id.0) one.0.members.items i (record { 0 = m }) one.2)
+      (declared_form one.0, shown_at d one.0 one.1, seen_at (λ (id : DevId). id.0) one.0.members.items i (record { 0 = m }) one.2)
 
   is_declared : IsDeclared stack
   is_declared = record {
-    few = omega (arith, sound.few, length-map stack.devices.items shown);
+    few = omega (arith, sound.few, length-map stack.devices.items declared_form);
     below = goes_down;
     shape = shape_at;
     once = λ p q i j m one other. member_once (shown_devices stack) sound.once p q i j m (member_shown p i m one) (member_shown q j m other);
@@ -94,7 +94,7 @@ module _ (stack : Stack) (sound : AreSound (shown_devices stack)) where
   }
 
   within : (number : ℕ) → number < length stack.devices.items → number < length (trees (shown_devices stack))
-  within number lt = omega (arith, trees_length (shown_devices stack), length-map stack.devices.items shown)
+  within number lt = omega (arith, trees_length (shown_devices stack), length-map stack.devices.items declared_form)
 
   -- the sizes of the trees that were declared are those of the stack's
   keeps_sizes : stack.sizes.items ≡ map size (trees (shown_devices stack)) → KeepsSizes stack

@@ -8,7 +8,7 @@ use Rattle.decl_text.specs.Reading.{refusal_of_items, known_of_items}
 use Rattle.decl_text.specs.declared.accepted.Accepted.{Accepted}
 use Rattle.decl_text.specs.declared.reason.ReadFault.{ReadFault}
 use Rattle.decl_text.specs.declared.reason.ReadFault.TheVariants.{Refused, Memory}
-use Rattle.decl_text.specs.Accepting.{Means, checks_for}
+use Rattle.decl_text.specs.Accepting.{MeansStack, checks_for}
 
 -- each mirror of two members or more has a rescuer, where the checks ask for them
 abbrev pub HasRescuersAsked : Bool → Stack → Type 0
@@ -19,7 +19,7 @@ HasRescuersAsked false stack = HasRescuers stack
 abbrev pub AcceptsBy : Bool → Read → Result Accepted ReadFault → Type 0
 AcceptsBy loose decl (Ok accepted) =
     (refusal_of_items (checks_for loose) nothing decl.items decl.fault ≡ None)
-    × Means (known_of_items nothing decl.items) accepted.stack accepted.scripts.items
+    × MeansStack (known_of_items nothing decl.items) accepted.stack accepted.scripts.items
     × HasRescuersAsked loose accepted.stack × (accepted.rest ≡ decl.rest) × (accepted.line ≡ decl.line)
 AcceptsBy loose decl (Err (Refused refusal)) = refusal_of_items (checks_for loose) nothing decl.items decl.fault ≡ Some refusal
 AcceptsBy loose decl (Err Memory) = Unit {0}

@@ -1,6 +1,6 @@
 -- What one more line does to what is known.
 use Rattle.std.specs.Prelude.{◌≡◌, Bool, Result, Ok, Err, None, Some}
-use Rattle.decl_text.specs.Known.{Known, after}
+use Rattle.decl_text.specs.Known.{Declarations, after}
 use Rattle.std.specs.Option.{option_map}
 use Rattle.decl_text.specs.Refusals.{first_found, refused}
 use Rattle.decl_text.specs.Accepting.{checks_for}
@@ -13,13 +13,13 @@ use Rattle.stack_check.specs.declared.fault.AddFault.{AddFault}
 use Rattle.stack_check.specs.declared.fault.AddFault.TheVariants.{Wrong, Memory}
 
 -- no check finds anything and it is known too; or this is the reason of the first that does
-abbrev pub Adds : Bool → Known → Item → Known → Result (Unit {0}) AddFault → Type 0
+abbrev pub Adds : Bool → Declarations → Item → Declarations → Result (Unit {0}) AddFault → Type 0
 Adds loose old said new (Ok done) = (first_found (checks_for loose) old said ≡ None) × (new ≡ after old said)
 Adds loose old said new (Err (Wrong reason)) = first_found (checks_for loose) old said ≡ Some reason
 Adds loose old said new (Err Memory) = Unit {0}
 
 -- the same of a line with its number
-abbrev pub AddsLine : Bool → Known → Numbered → Known → Result (Unit {0}) ReadFault → Type 0
+abbrev pub AddsLine : Bool → Declarations → Numbered → Declarations → Result (Unit {0}) ReadFault → Type 0
 AddsLine loose old next new (Ok done) = (first_found (checks_for loose) old next.item ≡ None) × (new ≡ after old next.item)
 AddsLine loose old next new (Err (Refused refusal)) = option_map (refused next.line) (first_found (checks_for loose) old next.item) ≡ Some refusal
 AddsLine loose old next new (Err fault.Memory) = Unit {0}

@@ -8,7 +8,7 @@ use Rattle.stack_base.specs.declared.ids.PoolId.{PoolId}
 use Rattle.stack_base.specs.declared.stack.Device.{Device}
 use Rattle.stack_base.specs.Fault.{bads_of_kind}
 use Rattle.decl_text.specs.Known.{BadOf, Declared, Scripted}
-use Rattle.decl_text.specs.Accepting.{pools, shown}
+use Rattle.decl_text.specs.Accepting.{pools, declared_form}
 use Rattle.decl_text.specs.Checks.{is_of_pool}
 
 -- the script of a pool: the one given to it, or one of this tail alone
@@ -29,9 +29,9 @@ ranges_of bad number = map (λ b. b.bad) (filter (λ b. b.disk == number) bad)
 
 -- the device is the one declared, with these bad ranges
 abbrev pub IsBuilt : Declared → List Bad → Device → Type 0
-IsBuilt device bad built = (shown built ≡ device) × (bads_of_kind built.kind ≡ bad)
+IsBuilt device bad built = (declared_form built ≡ device) × (bads_of_kind built.kind ≡ bad)
 
 -- these devices are those declared, with the bad ranges of their numbers
 pub record AreBuilt (devices : List Declared) (bad : List BadOf) (built : List Device) : Type 0 where
-  pub shown : map shown built ≡ devices
+  pub shown : map declared_form built ≡ devices
   pub ranges : (number : ℕ) (device : Device) → slice_get built number ≡ Some device → bads_of_kind device.kind ≡ ranges_of bad number

@@ -70,10 +70,10 @@ pub(crate) struct Draft<'a> {
 
 impl<'a> Model for Draft<'a> {
     ghost use Rattle.std.specs.Prelude.{[]};
-    ghost use Rattle.decl_text.specs.Known.{Known};
+    ghost use Rattle.decl_text.specs.Known.{Declarations};
     ghost use Rattle.stack_check.specs.Sound.{AreOfDisks, HasFewElements};
 
-    ghost Value = { Known };
+    ghost Value = { Declarations };
 
     ghost view = { λ draft. record { devices = draft.devices; fs = draft.fs; bad = draft.bad.items; scripts = draft.scripts; no_memory = draft.no_memory; writes = []; rounds = []; syncs = 0; resizes = [] } };
 

@@ -1,7 +1,7 @@
 //! The stack and the scripts that a draft means.
 ghost use Rattle.std.specs.Prelude.{◌≡◌, true, IfOk};
 ghost use Rattle.stack_base.specs.Stack.{IsStack};
-ghost use Rattle.decl_text.specs.Accepting.{Means, reserves_or_two};
+ghost use Rattle.decl_text.specs.Accepting.{MeansStack, reserves_or_two};
 ghost use Rattle.stack_check.specs.Drafting.{IsDeclaredBy};
 
 use crate::built::devices_of;
@@ -20,7 +20,7 @@ pub(crate) fn finish(
     line: u64,
 ) -> Result<Accepted, AllocError>
     requires { ∥ IsDeclaredBy true draft ∥₁ }
-    ensures means { IfOk result (λ accepted. Means draft.entry accepted.stack accepted.scripts.items) }
+    ensures means { IfOk result (λ accepted. MeansStack draft.entry accepted.stack accepted.scripts.items) }
     ensures rest { IfOk result (λ accepted. (accepted.rest ≡ rest) × (accepted.line ≡ line)) }
 {
     let (stack, scripts) = meaning(alloc, draft)?;
@@ -34,7 +34,7 @@ pub(crate) fn finish(
 
 /// The stack and the scripts of all pools, by falling number.
 fn meaning(alloc: Global, draft: Draft<'_>) -> Result<(Stack, Vec<(PoolId, Script)>), AllocError>
-    ensures { IfOk result (λ made. Means draft.entry made.0 made.1.items × IsStack made.0) }
+    ensures { IfOk result (λ made. MeansStack draft.entry made.0 made.1.items × IsStack made.0) }
 {
     let Draft {
         devices,

@@ -2,7 +2,7 @@
 use Rattle.std.proofs.Common.{◌≡◌, ◌+◌, ◌-◌, ◌++◌, ◌<◌, ℕ, true, false, List, [], ◌∷◌, take, drop, refl, sym, ap, ◌∙◌, arith}
 use Rattle.std.specs.List.{before_first}
 use Rattle.std.proofs.lemmas.List.{drop_all, length-take-le, take-append-drop}
-use Rattle.decl_text.specs.Places.{TextPlace, left}
+use Rattle.decl_text.specs.Places.{TextPlace, text_left}
 use Rattle.decl_text.specs.Text.{lines}
 use Rattle.decl_text.proofs.Cuts.{before_append, none_before, none_pass_one_more}
 use Rattle.decl_text.proofs.SplitLemmas.{no_lines}
@@ -42,12 +42,12 @@ further text line place next number behind on is cut none = record {
 }
 
 -- what is left at a place
-pub left_at : (text : List ℕ) (at : TextPlace) (place : ℕ) → at.text ≡ text → at.place ≡ place → lines (drop place text) ≡ lines (left at)
+pub left_at : (text : List ℕ) (at : TextPlace) (place : ℕ) → at.text ≡ text → at.place ≡ place → lines (drop place text) ≡ lines (text_left at)
 left_at text at place same is = ap (λ n. lines (drop n text)) (sym is) ∙ ap (λ t. lines (drop at.place t)) (sym same)
 
 -- the same of a walk over the lines
 pub goes_on : (text line : List ℕ) (old new : TextPlace) (place next number : ℕ) → HasNoEventBefore text place number → old.text ≡ text → new.text ≡ old.text → old.place ≡ place
-    → next ≡ new.place → old.place < new.place → lines (left old) ≡ line ∷ lines (left new)
+    → next ≡ new.place → old.place < new.place → lines (text_left old) ≡ line ∷ lines (text_left new)
     → ((more : ℕ) → lines (drop old.place (take (new.place + more) old.text)) ≡ line ∷ lines (drop new.place (take (new.place + more) old.text)))
     → is_told line ≡ false → HasNoEventBefore text next (number + 1)
 goes_on text line old new place next number behind same still at next_is on is cut none =

@@ -6,7 +6,7 @@ use Rattle.std.proofs.lemmas.Slice.Eq.{bytes_eq-Decides}
 use Rattle.decl_text.specs.Checks.{bad_word}
 use Rattle.decl_text.specs.Commands.{command_of}
 use Rattle.decl_text.specs.Items.{malformed, said}
-use Rattle.decl_text.specs.Known.{Known, after_line, nothing}
+use Rattle.decl_text.specs.Known.{Declarations, after_line, nothing}
 use Rattle.decl_text.specs.Reading.{NonePass}
 use Rattle.decl_text.specs.Refusals.{Check, check, line_checks, line_reason, refusal, refused}
 use Rattle.decl_text.specs.Stands.{stand_of, misplaced}
@@ -27,12 +27,12 @@ words_wrong : (all : List (List ℕ)) → begins_event all ≡ true → malforme
 words_wrong [] is = absurd (true≢false (sym is))
 words_wrong (word ∷ rest) is = subst (λ (w : List ℕ). malformed (w ∷ rest) ≡ true) (sym ((bytes_eq-Decides word (codes "event")).0 is)) (no_command rest)
 
-line_none : (checks : List (Check Item)) (known : Known) (line : List ℕ) → line_reason checks known line ≡ None → is_told line ≡ false
+line_none : (checks : List (Check Item)) (known : Declarations) (line : List ℕ) → line_reason checks known line ≡ None → is_told line ≡ false
 line_none checks known line none =
     let right : bad_word known line ≡ false = finds_nothing line_checks known line 1 (check BadWord bad_word) (line_passes checks known line none).0 refl in
     false_from_ne_true (is_told line) (λ is. true≢false (sym (ap (λ b. b || misplaced (stand_of known) (words line)) (words_wrong (words line) is)) ∙ right))
 
-lines_none : (checks : List (Check Item)) (known : Known) (number : ℕ) (all : List (List ℕ)) → refusal checks known number all ≡ None → NonePass is_told all
+lines_none : (checks : List (Check Item)) (known : Declarations) (number : ℕ) (all : List (List ℕ)) → refusal checks known number all ≡ None → NonePass is_told all
 lines_none checks known number [] none = tt
 lines_none checks known number (line ∷ left) none =
     let parts = none_refused checks known number line left none in

@@ -8,7 +8,7 @@ use Rattle.std.proofs.lemmas.List.Elements.{All-head, All-tail, filter-append}
 use Rattle.elem_ledger.specs.Ledger.{LedgerId}
 use Rattle.stack_base.specs.declared.stack.Stack.{Stack}
 use Rattle.decl_text.specs.Reading.{NonePass}
-use Rattle.decl_text.specs.Steps.{Begins}
+use Rattle.decl_text.specs.Steps.{FirstPasses}
 use Rattle.decl_text.specs.Text.{lines}
 use Rattle.decl_text.proofs.Cuts.{before_is}
 use Rattle.run_machine.specs.declared.event.Event.{Event}
@@ -78,7 +78,7 @@ module _ (stack : Stack) (named : DevicesAreNamed stack) (text_lines : LinesAreT
         ∙ append-nil (filter is_told (map (line_of_event stack) events))
         ∙ all_told events
 
-    begins : (events : List Event) → 0 < length events → Begins is_told (map (line_of_event stack) events ++ lines report)
+    begins : (events : List Event) → 0 < length events → FirstPasses is_told (map (line_of_event stack) events ++ lines report)
     begins [] some = absurd (omega (arith, some))
     begins (event ∷ events) some = refl
 

@@ -17,7 +17,7 @@ use Rattle.layout_model.specs.Writes.{IsWrite}
 use Rattle.layout_model.proofs.WriteSizes.{parts_le_elements}
 use Rattle.decl_text.specs.Accepting.{shown_devices}
 use Rattle.decl_text.specs.Checks.{is_among, shares}
-use Rattle.decl_text.specs.Known.{Known, Written, all_members, device_of, present, tree_of}
+use Rattle.decl_text.specs.Known.{Declarations, Written, all_members, device_of, present, tree_of}
 use Rattle.decl_text.specs.Refusals.{first_found}
 use Rattle.decl_text.specs.declared.reason.Reason.{Reason}
 use Rattle.decl_text.specs.declared.reason.Reason.TheVariants as reason
@@ -98,21 +98,21 @@ row_of member past shared long much =
     cond member (Some reason.NotATop) (cond past (Some reason.PastEnd) (cond shared (Some reason.Overlap)
     (cond long (Some reason.TooManySegments) (cond much (Some reason.TooMuchWork) None))))
 
-abbrev at_number : Known → ℕ → ℕ → ℕ → ℕ → ℕ → Option Reason
+abbrev at_number : Declarations → ℕ → ℕ → ℕ → ℕ → ℕ → Option Reason
 at_number known task start count tag n =
     row_of (is_among (all_members known.devices) n) (nat_lt (size (tree_of known.devices n)) (start + count)) (list_any (shares n start count) (present known)) (nat_lt 2048 count)
     (nat_lt most_elements (sum_by (elements_in known.devices) known.writes + elements_in known.devices (record { task = task; dev = n; start = start; count = count; tag = tag })))
 
-abbrev by_place : Known → ℕ → ℕ → ℕ → ℕ → Option ℕ → Option Reason
+abbrev by_place : Declarations → ℕ → ℕ → ℕ → ℕ → Option ℕ → Option Reason
 by_place known task start count tag place = cond (is_none place || false) (Some reason.NoSuchDevice) (at_number known task start count tag (unwrap_or place 0))
 
-found_by : (known : Known) (name : List ℕ) (task start count tag : ℕ)
+found_by : (known : Declarations) (name : List ℕ) (task start count tag : ℕ)
     → first_found all_checks known (item.Write task name (record { start = start; len = count }) tag) ≡ by_place known task start count tag (device_of known.devices name)
 unfolding first_found
 found_by known name task start count tag = refl
 
 -- no device has the name
-pub found_nowhere : (known : Known) (name : List ℕ) (task start count tag : ℕ) → device_of known.devices name ≡ None
+pub found_nowhere : (known : Declarations) (name : List ℕ) (task start count tag : ℕ) → device_of known.devices name ≡ None
     → first_found all_checks known (item.Write task name (record { start = start; len = count }) tag) ≡ Some reason.NoSuchDevice
 found_nowhere known name task start count tag none = found_by known name task start count tag ∙ ap (by_place known task start count tag) none
 

@@ -23,7 +23,7 @@ use Rattle.decl_text.specs.Items.{said}
 use Rattle.decl_text.specs.Accepting.{shown_devices}
 use Rattle.decl_text.specs.Checks.{is_among, not_a_top, reserve_zero, shares, too_large, too_many_segments}
 use Rattle.decl_text.specs.Fit.{IsReserve}
-use Rattle.decl_text.specs.Known.{Known, Declared, Change, Written, after_line, all_members, bios_pool_of, device_before, number_in, pool_if, declared_pool, records_pool_of}
+use Rattle.decl_text.specs.Known.{Declarations, Declared, Change, Written, after_line, all_members, bios_pool_of, device_before, number_in, pool_if, declared_pool, records_pool_of}
 use Rattle.decl_text.specs.Reading.{declarations}
 use Rattle.decl_text.specs.Refusals.{check, known_after, refusal, said_reason}
 use Rattle.decl_text.specs.Stands.{stand_of}
@@ -54,7 +54,7 @@ record IsFitResize (devices : List Declared) (resize : Change) : Type 0 where
   min : IsReserve resize.min
   pool : IsPoolIn devices resize.pool
 
-record IsFit (known : Known) : Type 0 where
+record IsFit (known : Declarations) : Type 0 where
   paired : length known.rounds ≡ length known.writes
   writes : All (IsFitWrite known.devices) known.writes
   order : AllPairs (λ round later. round ≤ later) known.rounds
@@ -64,16 +64,16 @@ record IsFit (known : Known) : Type 0 where
   few : length known.resizes ≤ 4096
 
 -- the checks by their places
-too_small : (known : Known) (said : Item) → said_reason all_checks known (Some said) ≡ None → too_large known said ≡ false
+too_small : (known : Declarations) (said : Item) → said_reason all_checks known (Some said) ≡ None → too_large known said ≡ false
 too_small known said none = finds_nothing all_checks known said 4 (check reason.TooLarge too_large) none refl
 
-some_kept : (known : Known) (said : Item) → said_reason all_checks known (Some said) ≡ None → reserve_zero known said ≡ false
+some_kept : (known : Declarations) (said : Item) → said_reason all_checks known (Some said) ≡ None → reserve_zero known said ≡ false
 some_kept known said none = finds_nothing all_checks known said 6 (check reason.ReserveZero reserve_zero) none refl
 
-is_top : (known : Known) (said : Item) → said_reason all_checks known (Some said) ≡ None → not_a_top known said ≡ false
+is_top : (known : Declarations) (said : Item) → said_reason all_checks known (Some said) ≡ None → not_a_top known said ≡ false
 is_top known said none = finds_nothing all_checks known said 8 (check reason.NotATop not_a_top) none refl
 
-few_segments : (known : Known) (said : Item) → said_reason all_checks known (Some said) ≡ None → too_many_segments known said ≡ false
+few_segments : (known : Declarations) (said : Item) → said_reason all_checks known (Some said) ≡ None → too_many_segments known said ≡ false
 few_segments known said none = finds_nothing all_checks known said 11 (check reason.TooManySegments too_many_segments) none refl
 
 -- a pool of a device is told by the device's number
@@ -129,7 +129,7 @@ pool_in devices word pool found =
     (device_before (codes ".records") devices word) pool found
 
 -- one more reserve
-more_reserves : (known : Known) (pool : List ℕ) (min : ℕ) → IsFit known → IsReserve min → length known.resizes < 4096
+more_reserves : (known : Declarations) (pool : List ℕ) (min : ℕ) → IsFit known → IsReserve min → length known.resizes < 4096
     → All (IsFitResize known.devices) (after_line known (Some (item.Resize pool min))).resizes × (length (after_line known (Some (item.Resize pool min))).resizes ≤ 4096)
 more_reserves known pool min fit one few = by_pool (declared_pool known.devices pool) (pool_in known.devices pool)
   where
@@ -142,7 +142,7 @@ more_reserves known pool min fit one few = by_pool (declared_pool known.devices 
     )
 
 -- a line that passes all checks keeps this
-after_fit : (known : Known) (o : Option Item) → Works o → said_reason all_checks known o ≡ None → IsFit known → IsFit (after_line known o)
+after_fit : (known : Declarations) (o : Option Item) → Works o → said_reason all_checks known o ≡ None → IsFit known → IsFit (after_line known o)
 after_fit known None works none fit = fit
 after_fit known (Some (item.Write task dev range tag)) works none fit =
     let said = item.Write task dev range tag in
@@ -186,7 +186,7 @@ after_fit known (Some (item.Resize pool min)) works none fit =
     }
 after_fit known _ works none fit = absurd works
 
-lines_fit : (known : Known) (number : ℕ) (lines : List (List ℕ)) → (stand_of known ≡ Front → declarations lines ≡ []) → refusal all_checks known number lines ≡ None → IsFit known
+lines_fit : (known : Declarations) (number : ℕ) (lines : List (List ℕ)) → (stand_of known ≡ Front → declarations lines ≡ []) → refusal all_checks known number lines ≡ None → IsFit known
     → IsFit (known_after known lines)
 lines_fit known number [] begins none fit = fit
 lines_fit known number (line ∷ lines) begins none fit =
@@ -208,14 +208,14 @@ nothing_fits stack = record {
 }
 
 -- the devices stay those of the stack
-after_devices : (known : Known) (o : Option Item) → Works o → (after_line known o).devices ≡ known.devices
+after_devices : (known : Declarations) (o : Option Item) → Works o → (after_line known o).devices ≡ known.devices
 after_devices known None works = refl
 after_devices known (Some (item.Write task dev range tag)) works = refl
 after_devices known (Some item.Sync) works = refl
 after_devices known (Some (item.Resize pool min)) works = refl
 after_devices known _ works = absurd works
 
-lines_devices : (known : Known) (number : ℕ) (lines : List (List ℕ)) → (stand_of known ≡ Front → declarations lines ≡ []) → refusal all_checks known number lines ≡ None
+lines_devices : (known : Declarations) (number : ℕ) (lines : List (List ℕ)) → (stand_of known ≡ Front → declarations lines ≡ []) → refusal all_checks known number lines ≡ None
     → length known.rounds ≡ length known.writes → (known_after known lines).devices ≡ known.devices
 lines_devices known number [] begins none paired = refl
 lines_devices known number (line ∷ lines) begins none paired =

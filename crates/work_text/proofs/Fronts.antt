@@ -5,7 +5,7 @@ use Rattle.std.specs.Option.{option_map, option_or}
 use Rattle.std.proofs.lemmas.List.Sums.{fold-append}
 use Rattle.decl_text.specs.Text.{words}
 use Rattle.decl_text.specs.Items.{said}
-use Rattle.decl_text.specs.Known.{Known, after_line}
+use Rattle.decl_text.specs.Known.{Declarations, after_line}
 use Rattle.decl_text.specs.Read.{IsDeclaration}
 use Rattle.decl_text.specs.Reading.{NonePass, is_work_line}
 use Rattle.decl_text.specs.Refusals.{Check, check, first_found, line_checks, said_reason, refused, refusal, known_after}
@@ -23,7 +23,7 @@ or_assoc None b c = refl
 or_assoc (Some a) b c = refl
 
 -- the refusal of joined lines is the first one's, or else the second one's behind what is known then
-pub refusal-append : (checks : List (Check Item)) (known : Known) (number : ℕ) (front back : List (List ℕ))
+pub refusal-append : (checks : List (Check Item)) (known : Declarations) (number : ℕ) (front back : List (List ℕ))
     → refusal checks known number (front ++ back)
     ≡ option_or (refusal checks known number front) (refusal checks (known_after known front) (number + length front) back)
 unfolding refusal
@@ -36,11 +36,11 @@ refusal-append checks known number (line ∷ lines) back =
     ∙ or_assoc here (refusal checks behind (number + 1) lines) (refusal checks (known_after behind lines) ((number + 1) + length lines) back)
     ∙ ap (λ n. option_or (option_or here (refusal checks behind (number + 1) lines)) (refusal checks (known_after behind lines) n back)) place
 
-pub known-append : (known : Known) (front back : List (List ℕ)) → known_after known (front ++ back) ≡ known_after (known_after known front) back
+pub known-append : (known : Declarations) (front back : List (List ℕ)) → known_after known (front ++ back) ≡ known_after (known_after known front) back
 known-append known front back = fold-append (λ so_far line. after_line so_far (said (words line))) known front back
 
 -- a last check that finds nothing
-last_silent : {A : Type 0} (checks : List (Check A)) (last : Check A) (known : Known) (x : A) → last.finds known x ≡ false
+last_silent : {A : Type 0} (checks : List (Check A)) (last : Check A) (known : Declarations) (x : A) → last.finds known x ≡ false
     → first_found (checks ++ last ∷ []) known x ≡ first_found checks known x
 unfolding first_found
 last_silent [] last known x silent = rw silent refl
@@ -50,15 +50,15 @@ last_silent (check ∷ checks) last known x silent = ap (λ r. if check.finds kn
 abbrev behind : List (Check Item) → List (Check Item)
 behind checks = checks ++ check TooMuchWork too_much_work ∷ []
 
-no_work : (known : Known) (said : Item) → IsDeclaration said → too_much_work known said ≡ false
+no_work : (known : Declarations) (said : Item) → IsDeclaration said → too_much_work known said ≡ false
 no_work known (item.Write task dev range tag) is = absurd is
 no_work known _ is = refl
 
-reason_alike : (checks : List (Check Item)) (known : Known) (o : Option Item) → Declares o → said_reason (behind checks) known o ≡ said_reason checks known o
+reason_alike : (checks : List (Check Item)) (known : Declarations) (o : Option Item) → Declares o → said_reason (behind checks) known o ≡ said_reason checks known o
 reason_alike checks known None is = refl
 reason_alike checks known (Some said) is = last_silent checks (record { reason = TooMuchWork; finds = too_much_work }) known said (no_work known said is)
 
-alike_step : (checks : List (Check Item)) (known : Known) (number : ℕ) (lines : List (List ℕ)) (f : Option Reason) (o : Option Item) → (f ≡ None → Declares o)
+alike_step : (checks : List (Check Item)) (known : Declarations) (number : ℕ) (lines : List (List ℕ)) (f : Option Reason) (o : Option Item) → (f ≡ None → Declares o)
     → (f ≡ None → refusal (behind checks) (after_line known o) (number + 1) lines ≡ refusal checks (after_line known o) (number + 1) lines)
     → option_or (option_map (refused number) (option_or f (said_reason (behind checks) known o))) (refusal (behind checks) (after_line known o) (number + 1) lines)
     ≡ option_or (option_map (refused number) (option_or f (said_reason checks known o))) (refusal checks (after_line known o) (number + 1) lines)
@@ -67,7 +67,7 @@ alike_step checks known number lines None o declares rest =
     ap (λ r. option_or (option_map (refused number) r) (refusal (behind checks) (after_line known o) (number + 1) lines)) (reason_alike checks known o (declares refl))
     ∙ ap (option_or (option_map (refused number) (said_reason checks known o))) (rest refl)
 
-pub front_alike : (checks : List (Check Item)) (known : Known) (number : ℕ) (lines : List (List ℕ)) → IsFront known → NonePass is_work_line lines
+pub front_alike : (checks : List (Check Item)) (known : Declarations) (number : ℕ) (lines : List (List ℕ)) → IsFront known → NonePass is_work_line lines
     → refusal (behind checks) known number lines ≡ refusal checks known number lines
 unfolding refusal
 front_alike checks known number [] front others = refl
@@ -76,7 +76,7 @@ front_alike checks known number (line ∷ lines) front others =
     alike_step checks known number lines (first_found line_checks known line) (said (words line)) declares
     (λ none. front_alike checks (after_line known (said (words line))) (number + 1) lines (line_front known (said (words line)) (declares none) front) others.1)
 
-none_declares : (checks : List (Check Item)) (known : Known) (line : List ℕ) (number : ℕ) (left : List (List ℕ)) → IsFront known → is_work_line line ≡ false
+none_declares : (checks : List (Check Item)) (known : Declarations) (line : List ℕ) (number : ℕ) (left : List (List ℕ)) → IsFront known → is_work_line line ≡ false
     → option_or (option_map (refused number) (option_or (first_found line_checks known line) (said_reason checks known (said (words line))))) (refusal checks (after_line known (said (words line))) (number + 1) left) ≡ None
     → Declares (said (words line)) × (refusal checks (after_line known (said (words line))) (number + 1) left ≡ None)
 none_declares checks known line number left front other none =
@@ -86,7 +86,7 @@ none_declares checks known line number left front other none =
     (front_declares known line front other here.0, parts.1)
 
 -- lines before all writes leave it so, where none of them is refused
-pub front_stays : (checks : List (Check Item)) (known : Known) (number : ℕ) (lines : List (List ℕ)) → IsFront known → NonePass is_work_line lines → refusal checks known number lines ≡ None → IsFront (known_after known lines)
+pub front_stays : (checks : List (Check Item)) (known : Declarations) (number : ℕ) (lines : List (List ℕ)) → IsFront known → NonePass is_work_line lines → refusal checks known number lines ≡ None → IsFront (known_after known lines)
 unfolding refusal
 front_stays checks known number [] front others none = front
 front_stays checks known number (line ∷ lines) front others none =

@@ -10,7 +10,7 @@ use Rattle.decl_text.specs.Text.{is_name}
 use Rattle.decl_text.specs.Items.{meaning, number}
 use Rattle.decl_text.specs.Commands.{command_of}
 use Rattle.decl_text.specs.Checks.{shares}
-use Rattle.decl_text.specs.Known.{Declared, Known, Written, tree_of}
+use Rattle.decl_text.specs.Known.{Declared, Declarations, Written, tree_of}
 use Rattle.decl_text.specs.Refusals.{first_found, refusal}
 use Rattle.decl_text.specs.declared.item.Item.{Item}
 use Rattle.decl_text.specs.declared.item.Item.TheVariants as item
@@ -145,7 +145,7 @@ module _ (m0 m1 m2 m3 c0 c1 : List ℕ) where
   written_with task start count tag = record { task = number task; dev = 10; start = number start; count = number count; tag = number tag }
 
   -- where these writes are known
-  abbrev pub with_writes : Bool → List Written → List ℕ → Known
+  abbrev pub with_writes : Bool → List Written → List ℕ → Declarations
   with_writes memory writes rounds = record (k11 m0 m1 m2 m3 c0 c1) { no_memory = memory; writes = writes; rounds = rounds }
 
   abbrev present_of : List Written → List ℕ → List Written

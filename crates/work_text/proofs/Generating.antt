@@ -5,7 +5,7 @@ use Rattle.std.proofs.lemmas.Bool.{le-leb}
 use Rattle.decl_text.specs.Text.{is_name, number_of, words}
 use Rattle.decl_text.specs.Items.{malformed, meaning, misnumbered, number, said}
 use Rattle.decl_text.specs.Commands.{command_of}
-use Rattle.decl_text.specs.Known.{Known, after, nothing}
+use Rattle.decl_text.specs.Known.{Declarations, after, nothing}
 use Rattle.decl_text.specs.Stands.{misplaced, stand_of}
 use Rattle.decl_text.specs.Refusals.{first_found, line_reason, refusal}
 use Rattle.decl_text.specs.declared.item.Item.{Item}
@@ -19,20 +19,20 @@ use Rattle.work_text.specs.Generated.{disk_words}
 use Rattle.work_text.proofs.Said.{IsWord, Writes, body_of, body_text, body_words}
 
 -- a line of these words is right where so much is known, and says this, which no check finds
-pub record Fine (known : Known) (line : List (List ℕ)) (says : Item) : Type 0 where
+pub record Fine (known : Declarations) (line : List (List ℕ)) (says : Item) : Type 0 where
   pub formed : malformed line ≡ false
   pub placed : misplaced (stand_of known) line ≡ false
   pub numbered : misnumbered line ≡ false
   pub meant : said line ≡ Some says
   pub unfound : first_found all_checks known says ≡ None
 
-right_line : (known : Known) (line : List (List ℕ)) (says : Item) → Each IsWord line → Fine known line says → line_reason all_checks known (body_of line) ≡ None
+right_line : (known : Declarations) (line : List (List ℕ)) (says : Item) → Each IsWord line → Fine known line says → line_reason all_checks known (body_of line) ≡ None
 unfolding first_found
 right_line known line says are fine =
     rw (body_text line are, body_words line are, fine.formed, fine.placed, fine.numbered, fine.meant) fine.unfound
 
 -- such a line is not refused, and what it says is known behind it
-pub one_line : (known : Known) (at : ℕ) (line : List (List ℕ)) (rest : List (List ℕ)) (says : Item) → Each IsWord line → Fine known line says
+pub one_line : (known : Declarations) (at : ℕ) (line : List (List ℕ)) (rest : List (List ℕ)) (says : Item) → Each IsWord line → Fine known line says
     → refusal all_checks known at (body_of line ∷ rest) ≡ refusal all_checks (after known says) (at + 1) rest
 unfolding refusal
 one_line known at line rest says are fine =
@@ -59,16 +59,16 @@ limit_line name disk longest = codes "limit" ∷ name ∷ (codes "max=" ++ longe
 abbrev pub stripe_line : List ℕ → List ℕ → List ℕ → List ℕ → List (List ℕ)
 stripe_line name first second chunk = codes "stripe" ∷ name ∷ (codes "chunk=" ++ chunk) ∷ first ∷ second ∷ []
 
-abbrev pub k1 : Known
+abbrev pub k1 : Declarations
 k1 = after nothing (disk_item (codes "d0"))
 
-abbrev pub k2 : Known
+abbrev pub k2 : Declarations
 k2 = after k1 (disk_item (codes "d1"))
 
-abbrev pub k3 : Known
+abbrev pub k3 : Declarations
 k3 = after k2 (disk_item (codes "d2"))
 
-abbrev pub k4 : Known
+abbrev pub k4 : Declarations
 k4 = after k3 (disk_item (codes "d3"))
 
 pub disk0 : Fine nothing (disk_words (codes "d0")) (disk_item (codes "d0"))
@@ -98,25 +98,25 @@ abbrev pub stripe_of : List ℕ → ℕ
 stripe_of chunk = 2 * number chunk * (32768 / number chunk)
 
 module _ (m0 m1 m2 m3 c0 c1 : List ℕ) where
-  abbrev pub k5 : Known
+  abbrev pub k5 : Declarations
   k5 = after k4 (limit_item (codes "l0") (codes "d0") m0)
 
-  abbrev pub k6 : Known
+  abbrev pub k6 : Declarations
   k6 = after k5 (limit_item (codes "l1") (codes "d1") m1)
 
-  abbrev pub k7 : Known
+  abbrev pub k7 : Declarations
   k7 = after k6 (limit_item (codes "l2") (codes "d2") m2)
 
-  abbrev pub k8 : Known
+  abbrev pub k8 : Declarations
   k8 = after k7 (limit_item (codes "l3") (codes "d3") m3)
 
-  abbrev pub k9 : Known
+  abbrev pub k9 : Declarations
   k9 = after k8 (stripe_item (codes "s0") (codes "l0") (codes "l1") c0)
 
-  abbrev pub k10 : Known
+  abbrev pub k10 : Declarations
   k10 = after k9 (stripe_item (codes "s1") (codes "l2") (codes "l3") c1)
 
-  abbrev pub k11 : Known
+  abbrev pub k11 : Declarations
   k11 = after k10 mirror_item
 
   pub limit0 : (n : ℕ) → Writes m0 n → 1 ≤ n → Fine k4 (limit_line (codes "l0") (codes "d0") m0) (limit_item (codes "l0") (codes "d0") m0)

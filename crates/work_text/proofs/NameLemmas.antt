@@ -15,7 +15,7 @@ use Rattle.decl_text.specs.Fit.{IsFitStack}
 use Rattle.stack_base.specs.declared.ids.DevId.{DevId}
 use Rattle.stack_base.specs.declared.stack.Device.{Device}
 use Rattle.stack_base.specs.declared.stack.Stack.{Stack}
-use Rattle.decl_text.specs.Accepting.{shown, shown_devices}
+use Rattle.decl_text.specs.Accepting.{declared_form, shown_devices}
 use Rattle.decl_text.specs.Checks.{is_among}
 use Rattle.decl_text.specs.Known.{Declared, all_members, device_of}
 
@@ -29,7 +29,7 @@ position-map p f xs = rw (position_or_len-map p f xs, length-map xs f)
 -- a device of a stack, as it shows
 pub shown_place : (stack : Stack) (name : List ℕ)
     → position (λ (device : Device). bytes_eq device.name.bytes name) stack.devices.items ≡ device_of (shown_devices stack) name
-shown_place stack name = sym (position-map (λ (device : Declared). bytes_eq device.name name) shown stack.devices.items)
+shown_place stack name = sym (position-map (λ (device : Declared). bytes_eq device.name name) declared_form stack.devices.items)
 
 pub list_any-map : {X Y : Type 0} (p : Y → Bool) (f : X → Y) (xs : List X) → list_any p (map f xs) ≡ list_any (λ x. p (f x)) xs
 list_any-map p f [] = refl
@@ -40,7 +40,7 @@ list_any-flat_map : {X Y : Type 0} (p : Y → Bool) (f : X → List Y) (xs : Lis
 list_any-flat_map p f [] = refl
 list_any-flat_map p f (x ∷ xs) = list_any-append p (f x) (flat_map f xs) ∙ ap (λ b. list_any p (f x) || b) (list_any-flat_map p f xs)
 
-flat_map-shown : (devices : List Device) → flat_map (λ device. device.members) (map shown devices) ≡ flat_map (λ (device : Device). map (λ (m : DevId). m.0) device.members.items) devices
+flat_map-shown : (devices : List Device) → flat_map (λ device. device.members) (map declared_form devices) ≡ flat_map (λ (device : Device). map (λ (m : DevId). m.0) device.members.items) devices
 flat_map-shown [] = refl
 flat_map-shown (device ∷ devices) = ap (λ more. map (λ (m : DevId). m.0) device.members.items ++ more) (flat_map-shown devices)
 

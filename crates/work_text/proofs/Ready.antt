@@ -6,7 +6,7 @@ use Rattle.std.proofs.lemmas.List.Elements.{All-cons, All-contains, All-head, Al
 use Rattle.layout_model.specs.declared.write.Write.{Write}
 use Rattle.decl_text.specs.Text.{words}
 use Rattle.decl_text.specs.Items.{said}
-use Rattle.decl_text.specs.Known.{Known, Written, after_line}
+use Rattle.decl_text.specs.Known.{Declarations, Written, after_line}
 use Rattle.decl_text.specs.Checks.{too_many_segments}
 use Rattle.decl_text.specs.Refusals.{check, said_reason}
 use Rattle.decl_text.specs.declared.item.Item.{Item}
@@ -20,7 +20,7 @@ use Rattle.work_text.proofs.Unrefused.{kept_by_text}
 abbrev IsShort : Written → Type 0
 IsShort write = write.count ≤ 2048
 
-after_short : (known : Known) (o : Option Item) → said_reason all_checks known o ≡ None → All IsShort known.writes → All IsShort (after_line known o).writes
+after_short : (known : Declarations) (o : Option Item) → said_reason all_checks known o ≡ None → All IsShort known.writes → All IsShort (after_line known o).writes
 after_short known None none all = all
 after_short known (Some (item.Write task dev range tag)) none all =
     All-push IsShort known.writes _ all

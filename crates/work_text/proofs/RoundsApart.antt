@@ -8,7 +8,7 @@ use Rattle.std.proofs.lemmas.Option.{same_Some}
 use Rattle.stack_base.specs.declared.stack.Stack.{Stack}
 use Rattle.decl_text.specs.Text.{words}
 use Rattle.decl_text.specs.Items.{said}
-use Rattle.decl_text.specs.Known.{Known, Written, after_line, number_in, present}
+use Rattle.decl_text.specs.Known.{Declarations, Written, after_line, number_in, present}
 use Rattle.decl_text.specs.Checks.{overlap, shares}
 use Rattle.decl_text.specs.Refusals.{check, said_reason}
 use Rattle.decl_text.specs.declared.item.Item.{Item}
@@ -40,12 +40,12 @@ not_in_round p n (y ∷ xs) (r ∷ rounds) (suc i) x lt found is none =
     not_in_round p n xs rounds i x (omega (arith, lt)) found is
     (rest_by (r == n) p y (of_round n xs rounds) (ap (list_any p) (sym (first_of_round n r y xs rounds)) ∙ none))
 
-record HasRoundsApart (known : Known) : Type 0 where
+record HasRoundsApart (known : Declarations) : Type 0 where
   paired : length known.rounds ≡ length known.writes
   apart : (i j : ℕ) (one other : Written) → i < j → slice_get known.writes i ≡ Some one → slice_get known.writes j ≡ Some other
       → get_or known.rounds i 0 ≡ get_or known.rounds j 0 → shares other.dev other.start other.count one ≡ false
 
-apart_by : (known : Known) (w : Written) (i j : ℕ) (one other : Written) → HasRoundsApart known → list_any (shares w.dev w.start w.count) (present known) ≡ false → i < j
+apart_by : (known : Declarations) (w : Written) (i j : ℕ) (one other : Written) → HasRoundsApart known → list_any (shares w.dev w.start w.count) (present known) ≡ false → i < j
     → Pushed known.writes w one i → Pushed known.writes w other j → get_or (known.rounds ++ known.syncs ∷ []) i 0 ≡ get_or (known.rounds ++ known.syncs ∷ []) j 0
     → shares other.dev other.start other.count one ≡ false
 apart_by known w i j one other are free lt (before found il) (before also jl) same =
@@ -60,7 +60,7 @@ apart_by known w i j one other are free lt (before found il) (last at is) same =
 apart_by known w i j one other are free lt (last at is) (before also jl) same = absurd (omega (arith, at, jl, lt))
 apart_by known w i j one other are free lt (last at is) (last also here) same = absurd (omega (arith, at, also, lt))
 
-after_apart : (known : Known) (o : Option Item) → said_reason all_checks known o ≡ None → HasRoundsApart known → HasRoundsApart (after_line known o)
+after_apart : (known : Declarations) (o : Option Item) → said_reason all_checks known o ≡ None → HasRoundsApart known → HasRoundsApart (after_line known o)
 after_apart known None none are = are
 after_apart known (Some (item.Write task dev range tag)) none are =
     let w : Written = record { task = task; dev = number_in known.devices dev; start = range.start; count = range.len; tag = tag } in

@@ -2,7 +2,7 @@
 use Rattle.std.proofs.Common.{◌≡◌, ℕ, ◌≤◌, nat_lt, List, length, None}
 use Rattle.std.proofs.lemmas.Bool.{ltb-false}
 use Rattle.decl_text.specs.Text.{lines, most_bytes}
-use Rattle.decl_text.specs.Known.{Known, nothing}
+use Rattle.decl_text.specs.Known.{Declarations, nothing}
 use Rattle.decl_text.specs.Refusals.{refusal, refused}
 use Rattle.decl_text.specs.declared.reason.Reason.TheVariants.{TooLong}
 use Rattle.decl_text.proofs.Unrefused.{EachLineKeeps, cond_none, kept_behind}
@@ -16,5 +16,5 @@ text_lines text fine =
     (ltb-false most_bytes (length text) parts.0, parts.1)
 
 -- so what each line keeps holds of what a text declares that is not refused
-pub kept_by_text : (Holds : Known → Type 0) → EachLineKeeps all_checks Holds → Holds nothing → (text : List ℕ) → text_refusal text ≡ None → Holds (known_of_text text)
+pub kept_by_text : (Holds : Declarations → Type 0) → EachLineKeeps all_checks Holds → Holds nothing → (text : List ℕ) → text_refusal text ≡ None → Holds (known_of_text text)
 kept_by_text Holds keeps first text fine = kept_behind all_checks Holds keeps nothing 1 (lines text) (text_lines text fine).1 first

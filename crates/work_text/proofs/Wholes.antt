@@ -8,11 +8,11 @@ use Rattle.stack_base.specs.declared.ids.PoolId.{PoolId}
 use Rattle.stack_base.specs.declared.stack.Stack.{Stack}
 use Rattle.decl_text.specs.Text.{lines, words, most_bytes}
 use Rattle.decl_text.specs.Items.{said}
-use Rattle.decl_text.specs.Known.{Known, Declared, nothing}
+use Rattle.decl_text.specs.Known.{Declarations, Declared, nothing}
 use Rattle.decl_text.specs.Refusals.{first_found, line_checks, refusal, refused, known_after}
 use Rattle.decl_text.specs.Read.{Read}
 use Rattle.decl_text.specs.Reading.{IsReadDecl, Formed, declarations, formed, formed_by, is_work_line, is_wrong, read_lines, refusal_of_items, right_lines, known_of_items}
-use Rattle.decl_text.specs.Accepting.{Means, checks_for}
+use Rattle.decl_text.specs.Accepting.{MeansStack, checks_for}
 use Rattle.decl_text.specs.declared.reason.Reason.TheVariants.{TooLong}
 use Rattle.decl_text.specs.declared.reason.Reason.{Reason}
 use Rattle.decl_text.specs.declared.reason.Refusal.{Refusal}
@@ -30,7 +30,7 @@ abbrev left : List (List ℕ) → List (List ℕ)
 left all = rest is_work_line all
 
 -- what is known behind the lines before that
-abbrev known_before : List (List ℕ) → Known
+abbrev known_before : List (List ℕ) → Declarations
 known_before all = known_after nothing (declarations all)
 
 joined : (all : List (List ℕ)) → declarations all ++ left all ≡ all
@@ -80,7 +80,7 @@ pub record Accepted (loose : Bool) (text : List ℕ) (read : Read) (stack : Stac
   pub short : length text ≤ most_bytes
   pub is : IsReadDecl text read
   pub none : refusal_of_items (checks_for loose) nothing read.items read.fault ≡ None
-  pub means : Means (known_of_items nothing read.items) stack scripts
+  pub means : MeansStack (known_of_items nothing read.items) stack scripts
 
 module _ {loose : Bool} {text : List ℕ} {read : Read} {stack : Stack} {scripts : List (PoolId × Answers)} (a : Accepted loose text read stack scripts) where
   sound : read.fault ≡ None
@@ -113,8 +113,8 @@ module _ {loose : Bool} {text : List ℕ} {read : Read} {stack : Stack} {scripts
   paired : IsPaired (known_before (lines text))
   paired = rw (front.rounds, front.writes) refl
 
-  means_before : Means (known_before (lines text)) stack scripts
-  means_before = subst (λ known. Means known stack scripts) (sym known_is) a.means
+  means_before : MeansStack (known_before (lines text)) stack scripts
+  means_before = subst (λ known. MeansStack known stack scripts) (sym known_is) a.means
 
   seen_is : work_of (known_before (lines text)) ≡ known_of stack
   seen_is = rw (front.writes, front.rounds, front.syncs, front.resizes) (ap (λ (d : List Declared). record nothing { devices = d }) (sym means_before.devices))
@@ -143,7 +143,7 @@ module _ {loose : Bool} {text : List ℕ} {read : Read} {stack : Stack} {scripts
       ∙ rest_known (known_before (lines text)) read.line (left (lines text)) paired follow (sym in_left ∙ none)
       ∙ ap (λ k. with_work (known_before (lines text)) (known_after k (left (lines text)))) seen_is
 
-  means_with : (from : Known) → Means (with_work (known_before (lines text)) from) stack scripts
+  means_with : (from : Declarations) → MeansStack (with_work (known_before (lines text)) from) stack scripts
   means_with from = record {
     devices = means_before.devices;
     bad = means_before.bad;
@@ -162,6 +162,6 @@ module _ {loose : Bool} {text : List ℕ} {read : Read} {stack : Stack} {scripts
   rest_decides = record {
     begins = ap declarations left_is ∙ none_before is_work_line (left (lines text)) (begins is_work_line (lines text));
     refusals = by_stack ∙ ap (refusal all_checks (known_of stack) read.line) (sym left_is);
-    means = λ none. subst (λ known. Means known stack scripts) (sym (with_rest none)) (means_with (known_after (known_of stack) (left (lines text))));
+    means = λ none. subst (λ known. MeansStack known stack scripts) (sym (with_rest none)) (means_with (known_after (known_of stack) (left (lines text))));
     work = λ none. ap work_of (with_rest none) ∙ same_work none ∙ ap (known_after (known_of stack)) (sym left_is);
   }

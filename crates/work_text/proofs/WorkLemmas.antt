@@ -7,7 +7,7 @@ use Rattle.stack_base.specs.declared.stack.Stack.{Stack}
 use Rattle.layout_model.specs.declared.write.Write.{Write}
 use Rattle.layout_model.specs.declared.totals.Bounds.{Bounds}
 use Rattle.layout_model.specs.Bound.{IsBound}
-use Rattle.decl_text.specs.Known.{Known, Change}
+use Rattle.decl_text.specs.Known.{Declarations, Change}
 use Rattle.work_text.specs.Work.{IsWork, all_entries, kept_resizes, last_round, change_of, as_written}
 use Rattle.work_text.specs.Draft.{IsLeftOf, known_with}
 use Rattle.work_text.specs.declared.Resize.{Resize}
@@ -22,15 +22,15 @@ kept_shown last [] = refl
 kept_shown last (x ∷ xs) = kept_first (nat_le x.round last) x (filter (λ (r : Resize). nat_le r.round last) xs) (kept_resizes last (map change_of xs)) (kept_shown last xs)
 
 -- what is left of a draft is the work
-pub finished : (stack : Stack) (scripts : List (PoolId × Answers)) (known : Known) (work left : Work) (syncs : ℕ) → known_with stack work syncs ≡ known
+pub finished : (stack : Stack) (scripts : List (PoolId × Answers)) (known : Declarations) (work left : Work) (syncs : ℕ) → known_with stack work syncs ≡ known
     → IsBound stack work.writes.items work.bound.z work.bound → work.bound.z ≡ all_entries scripts
     → IsLeftOf work left
     → IsWork stack scripts known left
 finished stack scripts known work left syncs is bound entries of = record {
-  writes = ap (map as_written) of.writes ∙ ap (λ (k : Known). k.writes) is;
-  rounds = of.rounds ∙ ap (λ (k : Known). k.rounds) is;
+  writes = ap (map as_written) of.writes ∙ ap (λ (k : Declarations). k.writes) is;
+  rounds = of.rounds ∙ ap (λ (k : Declarations). k.rounds) is;
   resizes = ap (map change_of) of.resizes ∙ kept_shown (last_round work.rounds.items) work.resizes.items
-      ∙ ap (λ (k : Known). kept_resizes (last_round k.rounds) k.resizes) is;
+      ∙ ap (λ (k : Declarations). kept_resizes (last_round k.rounds) k.resizes) is;
   bound = subst (λ (ws : List Write). IsBound stack ws (all_entries scripts + last_round left.rounds.items + length left.resizes.items) left.bound) (sym of.writes)
       (subst (λ (b : Bounds). IsBound stack work.writes.items (all_entries scripts + last_round left.rounds.items + length left.resizes.items) b) (sym of.bound)
       (record {

@@ -7,7 +7,7 @@ use Rattle.layout_model.specs.declared.counts.Needs.{Needs}
 use Rattle.layout_model.specs.NeedCounts.{IsNeeds}
 use Rattle.layout_model.specs.Bound.{IsBound, most_elements}
 use Rattle.layout_model.specs.Writes.{IsWrite}
-use Rattle.decl_text.specs.Known.{Known, device_of, present}
+use Rattle.decl_text.specs.Known.{Declarations, device_of, present}
 use Rattle.decl_text.specs.Checks.{is_empty_list}
 use Rattle.decl_text.specs.Accepting.{shown_devices}
 use Rattle.decl_text.specs.Refusals.{first_found}
@@ -23,11 +23,11 @@ use Rattle.work_text.specs.Marks.{is_member, AreMarks}
 use Rattle.work_text.specs.declared.draft.Draft.{Draft}
 
 -- what is known behind the lines of this work, so many of which are `sync` lines
-abbrev pub known_with : Stack → Work → ℕ → Known
+abbrev pub known_with : Stack → Work → ℕ → Declarations
 known_with stack work syncs =
     record (known_of stack) { writes = map as_written work.writes.items; rounds = work.rounds.items; syncs = syncs; resizes = map change_of work.resizes.items }
 
-abbrev pub known_so_far : Stack → Draft → Known
+abbrev pub known_so_far : Stack → Draft → Declarations
 known_so_far stack draft = known_with stack draft.work draft.syncs
 
 -- what is told passes all checks by what a draft knows so far, and the draft knows it then, or this check finds it

@@ -7,7 +7,7 @@ use Rattle.decl_text.specs.Reading.{is_work_line}
 use Rattle.decl_text.specs.Stands.{stand_of}
 use Rattle.decl_text.specs.declared.stand.Stand.{Stand}
 use Rattle.decl_text.specs.declared.stand.Stand.TheVariants.{Front}
-use Rattle.decl_text.specs.Known.{Known, after, after_line}
+use Rattle.decl_text.specs.Known.{Declarations, after, after_line}
 use Rattle.decl_text.specs.Refusals.{first_found, known_after, line_checks, line_reason, refusal, refused}
 use Rattle.decl_text.specs.declared.reason.ReadFault.{ReadFault}
 use Rattle.decl_text.specs.declared.reason.ReadFault.TheVariants.{Refused}
@@ -24,7 +24,7 @@ use Rattle.work_text.specs.declared.told.Told.TheVariants as told
 abbrev pub CanStandAt : Stand → List ℕ → Type 0
 CanStandAt stand line = stand ≡ Front → is_work_line line ≡ true
 
-abbrev pub CanStand : Known → List ℕ → Type 0
+abbrev pub CanStand : Declarations → List ℕ → Type 0
 CanStand known line = CanStandAt (stand_of known) line
 
 -- what is told of the work
@@ -47,7 +47,7 @@ HasSectors told.Sync = Unit {0}
 HasSectors (told.Resize pool min) = Unit {0}
 
 -- the line says nothing, or this of the work, or it is wrong by its words
-abbrev pub TellsIn : Known → List ℕ → Result (Option Told) LineFault → Type 0
+abbrev pub TellsIn : Declarations → List ℕ → Result (Option Told) LineFault → Type 0
 TellsIn known line (Ok None) = (first_found line_checks known line ≡ None) × (said (words line) ≡ None)
 TellsIn known line (Ok (Some told)) = (first_found line_checks known line ≡ None) × (said (words line) ≡ Some (told_item told)) × HasSectors told
 TellsIn known line (Err (Wrong reason)) = first_found line_checks known line ≡ Some reason
@@ -55,28 +55,28 @@ TellsIn known line (Err Memory) = Unit {0}
 
 -- so it does behind all by which it stands there
 abbrev pub Tells : Stand → List ℕ → Result (Option Told) LineFault → Type 0
-Tells stand line result = (known : Known) → stand_of known ≡ stand → TellsIn known line result
+Tells stand line result = (known : Declarations) → stand_of known ≡ stand → TellsIn known line result
 
 -- what is told passes all checks and is known then, or this check finds it
-abbrev pub AddsWork : Known → Item → Known → Result (Unit {0}) LineFault → Type 0
+abbrev pub AddsWork : Declarations → Item → Declarations → Result (Unit {0}) LineFault → Type 0
 AddsWork before said after_it (Ok done) = (first_found all_checks before said ≡ None) × (after_it ≡ after before said)
 AddsWork before said after_it (Err (Wrong reason)) = first_found all_checks before said ≡ Some reason
 AddsWork before said after_it (Err Memory) = Unit {0}
 
 -- the line is not refused, and is known then, or it is refused so
-abbrev pub ReadsLine : Known → List ℕ → Known → Result (Unit {0}) LineFault → Type 0
+abbrev pub ReadsLine : Declarations → List ℕ → Declarations → Result (Unit {0}) LineFault → Type 0
 ReadsLine before line after_it (Ok done) = (line_reason all_checks before line ≡ None) × (after_it ≡ after_line before (said (words line)))
 ReadsLine before line after_it (Err (Wrong reason)) = line_reason all_checks before line ≡ Some reason
 ReadsLine before line after_it (Err Memory) = Unit {0}
 
 -- the same of the line with this number, as a refusal of the text
-abbrev pub ReadsNumbered : Known → ℕ → List ℕ → Known → Result (Unit {0}) ReadFault → Type 0
+abbrev pub ReadsNumbered : Declarations → ℕ → List ℕ → Declarations → Result (Unit {0}) ReadFault → Type 0
 ReadsNumbered before number line after_it (Ok done) = (line_reason all_checks before line ≡ None) × (after_it ≡ after_line before (said (words line)))
 ReadsNumbered before number line after_it (Err (Refused first)) = option_map (refused number) (line_reason all_checks before line) ≡ Some first
 ReadsNumbered before number line after_it (Err fault.Memory) = Unit {0}
 
 -- none of these lines is refused, the first of which has this number, and so much is known then, or this is the first refusal
-abbrev pub ReadsLines : Known → ℕ → List (List ℕ) → Known → Result (Unit {0}) ReadFault → Type 0
+abbrev pub ReadsLines : Declarations → ℕ → List (List ℕ) → Declarations → Result (Unit {0}) ReadFault → Type 0
 ReadsLines before number all after_it (Ok done) = (refusal all_checks before number all ≡ None) × (after_it ≡ known_after before all)
 ReadsLines before number all after_it (Err (Refused first)) = refusal all_checks before number all ≡ Some first
 ReadsLines before number all after_it (Err fault.Memory) = Unit {0}

@@ -4,12 +4,12 @@ use Rattle.fail_script.specs.Script.{Answers}
 use Rattle.stack_base.specs.declared.ids.PoolId.{PoolId}
 use Rattle.stack_base.specs.declared.stack.Stack.{Stack}
 use Rattle.decl_text.specs.Text.{lines, most_bytes}
-use Rattle.decl_text.specs.Known.{Known, Written, nothing}
+use Rattle.decl_text.specs.Known.{Declarations, Written, nothing}
 use Rattle.decl_text.specs.Checks.{shares}
 use Rattle.decl_text.specs.Refusals.{refusal, refused, known_after}
 use Rattle.decl_text.specs.Read.{Read}
 use Rattle.decl_text.specs.Reading.{IsReadDecl, declarations, refusal_of_items, known_of_items}
-use Rattle.decl_text.specs.Accepting.{Means, checks_for}
+use Rattle.decl_text.specs.Accepting.{MeansStack, checks_for}
 use Rattle.decl_text.specs.declared.reason.Reason.TheVariants.{TooLong}
 use Rattle.decl_text.specs.declared.reason.Refusal.{Refusal}
 use Rattle.work_text.specs.Work.{all_checks, checks_by, known_of}
@@ -22,11 +22,11 @@ abbrev pub text_refusal : List ℕ → Option Refusal
 text_refusal text = text_refusal_by false text
 
 -- what a text declares, and its writes
-abbrev pub known_of_text : List ℕ → Known
+abbrev pub known_of_text : List ℕ → Declarations
 known_of_text text = known_after nothing (lines text)
 
 -- the devices that are known, and the work
-abbrev pub work_of : Known → Known
+abbrev pub work_of : Declarations → Declarations
 work_of known =
     record nothing { devices = known.devices; writes = known.writes; rounds = known.rounds; syncs = known.syncs; resizes = known.resizes }
 
@@ -43,13 +43,13 @@ pub record RestDecides (loose : Bool) (text : List ℕ) (read : Read) (stack : S
   pub begins : declarations (lines (drop read.rest text)) ≡ []
   pub refusals : text_refusal_by loose text ≡ refusal all_checks (known_of stack) read.line (lines (drop read.rest text))
   -- where the text is not refused, it means this stack and these scripts, and the work of the rest
-  pub means : text_refusal_by loose text ≡ None → Means (known_of_text text) stack scripts
+  pub means : text_refusal_by loose text ≡ None → MeansStack (known_of_text text) stack scripts
   pub work : text_refusal_by loose text ≡ None → work_of (known_of_text text) ≡ known_after (known_of stack) (lines (drop read.rest text))
 
 abbrev pub RestsDecide : Type 0
 RestsDecide =
     (loose : Bool) (text : List ℕ) (read : Read) (stack : Stack) (scripts : List (PoolId × Answers)) → length text ≤ most_bytes → IsReadDecl text read
-    → refusal_of_items (checks_for loose) nothing read.items read.fault ≡ None → Means (known_of_items nothing read.items) stack scripts
+    → refusal_of_items (checks_for loose) nothing read.items read.fault ≡ None → MeansStack (known_of_items nothing read.items) stack scripts
     → RestDecides loose text read stack scripts
 
 -- two writes of one round to one device have no sector in common, among the writes of lines of which none is refused

@@ -8,7 +8,7 @@ use Rattle.work_text.specs.declared.Resize.{Resize}
 use Rattle.work_text.specs.declared.Work.{Work}
 use Rattle.layout_model.specs.Need.{needed, vectors}
 use Rattle.layout_model.specs.Bound.{IsBound, most_elements}
-use Rattle.decl_text.specs.Known.{Known, Declared, Change, Written, nothing, number_in, tree_of}
+use Rattle.decl_text.specs.Known.{Declarations, Declared, Change, Written, nothing, number_in, tree_of}
 use Rattle.decl_text.specs.Accepting.{checks_for, shown_devices}
 use Rattle.decl_text.specs.Refusals.{Check, check}
 use Rattle.decl_text.specs.declared.reason.Reason.TheVariants.{TooMuchWork}
@@ -24,7 +24,7 @@ abbrev pub elements_in : List Declared → Written → ℕ
 elements_in devices write = 1 + vectors write.count + needed (tree_of devices write.dev) write.start write.count
 
 -- the writes up to this one need more elements than a scenario may
-abbrev pub too_much_work : Known → Item → Bool
+abbrev pub too_much_work : Declarations → Item → Bool
 too_much_work known (item.Write task dev range tag) =
     nat_lt most_elements (sum_by (elements_in known.devices) known.writes
     + elements_in known.devices (record { task = task; dev = number_in known.devices dev; start = range.start; count = range.len; tag = tag }))
@@ -51,7 +51,7 @@ abbrev pub all_checks : List (Check Item)
 all_checks = checks_by false
 
 -- what an accepted stack tells of the lines before the writes
-abbrev pub known_of : Stack → Known
+abbrev pub known_of : Stack → Declarations
 known_of stack = record nothing { devices = shown_devices stack }
 
 -- the entries of all scripts
@@ -59,7 +59,7 @@ abbrev pub all_entries : List (PoolId × Answers) → ℕ
 all_entries scripts = sum_by (λ script. entries_of script.1) scripts
 
 -- this work is what the lines mean behind which so much is known, over this stack with these scripts
-pub record IsWork (stack : Stack) (scripts : List (PoolId × Answers)) (known : Known) (work : Work) : Type 0 where
+pub record IsWork (stack : Stack) (scripts : List (PoolId × Answers)) (known : Declarations) (work : Work) : Type 0 where
   pub writes : map as_written work.writes.items ≡ known.writes
   pub rounds : work.rounds.items ≡ known.rounds
   pub resizes : map change_of work.resizes.items ≡ kept_resizes (last_round known.rounds) known.resizes

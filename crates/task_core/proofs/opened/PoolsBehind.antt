@@ -19,7 +19,7 @@ use Rattle.stack_base.specs.Tree.{Shape, Keeps, Cuts, Copies, shape_of, size, tr
 use Rattle.stack_base.specs.Fault.{bads_of_kind}
 use Rattle.layout_model.proofs.ByShape.{cuts_is, copies_is, keeps_is}
 use Rattle.model_disks.specs.Disks.{IsBadRange}
-use Rattle.decl_text.specs.Accepting.{shown, shown_devices, what_of_kind}
+use Rattle.decl_text.specs.Accepting.{declared_form, shown_devices, what_of_kind}
 use Rattle.decl_text.specs.Fit.{HasReserves, IsFitBad}
 use Rattle.decl_text.specs.Known.{Declared, bios_pool_of, pool_if, records_pool_of, sectors_of}
 use Rattle.decl_text.specs.declared.item.What.{What}
@@ -108,9 +108,9 @@ told_device : (own : ℕ → What → Option PoolId) (stack : Stack) (number : �
     → (device : Device) × (slice_get stack.devices.items number ≡ Some device) × (own number (what_of_kind device.kind) ≡ Some pool)
 told_device own stack number pool is = by_found (slice_get stack.devices.items number) refl
   where
-    at_found : (o : Option Device) → slice_get stack.devices.items number ≡ o → option_and_then (λ (d : Declared). own number d.what) (option_map shown o) ≡ Some pool
+    at_found : (o : Option Device) → slice_get stack.devices.items number ≡ o → option_and_then (λ (d : Declared). own number d.what) (option_map declared_form o) ≡ Some pool
     at_found o q =
-        ap (option_and_then (λ (d : Declared). own number d.what)) (sym (slice_get-map shown stack.devices.items number ∙ ap (option_map shown) q)) ∙ is
+        ap (option_and_then (λ (d : Declared). own number d.what)) (sym (slice_get-map declared_form stack.devices.items number ∙ ap (option_map declared_form) q)) ∙ is
 
     by_found : (o : Option Device) → slice_get stack.devices.items number ≡ o
         → (device : Device) × (slice_get stack.devices.items number ≡ Some device) × (own number (what_of_kind device.kind) ≡ Some pool)

@@ -1,6 +1,6 @@
 use Rattle.std.proofs.Common.{◌≡◌, ◌+◌, ◌-◌, ◌≤◌, [], length}
 use Rattle.decl_text.specs.Text.{lines}
-use Rattle.decl_text.specs.Places.{left}
+use Rattle.decl_text.specs.Places.{text_left}
 use Rattle.decl_text.specs.Stands.{stand_of}
 use Rattle.decl_text.specs.declared.stand.Stand.TheVariants.{Front}
 use Rattle.decl_text.specs.Reading.{declarations}
@@ -19,11 +19,11 @@ invariant-loop-bytes l = record {
   draft : IsDraft l.accepted.stack l.draft;
   entries : l.draft.work.bound.z ≡ l.initial.draft.work.bound.z;
   -- the first line is a write or a `sync` line
-  stands : stand_of (known_so_far l.accepted.stack l.draft) ≡ Front → declarations (lines (left l.lines)) ≡ [];
+  stands : stand_of (known_so_far l.accepted.stack l.draft) ≡ Front → declarations (lines (text_left l.lines)) ≡ [];
   -- what becomes of the rest becomes of all lines
-  refused : refusal all_checks (known_so_far l.accepted.stack l.draft) l.number (lines (left l.lines))
+  refused : refusal all_checks (known_so_far l.accepted.stack l.draft) l.number (lines (text_left l.lines))
       ≡ refusal all_checks (known_so_far l.accepted.stack l.initial.draft) l.accepted.line (work_lines l.text l.accepted);
-  known : known_after (known_so_far l.accepted.stack l.draft) (lines (left l.lines))
+  known : known_after (known_so_far l.accepted.stack l.draft) (lines (text_left l.lines))
       ≡ known_after (known_so_far l.accepted.stack l.initial.draft) (work_lines l.text l.accepted);
 }
 

@@ -2,7 +2,7 @@ use Rattle.std.proofs.Common.{List, length, ap, sym, ◌∙◌, subst, arith}
 use Rattle.std.specs.Prelude.{Contains}
 use Rattle.layout_model.specs.declared.write.Write.{Write}
 use Rattle.layout_model.specs.Writes.{IsWrite}
-use Rattle.decl_text.specs.Known.{Known}
+use Rattle.decl_text.specs.Known.{Declarations}
 use Rattle.decl_text.specs.Refusals.{known_after, refusal}
 use Rattle.decl_text.proofs.FewEntries.{entries_few}
 use Rattle.work_text.specs.Reading.{work_lines}
@@ -28,9 +28,9 @@ returns-clause-read c =
     let read = c.in_ok-read_lines.ensures.read in
     let first = c.in_ok-draft.ensures.known in
     let work = c.read_lines.new.draft.work in (
-      ap (λ (k : Known). refusal all_checks k accepted.line all) (sym first) ∙ read.0,
+      ap (λ (k : Declarations). refusal all_checks k accepted.line all) (sym first) ∙ read.0,
       finished accepted.stack accepted.scripts.items (known_after (known_of accepted.stack) all) work c.in_ok-work.work c.read_lines.new.draft.syncs
-          (read.1 ∙ ap (λ (k : Known). known_after k all) first)
+          (read.1 ∙ ap (λ (k : Declarations). known_after k all) first)
           c.in_ok-read_lines.ensures.draft.bound
           (c.in_ok-read_lines.ensures.entries ∙ c.in_ok-draft.ensures.entries ∙ c.all_entries.ensures)
           c.in_ok-work.ensures,

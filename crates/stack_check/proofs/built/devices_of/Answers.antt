@@ -1,6 +1,6 @@
 use Rattle.std.proofs.Common.{◌≡◌, ◌++◌, ◌∷◌, length, map, ap, sym, ◌∙◌, arith}
 use Rattle.std.specs.Vec.Iter.{into_iter_items}
-use Rattle.decl_text.specs.Accepting.{shown}
+use Rattle.decl_text.specs.Accepting.{declared_form}
 use Rattle.stack_check.specs.Finish.{ranges_of}
 use Rattle.stack_check.proofs.BuiltLemmas.{next_at, built_few, built_more, clean_ranges, ranges_more}
 use Rattle.stack_check.proofs.built.devices_of.Goals as goal
@@ -8,8 +8,8 @@ use Rattle.stack_check.proofs.built.devices_of.Goals as goal
 pub overflow_cast-number : goal.overflow_cast-number
 overflow_cast-number c =
     let devices = c.loop-placed.devices.items in
-    let so_far : map shown devices ++ c.in-Some.placed ∷ into_iter_items c.next.new.self ≡ c.args.all.items =
-    ap (λ ds. map shown devices ++ ds) (sym c.in-Some.ensures.steps.0) ∙ c.loop-placed.invariant.shown in
+    let so_far : map declared_form devices ++ c.in-Some.placed ∷ into_iter_items c.next.new.self ≡ c.args.all.items =
+    ap (λ ds. map declared_form devices ++ ds) (sym c.in-Some.ensures.steps.0) ∙ c.loop-placed.invariant.shown in
     omega (
       arith,
       c.len-number.ensures,
@@ -20,8 +20,8 @@ overflow_cast-number c =
 pub device_of-requires-clause-clean : goal.device_of-requires-clause-clean
 device_of-requires-clause-clean c =
     let devices = c.loop-placed.devices.items in
-    let so_far : map shown devices ++ c.in-Some.placed ∷ into_iter_items c.next.new.self ≡ c.args.all.items =
-    ap (λ ds. map shown devices ++ ds) (sym c.in-Some.ensures.steps.0) ∙ c.loop-placed.invariant.shown in
+    let so_far : map declared_form devices ++ c.in-Some.placed ∷ into_iter_items c.next.new.self ≡ c.args.all.items =
+    ap (λ ds. map declared_form devices ++ ds) (sym c.in-Some.ensures.steps.0) ∙ c.loop-placed.invariant.shown in
     let many : c.len-number.result ≡ length devices = omega (arith, c.len-number.ensures, c.loop-placed.devices.ok.0) in
     λ other.
     ap (ranges_of c.args.bad.now) many
@@ -31,8 +31,8 @@ device_of-requires-clause-clean c =
 pub loop-placed-preserved : goal.loop-placed-preserved
 loop-placed-preserved c =
     let devices = c.loop-placed.devices.items in
-    let so_far : map shown devices ++ c.in-Some.placed ∷ into_iter_items c.next.new.self ≡ c.args.all.items =
-    ap (λ ds. map shown devices ++ ds) (sym c.in-Some.ensures.steps.0) ∙ c.loop-placed.invariant.shown in
+    let so_far : map declared_form devices ++ c.in-Some.placed ∷ into_iter_items c.next.new.self ≡ c.args.all.items =
+    ap (λ ds. map declared_form devices ++ ds) (sym c.in-Some.ensures.steps.0) ∙ c.loop-placed.invariant.shown in
     let many : c.len-number.result ≡ length devices = omega (arith, c.len-number.ensures, c.loop-placed.devices.ok.0) in
     record {
       can = tt;

@@ -1,7 +1,7 @@
 -- Line by line.
 use Rattle.std.proofs.Common.{length, sym, ap, ◌∙◌, arith}
 use Rattle.decl_text.specs.Text.{lines}
-use Rattle.decl_text.specs.Places.{TextPlace, left}
+use Rattle.decl_text.specs.Places.{TextPlace, text_left}
 use Rattle.trace_replay.proofs.CutLemmas.{at_first, goes_on, left_at, stops_at_end, stops_at_told}
 use Rattle.trace_replay.proofs.cut.first_told.Goals as goal
 
@@ -35,7 +35,7 @@ returns-then-is_told c =
     record {
       behind = inv.behind;
       within = inv.within;
-      next = stops_at_told c.in-Some.line.now (lines (left c.next.new.self)) _ (left_at text l.lines l.place inv.text inv.place ∙ c.in-Some.ensures.line)
+      next = stops_at_told c.in-Some.line.now (lines (text_left c.next.new.self)) _ (left_at text l.lines l.place inv.text inv.place ∙ c.in-Some.ensures.line)
           (sym c.is_told.ensures ∙ c.if-is_told.true);
     }
 

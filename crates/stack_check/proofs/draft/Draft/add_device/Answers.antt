@@ -3,7 +3,7 @@ use Rattle.std.specs.Prelude.{All}
 use Rattle.std.proofs.lemmas.List.{length-map}
 use Rattle.stack_base.specs.declared.ids.DevId.{DevId}
 use Rattle.decl_text.specs.Checks.{has_count}
-use Rattle.decl_text.specs.Known.{Known, Declared, after, declared, number_in}
+use Rattle.decl_text.specs.Known.{Declarations, Declared, after, declared, number_in}
 use Rattle.decl_text.specs.declared.item.Item.TheVariants as item
 use Rattle.stack_check.specs.Rows.{device_reason}
 use Rattle.stack_check.specs.Sound.{AreSound}
@@ -17,7 +17,7 @@ pub returns-in-Some : goal.returns-in-Some
 returns-in-Some c =
     let a = c.args in
     device_chain a.loose a.self.now a.name a.what a.names.now a.reserve a.rescuer
-    ∙ ap (λ ds. device_reason ds a.name a.what a.names.now a.reserve (a.loose || a.rescuer)) (sym (ap (λ (k : Known). k.devices) c.self.view_is))
+    ∙ ap (λ ds. device_reason ds a.name a.what a.names.now a.reserve (a.loose || a.rescuer)) (sym (ap (λ (k : Declarations). k.devices) c.self.view_is))
     ∙ ap (device_reason c.self.inside.devices a.name a.what a.names.now a.reserve) (sym c.is_helped-helped.ensures)
     ∙ sym c.reason.ensures ∙ c.in-Some.is
 
@@ -62,9 +62,9 @@ returns c =
     c.in_ok-push.ensures
     ∙ ap (λ (members : List ℕ). devices ++ record { name = a.name; what = a.what; members = members; reserve = a.reserve; rescuer = a.rescuer } ∷ []) c.numbers-members.ensures in (
       device_chain a.loose a.self.now a.name a.what a.names.now a.reserve a.rescuer
-          ∙ ap (λ ds. device_reason ds a.name a.what a.names.now a.reserve (a.loose || a.rescuer)) (sym (ap (λ (k : Known). k.devices) c.self.view_is))
+          ∙ ap (λ ds. device_reason ds a.name a.what a.names.now a.reserve (a.loose || a.rescuer)) (sym (ap (λ (k : Declarations). k.devices) c.self.view_is))
           ∙ ap (device_reason c.self.inside.devices a.name a.what a.names.now a.reserve) (sym c.is_helped-helped.ensures)
           ∙ sym c.reason.ensures ∙ c.in_default.is,
       ap (λ (ds : List Declared). record { devices = ds; fs = inside.fs; bad = inside.bad.items; scripts = inside.scripts; no_memory = inside.no_memory; writes = []; rounds = []; syncs = 0; resizes = [] }) grown
-          ∙ ap (λ (k : Known). after k line) c.self.view_is,
+          ∙ ap (λ (k : Declarations). after k line) c.self.view_is,
     )
