@@ -8,7 +8,7 @@ use Rattle.clap.specs.Simple.{Shape, built, filled, new_rule, with_index}
 use Rattle.clap.specs.Kinds.{Kinds, or_else}
 use Rattle.clap.specs.Faults.{check_fault, defaults_fault, settle_fault, turn_fault, walk_fault}
 use Rattle.clap.specs.declared.parser.matches.ValueSource.TheVariants.{CommandLine}
-use Rattle.biostack_words.specs.Grammar.{WordForm, Kind, Setting, Word, dashed, flag_named, form_of_word, has, is_dashed, is_dashed_form, is_setting_of, kind_word, name_of, option, place, plain, seed, text, trace, valued_named, value_behind_equals, workers}
+use Rattle.biostack_words.specs.Grammar.{WordForm, SettingKind, Setting, Word, dashed, flag_named, form_of_word, has, is_dashed, is_dashed_form, is_setting_of, kind_word, name_of, option, place, plain, seed, text, trace, valued_named, value_behind_equals, workers}
 use Rattle.biostack_words.specs.Parser.{flag_rule, parser, valued}
 
 -- ---- what the parser is
@@ -19,10 +19,10 @@ shape = (built parser).top
 abbrev pub rules : List Rule
 rules = shape.rules
 
-abbrev pub id_of : Kind → Text
+abbrev pub id_of : SettingKind → Text
 id_of = kind_word
 
-abbrev pub rule_for : Kind → Rule
+abbrev pub rule_for : SettingKind → Rule
 rule_for seed = filled (valued (codes "seed"))
 rule_for workers = filled (valued (codes "workers"))
 rule_for trace = filled (flag_rule (codes "trace"))
@@ -32,7 +32,7 @@ rule_for place = with_index 1 (filled (new_rule (codes "number")))
 -- ---- rows
 
 -- an option that has a value, and a word alone
-abbrev pub is_valued : Kind → Bool
+abbrev pub is_valued : SettingKind → Bool
 is_valued seed = true
 is_valued workers = true
 is_valued place = true
@@ -44,7 +44,7 @@ abbrev pub use_values : Option Word → List Text
 use_values (Some value) = value ∷ []
 use_values None = []
 
-abbrev pub row_values : Kind → Option Word → List Text
+abbrev pub row_values : SettingKind → Option Word → List Text
 row_values kind value = if is_valued kind then use_values value else codes "true" ∷ []
 
 abbrev pub row_for : Setting → Row
@@ -59,7 +59,7 @@ row_for setting = record {
 abbrev pub rows_for : List Setting → List Row
 rows_for all = map row_for all
 
-pub has_row_for : (kind : Kind) (all : List Setting) → has_row (id_of kind) (rows_for all) ≡ has kind all
+pub has_row_for : (kind : SettingKind) (all : List Setting) → has_row (id_of kind) (rows_for all) ≡ has kind all
 has_row_for kind [] = refl
 has_row_for kind (setting ∷ all) = ap (λ b. is_setting_of kind setting || b) (has_row_for kind all)
 
@@ -152,14 +152,14 @@ met (a ∷ b ∷ c ∷ more) e = go (a == 45) (b == 45) refl refl e
 -- ---- names
 
 -- an option that has a value, and one that has none
-abbrev pub Takes : Kind → Type 0
+abbrev pub Takes : SettingKind → Type 0
 Takes seed = Unit {0}
 Takes workers = Unit {0}
 Takes trace = ⊥
 Takes text = ⊥
 Takes place = ⊥
 
-abbrev pub IsFlag : Kind → Type 0
+abbrev pub IsFlag : SettingKind → Type 0
 IsFlag seed = ⊥
 IsFlag workers = ⊥
 IsFlag trace = Unit {0}
@@ -168,8 +168,8 @@ IsFlag place = ⊥
 
 -- the options of this name: one that has a value, one that has none, or none
 pub data Named (name : Word) : Type 0 where
-  valued_one : (kind : Kind) → valued_named name ≡ Some kind → arg_by_long rules name ≡ Some (rule_for kind) → Takes kind → Named name
-  flag_one : (kind : Kind) → valued_named name ≡ None → flag_named name ≡ Some kind → arg_by_long rules name ≡ Some (rule_for kind) → IsFlag kind → Named name
+  valued_one : (kind : SettingKind) → valued_named name ≡ Some kind → arg_by_long rules name ≡ Some (rule_for kind) → Takes kind → Named name
+  flag_one : (kind : SettingKind) → valued_named name ≡ None → flag_named name ≡ Some kind → arg_by_long rules name ≡ Some (rule_for kind) → IsFlag kind → Named name
   unknown : valued_named name ≡ None → flag_named name ≡ None → arg_by_long rules name ≡ None → Named name
 
 pub named : (name : Word) → Named name

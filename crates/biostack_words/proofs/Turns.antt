@@ -6,7 +6,7 @@ use Rattle.std.proofs.lemmas.Bool.{or_parts, and_right}
 use Rattle.clap.specs.Walk.{Held, Row, is_pending, after_step, long_word, plain_word, positional, Text, Waiting, arg_by_long, idle, option as for_option, settled, walked}
 use Rattle.clap.specs.Kinds.{or_else}
 use Rattle.clap.specs.Faults.{settle_fault, turn_fault, use_fault, walk_fault, word_fault, long_fault, step_fault}
-use Rattle.biostack_words.specs.Grammar.{WordForm, Kind, Word, dashed, form_of_word, is_dashed, option, place, plain, seed, text, trace, workers}
+use Rattle.biostack_words.specs.Grammar.{WordForm, SettingKind, Word, dashed, form_of_word, is_dashed, option, place, plain, seed, text, trace, workers}
 use Rattle.biostack_words.proofs.Parsing.{IsFlag, Long, Met, Named, PlainWord, Takes, ends, fails, fails_first, flag_one, holding, met, named, rule_for, rules, shape, standing, stops, unknown, valued_one}
 
 -- ---- a turn
@@ -52,7 +52,7 @@ module _ (rows : List Row) (pending : Option (Text × List Text)) (position : �
 
 -- ---- options
 
-pub valued_fault : (kind : Kind) (value : Word) (h : Held) → Takes kind
+pub valued_fault : (kind : SettingKind) (value : Word) (h : Held) → Takes kind
     → long_fault rules false (Some (rule_for kind)) (Some value) h ≡ or_else (settle_fault rules false h) (use_fault false (rule_for kind) (value ∷ []) (settled rules h).rows)
 valued_fault seed value h t = refl
 valued_fault workers value h t = refl
@@ -60,14 +60,14 @@ valued_fault trace value h t = absurd t
 valued_fault text value h t = absurd t
 valued_fault place value h t = absurd t
 
-pub waits_fault : (kind : Kind) (h : Held) → Takes kind → long_fault rules false (Some (rule_for kind)) None h ≡ settle_fault rules false h
+pub waits_fault : (kind : SettingKind) (h : Held) → Takes kind → long_fault rules false (Some (rule_for kind)) None h ≡ settle_fault rules false h
 waits_fault seed h t = refl
 waits_fault workers h t = refl
 waits_fault trace h t = absurd t
 waits_fault text h t = absurd t
 waits_fault place h t = absurd t
 
-pub flag_fault : (kind : Kind) (h : Held) → IsFlag kind
+pub flag_fault : (kind : SettingKind) (h : Held) → IsFlag kind
     → long_fault rules false (Some (rule_for kind)) None h ≡ or_else (settle_fault rules false h) (use_fault false (rule_for kind) [] (settled rules h).rows)
 flag_fault trace h t = refl
 flag_fault text h t = refl
@@ -75,7 +75,7 @@ flag_fault seed h t = absurd t
 flag_fault workers h t = absurd t
 flag_fault place h t = absurd t
 
-pub value_of_flag : (kind : Kind) (value : Word) (h : Held) → IsFlag kind → fails (long_fault rules false (Some (rule_for kind)) (Some value) h) ≡ true
+pub value_of_flag : (kind : SettingKind) (value : Word) (h : Held) → IsFlag kind → fails (long_fault rules false (Some (rule_for kind)) (Some value) h) ≡ true
 value_of_flag trace value h t = refl
 value_of_flag text value h t = refl
 value_of_flag seed value h t = absurd t

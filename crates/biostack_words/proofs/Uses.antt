@@ -8,13 +8,13 @@ use Rattle.std.specs.Str.{bytes_eq}
 use Rattle.clap.specs.Walk.{Row, at_row, more_values, with_values, without, Text, has_row, used}
 use Rattle.clap.specs.Faults.{use_fault}
 use Rattle.clap.specs.declared.parser.matches.ValueSource.TheVariants.{CommandLine}
-use Rattle.biostack_words.specs.Grammar.{Kind, Setting, Word, alone, given_once, has, are_once, is_setting_of, kind_word, place, seed, text, trace, with_value, workers}
+use Rattle.biostack_words.specs.Grammar.{SettingKind, Setting, Word, alone, given_once, has, are_once, is_setting_of, kind_word, place, seed, text, trace, with_value, workers}
 use Rattle.biostack_words.proofs.Parsing.{fails, has_row_for, id_of, is_valued, row_for, rows_for, rule_for, use_values}
 
 -- ---- uses
 
 -- the kind has a value exactly where there is one
-abbrev pub Fits : Kind → Option Word → Type 0
+abbrev pub Fits : SettingKind → Option Word → Type 0
 Fits kind value = is_some value ≡ is_valued kind
 
 -- where no row has the id, one that is missing stands behind all
@@ -24,12 +24,12 @@ row_missing id change missing (row ∷ rows) none =
     let parts = or_parts (bytes_eq row.id id) (has_row id rows) none in
     rw parts.0 (ap (λ more. row ∷ more) (row_missing id change missing rows parts.1))
 
-passed_over : (kind : Kind) (change : Row → List Row) (missing : List Row) (done : List Setting) → has kind done ≡ false
+passed_over : (kind : SettingKind) (change : Row → List Row) (missing : List Row) (done : List Setting) → has kind done ≡ false
     → at_row (id_of kind) change missing (rows_for done) ≡ rows_for done ++ missing
 passed_over kind change missing done none = row_missing (id_of kind) change missing (rows_for done) (has_row_for kind done ∙ none)
 
 -- the row of an id that has none stands behind the others
-row_more : (kind : Kind) (how : _) (values : List Text) (done : List Setting) → has kind done ≡ false
+row_more : (kind : SettingKind) (how : _) (values : List Text) (done : List Setting) → has kind done ≡ false
     → with_values (id_of kind) how CommandLine values (without (id_of kind) (rows_for done))
     ≡ rows_for done ++ record { id = id_of kind; values = values; count = None; source = Some CommandLine; reading = how } ∷ []
 row_more kind how values done none =
@@ -40,7 +40,7 @@ more_is : (done : List Setting) (setting : Setting) → rows_for done ++ row_for
 more_is done setting = sym (map-append row_for done (setting ∷ []))
 
 -- a first use passes, and is a row more
-pub first_use : (kind : Kind) (value : Option Word) (done : List Setting) → Fits kind value → has kind done ≡ false
+pub first_use : (kind : SettingKind) (value : Option Word) (done : List Setting) → Fits kind value → has kind done ≡ false
     → (use_fault false (rule_for kind) (use_values value) (rows_for done) ≡ [])
     × (used (rule_for kind) (use_values value) (rows_for done) ≡ rows_for (done ++ record { kind = kind; value = value } ∷ []))
 first_use seed (Some v) done fits none = (rw (has_row_for seed done ∙ none) refl, row_more seed _ (v ∷ []) done none ∙ more_is done (with_value seed v))
@@ -55,7 +55,7 @@ first_use trace (Some v) done fits none = absurd (true≢false fits)
 first_use text (Some v) done fits none = absurd (true≢false fits)
 
 -- a second one does not pass
-pub second_use : (kind : Kind) (value : Option Word) (done : List Setting) → Fits kind value → has kind done ≡ true
+pub second_use : (kind : SettingKind) (value : Option Word) (done : List Setting) → Fits kind value → has kind done ≡ true
     → fails (use_fault false (rule_for kind) (use_values value) (rows_for done)) ≡ true
 second_use seed (Some v) done fits some = rw (has_row_for seed done ∙ some) refl
 second_use workers (Some v) done fits some = rw (has_row_for workers done ∙ some) refl
@@ -74,7 +74,7 @@ or_assoc : (a b c : Bool) → (a || (b || c)) ≡ ((a || b) || c)
 or_assoc true b c = refl
 or_assoc false b c = refl
 
-pub has_on : (kind : Kind) (done more : List Setting) → has kind (done ++ more) ≡ (has kind done || has kind more)
+pub has_on : (kind : SettingKind) (done more : List Setting) → has kind (done ++ more) ≡ (has kind done || has kind more)
 has_on kind [] more = refl
 has_on kind (setting ∷ done) more = ap (λ b. is_setting_of kind setting || b) (has_on kind done more) ∙ or_assoc (is_setting_of kind setting) (has kind done) (has kind more)
 

@@ -8,7 +8,7 @@ use Rattle.clap.specs.Walk.{Held, Row, is_pending, after_step, plain_word, Rule,
 use Rattle.clap.specs.Simple.{built, entered}
 use Rattle.clap.specs.Kinds.{Kinds}
 use Rattle.clap.specs.Faults.{entered_fault, fault_of, settle_fault, turn_fault, long_fault}
-use Rattle.biostack_words.specs.Grammar.{is as is_read, waits as waits_then, as_option, with_its_value, wrong, Reading, reading, value_reading, WordForm, Kind, Setting, Word, alone, as_flag, dashed, followed, form_of_word, has, are_once, is_dashed, option, place, plain, seed, settings_from, text, trace, with_value, workers}
+use Rattle.biostack_words.specs.Grammar.{is as is_read, waits as waits_then, as_option, with_its_value, wrong, Reading, reading, value_reading, WordForm, SettingKind, Setting, Word, alone, as_flag, dashed, followed, form_of_word, has, are_once, is_dashed, option, place, plain, seed, settings_from, text, trace, with_value, workers}
 use Rattle.biostack_words.specs.Parser.{parser}
 use Rattle.biostack_words.proofs.Parsing.{IsFlag, Long, Met, Named, PlainWord, Takes, ends, fails, fails_then, flag_one, goes_on, holding, id_of, last, met, named, rows_for, rule_for, rules, shape, standing, stops, unknown, valued_one}
 use Rattle.biostack_words.proofs.Uses.{Fits, first_use, second_use}
@@ -56,7 +56,7 @@ module _ (word : Word) (words : List Word) (clear : list_any is_dashed words ≡
   AgreesBy read = Agrees done (followed read (λ next. settings_from next words)) (ends here (word ∷ words)) (last here (word ∷ words)).held
 
   -- `--NAME=VALUE`
-  with_value_agrees : (name value : Word) → Long word name (Some value) → (kind : Kind) → arg_by_long rules name ≡ Some (rule_for kind) → Takes kind → (b : Bool) → has kind done ≡ b
+  with_value_agrees : (name value : Word) → Long word name (Some value) → (kind : SettingKind) → arg_by_long rules name ≡ Some (rule_for kind) → Takes kind → (b : Bool) → has kind done ≡ b
       → AgreesBy (is_read (with_value kind value))
   with_value_agrees name value is kind found t true there =
       refused_twice (with_value kind value) done _ here word words there
@@ -77,7 +77,7 @@ module _ (word : Word) (words : List Word) (clear : list_any is_dashed words ≡
       passed_on done _ here _ word words step.0 step.1 (one_setting (with_value kind value) done _ _ _ next)
 
   -- `--NAME` of an option that has no value
-  flag_agrees : (name : Word) → Long word name None → (kind : Kind) → arg_by_long rules name ≡ Some (rule_for kind) → IsFlag kind → (b : Bool) → has kind done ≡ b → AgreesBy (is_read (alone kind))
+  flag_agrees : (name : Word) → Long word name None → (kind : SettingKind) → arg_by_long rules name ≡ Some (rule_for kind) → IsFlag kind → (b : Bool) → has kind done ≡ b → AgreesBy (is_read (alone kind))
   flag_agrees name is kind found t true there =
       refused_twice (alone kind) done _ here word words there
       (stops here word words
@@ -96,7 +96,7 @@ module _ (word : Word) (words : List Word) (clear : list_any is_dashed words ≡
       passed_on done _ here _ word words step.0 step.1 (one_setting (alone kind) done _ _ _ next)
 
   -- `--NAME` of an option that has a value
-  waits_agrees : (name : Word) → Long word name None → (kind : Kind) → arg_by_long rules name ≡ Some (rule_for kind) → Takes kind → AgreesBy (waits_then kind)
+  waits_agrees : (name : Word) → Long word name None → (kind : SettingKind) → arg_by_long rules name ≡ Some (rule_for kind) → Takes kind → AgreesBy (waits_then kind)
   waits_agrees name is kind found t =
       let passes : long_fault rules false (Some (rule_for kind)) None (holding rows pending) ≡ [] = waits_fault kind (holding rows pending) t ∙ stands.settles in
       let step = long_waits rows pending (place_of done) word name None (rule_for kind) is found passes _ _ (waits_met kind (holding rows pending) t) in
@@ -140,7 +140,7 @@ module _ (word : Word) (words : List Word) (clear : list_any is_dashed words ≡
   word_agrees plain is = place_agrees is (has place done) refl
 
 -- the next word is the value
-waits_word : (kind : Kind) (word : Word) (rows : List Row) → Takes kind
+waits_word : (kind : SettingKind) (word : Word) (rows : List Row) → Takes kind
     → plain_word rules (for_option (id_of kind)) word (holding rows (Some (id_of kind, []))) ≡ (holding rows (Some (id_of kind, word ∷ [])), next_step idle)
 waits_word seed word rows t = refl
 waits_word workers word rows t = refl
@@ -149,7 +149,7 @@ waits_word text word rows t = absurd t
 waits_word place word rows t = absurd t
 
 -- no value is refused
-no_value : (kind : Kind) (rows : List Row) → Takes kind → fails (settle_fault rules false (holding rows (Some (id_of kind, [])))) ≡ true
+no_value : (kind : SettingKind) (rows : List Row) → Takes kind → fails (settle_fault rules false (holding rows (Some (id_of kind, [])))) ≡ true
 no_value seed rows t = refl
 no_value workers rows t = refl
 no_value trace rows t = absurd t
@@ -158,7 +158,7 @@ no_value place rows t = absurd t
 
 -- a word that waits for a value
 module _ (word : Word) (words : List Word) (clear : list_any is_dashed words ≡ false) (idle_rest : IdleAgrees words)
-    (kind : Kind) (done : List Setting) (t : Takes kind) (once : are_once done ≡ true) where
+    (kind : SettingKind) (done : List Setting) (t : Takes kind) (once : are_once done ≡ true) where
   abbrev pub waiting : Walk
   waiting = standing (rows_for done) (Some (id_of kind, [])) (for_option (id_of kind)) (place_of done)
 

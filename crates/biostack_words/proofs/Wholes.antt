@@ -9,7 +9,7 @@ use Rattle.clap.specs.Kinds.{HasKind, IsAmong, Kinds}
 use Rattle.clap.specs.Values.{kind_of}
 use Rattle.clap.specs.declared.error.Error.{Error}
 use Rattle.clap.specs.declared.error.kind.ErrorKind.{ErrorKind}
-use Rattle.biostack_words.specs.Grammar.{WordForm, GivenWords, Kind, Reading, Setting, Word, are_once, dashed, followed, form_of_word, given_by_words, given_in, given_once, is, is_dashed, is_dashed_form, option, plain, reading, settings, settings_from, value_reading, waits, wrong}
+use Rattle.biostack_words.specs.Grammar.{WordForm, GivenWords, SettingKind, Reading, Setting, Word, are_once, dashed, followed, form_of_word, given_by_words, given_in, given_once, is, is_dashed, is_dashed_form, option, plain, reading, settings, settings_from, value_reading, waits, wrong}
 use Rattle.biostack_words.specs.Reading.{IsSeen, ReadsGiven, fault_for}
 use Rattle.biostack_words.specs.Parser.{parser}
 use Rattle.biostack_words.specs.declared.WordFault.{WordFault}
@@ -56,28 +56,28 @@ fault_is words error clear (inr among) = go (fault_for (kind_of error))
     go Memory = tt
 
 -- what a word of this form is
-abbrev reads : Option Kind → WordForm → Word → Reading
+abbrev reads : Option SettingKind → WordForm → Word → Reading
 reads None f word = reading f word
 reads (Some kind) f word = value_reading kind f word
 
 -- a dashed word
-none_follows : (read : Reading) (rest : Option Kind → Option (List Setting)) → ((next : Option Kind) → rest next ≡ None) → followed read rest ≡ None
+none_follows : (read : Reading) (rest : Option SettingKind → Option (List Setting)) → ((next : Option SettingKind) → rest next ≡ None) → followed read rest ≡ None
 none_follows (is setting) rest none = rw (none None) refl
 none_follows (waits kind) rest none = none (Some kind)
 none_follows wrong rest none = refl
 
-dashed_reading : (waiting : Option Kind) (f : WordForm) (word : Word) → is_dashed_form f ≡ true → reads waiting f word ≡ wrong
+dashed_reading : (waiting : Option SettingKind) (f : WordForm) (word : Word) → is_dashed_form f ≡ true → reads waiting f word ≡ wrong
 dashed_reading None dashed word some = refl
 dashed_reading (Some kind) dashed word some = refl
 dashed_reading waiting plain word some = absurd (true≢false (sym some))
 dashed_reading waiting (option name value) word some = absurd (true≢false (sym some))
 
-dashed_wrong : (words : List Word) → list_any is_dashed words ≡ true → (waiting : Option Kind) → settings_from waiting words ≡ None
+dashed_wrong : (words : List Word) → list_any is_dashed words ≡ true → (waiting : Option SettingKind) → settings_from waiting words ≡ None
 unfolding settings_from
 dashed_wrong [] some waiting = absurd (true≢false (sym some))
 dashed_wrong (word ∷ words) some waiting = go (is_dashed word) refl some waiting (dashed_wrong words)
   where
-    go : (b : Bool) → is_dashed word ≡ b → (b || list_any is_dashed words) ≡ true → (waiting : Option Kind) → (list_any is_dashed words ≡ true → (next : Option Kind) → settings_from next words ≡ None)
+    go : (b : Bool) → is_dashed word ≡ b → (b || list_any is_dashed words) ≡ true → (waiting : Option SettingKind) → (list_any is_dashed words ≡ true → (next : Option SettingKind) → settings_from next words ≡ None)
         → settings_from waiting (word ∷ words) ≡ None
     go true is_one some None later = ap (λ read. followed read (λ next. settings_from next words)) (dashed_reading None (form_of_word word) word is_one)
     go true is_one some (Some kind) later = ap (λ read. followed read (λ next. settings_from next words)) (dashed_reading (Some kind) (form_of_word word) word is_one)

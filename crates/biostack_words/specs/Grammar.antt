@@ -58,32 +58,32 @@ is_dashed word = is_dashed_form (form_of_word word)
 -- ---- the words behind the first
 
 -- an option, or a place, which is a word alone
-pub data Kind : Type 0 where
-  seed : Kind
-  workers : Kind
-  trace : Kind
-  text : Kind
-  place : Kind
+pub data SettingKind : Type 0 where
+  seed : SettingKind
+  workers : SettingKind
+  trace : SettingKind
+  text : SettingKind
+  place : SettingKind
 
 -- an option with its value, or with none
 pub record Setting : Type 0 where
-  pub kind : Kind
+  pub kind : SettingKind
   pub value : Option Word
 
-abbrev pub with_value : Kind → Word → Setting
+abbrev pub with_value : SettingKind → Word → Setting
 with_value kind word = record { kind = kind; value = Some word }
 
-abbrev pub alone : Kind → Setting
+abbrev pub alone : SettingKind → Setting
 alone kind = record { kind = kind; value = None }
 
 -- the options that have a value, and those that have none
-abbrev pub valued_named : Word → Option Kind
+abbrev pub valued_named : Word → Option SettingKind
 valued_named name =
     if bytes_eq (codes "seed") name then Some seed
     else (if bytes_eq (codes "workers") name then Some workers
     else None)
 
-abbrev pub flag_named : Word → Option Kind
+abbrev pub flag_named : Word → Option SettingKind
 flag_named name =
     if bytes_eq (codes "trace") name then Some trace
     else (if bytes_eq (codes "text") name then Some text
@@ -92,18 +92,18 @@ flag_named name =
 -- a word is a setting, or an option whose value is the next word, or wrong
 pub data Reading : Type 0 where
   is : Setting → Reading
-  waits : Kind → Reading
+  waits : SettingKind → Reading
   wrong : Reading
 
-abbrev pub as_flag : Option Kind → Reading
+abbrev pub as_flag : Option SettingKind → Reading
 as_flag (Some kind) = is (alone kind)
 as_flag None = wrong
 
-abbrev pub as_option : Option Kind → Word → Reading
+abbrev pub as_option : Option SettingKind → Word → Reading
 as_option (Some kind) name = waits kind
 as_option None name = as_flag (flag_named name)
 
-abbrev pub with_its_value : Option Kind → Word → Reading
+abbrev pub with_its_value : Option SettingKind → Word → Reading
 with_its_value (Some kind) value = is (with_value kind value)
 with_its_value None value = wrong
 
@@ -114,23 +114,23 @@ reading (option name None) word = as_option (valued_named name) name
 reading (option name (Some value)) word = with_its_value (valued_named name) value
 
 -- a value does not begin with `-`
-abbrev pub value_reading : Kind → WordForm → Word → Reading
+abbrev pub value_reading : SettingKind → WordForm → Word → Reading
 value_reading kind plain word = is (with_value kind word)
 value_reading kind dashed word = wrong
 value_reading kind (option name value) word = wrong
 
-abbrev pub next_reading : Option Kind → Word → Reading
+abbrev pub next_reading : Option SettingKind → Word → Reading
 next_reading None word = reading (form_of_word word) word
 next_reading (Some kind) word = value_reading kind (form_of_word word) word
 
 -- what follows a word is read by whether it waits for a value
-abbrev pub followed : Reading → (Option Kind → Option (List Setting)) → Option (List Setting)
+abbrev pub followed : Reading → (Option SettingKind → Option (List Setting)) → Option (List Setting)
 followed (is setting) rest = option_map (λ more. setting ∷ more) (rest None)
 followed (waits kind) rest = rest (Some kind)
 followed wrong rest = None
 
 -- the words are these settings, one behind the other, where a value for this option comes first
-unfoldable pub settings_from : Option Kind → List Word → Option (List Setting)
+unfoldable pub settings_from : Option SettingKind → List Word → Option (List Setting)
 settings_from None [] = Some []
 settings_from (Some kind) [] = None
 settings_from waiting (word ∷ rest) = followed (next_reading waiting word) (λ next. settings_from next rest)
@@ -141,20 +141,20 @@ settings words = settings_from None words
 -- ---- settings
 
 -- what each is called
-abbrev pub kind_word : Kind → Word
+abbrev pub kind_word : SettingKind → Word
 kind_word seed = codes "seed"
 kind_word workers = codes "workers"
 kind_word trace = codes "trace"
 kind_word text = codes "text"
 kind_word place = codes "number"
 
-abbrev pub is_setting_of : Kind → Setting → Bool
+abbrev pub is_setting_of : SettingKind → Setting → Bool
 is_setting_of kind setting = bytes_eq (kind_word setting.kind) (kind_word kind)
 
-abbrev pub has : Kind → List Setting → Bool
+abbrev pub has : SettingKind → List Setting → Bool
 has kind all = list_any (is_setting_of kind) all
 
-abbrev pub setting_value : Kind → List Setting → Option Word
+abbrev pub setting_value : SettingKind → List Setting → Option Word
 setting_value kind all = option_and_then (λ setting. setting.value) (find (is_setting_of kind) all)
 
 -- no two of them are of one kind

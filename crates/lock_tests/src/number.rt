@@ -1,6 +1,6 @@
 //! A number behind a lock, as an example of a thing with a machine.
 ghost use Rattle.std.specs.Prelude.{◌≡◌, ◌+◌, ◌^◌, ◌%◌, IfOk};
-ghost use Rattle.seat_lock.specs.Seats.{IsOf, first_seat};
+ghost use Rattle.seat_lock.specs.Seats.{IsOfLock, first_seat};
 ghost use Rattle.lock_tests.specs.Adding.{SeatHasAsked};
 
 use seat_lock::{Seat, SeatLock, Thing};
@@ -56,7 +56,7 @@ impl Thing for Number {
 ///
 /// The number, where there is no memory for the lock.
 pub fn open(alloc: Global) -> Result<(SeatLock<Number>, Seat<Number>), Number>
-    ensures { IfOk result (λ made. IsOf made.0 made.1 × (made.1.known ≡ first_seat made.0.key) × (made.0.key.value.total ≡ 0)) }
+    ensures { IfOk result (λ made. IsOfLock made.0 made.1 × (made.1.known ≡ first_seat made.0.key) × (made.0.key.value.total ≡ 0)) }
 {
     SeatLock::new(alloc, Number { total: 0 })
 }
@@ -90,8 +90,8 @@ fn add_often<R: Wait>(
     mut seat: Seat<Number>,
     often: u64,
 ) -> (Seat<Number>, bool)
-    requires { IsOf lock.now seat }
-    ensures of { IsOf lock.now result.0 }
+    requires { IsOfLock lock.now seat }
+    ensures of { IsOfLock lock.now result.0 }
     ensures asked { SeatHasAsked seat.known result.0.known often }
 {
     let mut last = 0;
@@ -121,12 +121,12 @@ pub fn added_by_two<R: Threads + Wait + Sync>(
     let ((mut first, rises), (second, rises_too)) = thread::join(
         rt,
         || -> (Seat<Number>, bool)
-            requires { IsOf lock first }
-            ensures { IsOf lock result.0 × SeatHasAsked first.known result.0.known often }
+            requires { IsOfLock lock first }
+            ensures { IsOfLock lock result.0 × SeatHasAsked first.known result.0.known often }
         { add_often(rt, &lock, first, often) },
         || -> (Seat<Number>, bool)
-            requires { IsOf lock second }
-            ensures { IsOf lock result.0 × SeatHasAsked second.known result.0.known often }
+            requires { IsOfLock lock second }
+            ensures { IsOfLock lock result.0 × SeatHasAsked second.known result.0.known often }
         { add_often(rt, &lock, second, often) },
     );
     lock.join(&mut first, second);

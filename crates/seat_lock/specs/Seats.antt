@@ -19,12 +19,12 @@ pub record SeatState (T A R : Type 0) : Type 0 where
   pub known : Known T A R
 
 -- the seat is of this lock
-abbrev pub IsOf : {T A R : Type 0} → LockId T → SeatState T A R → Type 0
-IsOf lock seat = (seat.table ≡ lock.table) × (seat.known.start ≡ Some lock.key)
+abbrev pub IsOfLock : {T A R : Type 0} → LockId T → SeatState T A R → Type 0
+IsOfLock lock seat = (seat.table ≡ lock.table) × (seat.known.start ≡ Some lock.key)
 
 -- both seats are
-abbrev pub AreOf : {T A R : Type 0} → LockId T → SeatState T A R → SeatState T A R → Type 0
-AreOf lock one other = IsOf lock one × IsOf lock other
+abbrev pub AreOfLock : {T A R : Type 0} → LockId T → SeatState T A R → SeatState T A R → Type 0
+AreOfLock lock one other = IsOfLock lock one × IsOfLock lock other
 
 abbrev pub is_first : Rank → Bool
 is_first (First split) = true

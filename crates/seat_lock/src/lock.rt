@@ -1,7 +1,7 @@
 //! Locks and their seats.
 ghost use Rattle.std.specs.Prelude.{◌≡◌, ◌<◌, true, false, [], ◌∷◌, IfOk, IfErr};
 ghost use Rattle.seat_lock.specs.History.{HistoryLeaves};
-ghost use Rattle.seat_lock.specs.Seats.{AreOf, Calls, HasJoined, IsOf, IsWhole, first_seat, is_first, new_seat, own, split_more, split_of};
+ghost use Rattle.seat_lock.specs.Seats.{AreOfLock, Calls, HasJoined, IsOfLock, IsWhole, first_seat, is_first, new_seat, own, split_more, split_of};
 ghost use Rattle.seat_lock.specs.Turning.{EndsRun, FoundTurn, HasServed, HasThing, IsIdle, WaitsFor, after_call};
 ghost use Rattle.seat_lock.specs.declared.view.Rank.TheVariants.{First};
 
@@ -99,7 +99,7 @@ impl<T: Thing> SeatLock<T> {
     ///
     /// The thing, where there is no memory for the lock.
     pub fn new(alloc: Global, thing: T) -> Result<(SeatLock<T>, Seat<T>), T>
-        ensures ok { IfOk result (λ made. IsOf made.0 made.1 × (made.1.known ≡ first_seat made.0.key) × (made.0.key.value ≡ thing)) }
+        ensures ok { IfOk result (λ made. IsOfLock made.0 made.1 × (made.1.known ≡ first_seat made.0.key) × (made.0.key.value ≡ thing)) }
         ensures err { IfErr result (λ back. back ≡ thing) }
     {
         let start = Snapshot::of(&thing);
@@ -126,9 +126,9 @@ impl<T: Thing> SeatLock<T> {
     /// The call joins the history when its turn is passed on, so no other call stands between its request and its reply.
     #[inline(always)] // a request that is known where it is made has one arm of the thing's `serve`
     pub fn call<R: Wait>(&self, rt: &R, seat: &mut Seat<T>, request: T::Request) -> T::Reply
-        requires of { IsOf self.now seat.old }
+        requires of { IsOfLock self.now seat.old }
         requires fits { T.fits (T.mark self.now.key.value) request }
-        ensures of { IsOf self.now seat.new }
+        ensures of { IsOfLock self.now seat.new }
         ensures calls { Calls T.answers (T.plain self.now.key.value) seat.old.known (T.asked request) (T.told result) seat.new.known }
         ensures owed { T.owes (T.mark self.now.key.value) request result }
     {
@@ -242,9 +242,9 @@ impl<T: Thing> SeatLock<T> {
 
     /// One more seat of the lock, split from its first one. It has made no call, and knows what the first seat knows.
     pub fn split(&self, seat: &mut Seat<T>) -> Seat<T>
-        requires of { IsOf self.now seat.old }
+        requires of { IsOfLock self.now seat.old }
         requires first { (is_first seat.old.known.rank ≡ true) × (split_of seat.old.known.rank < 65535) }
-        ensures of { AreOf self.now seat.new result }
+        ensures of { AreOfLock self.now seat.new result }
         ensures seats { (seat.new.known ≡ split_more seat.old.known) × (result.known ≡ new_seat seat.old.known) }
         ensures calls { own result.known ≡ [] }
     {
@@ -256,9 +256,9 @@ impl<T: Thing> SeatLock<T> {
 
     /// Joins a seat, which is not the first one, into another. The joined seat shows the calls of both.
     pub fn join(&self, seat: &mut Seat<T>, other: Seat<T>)
-        requires of { AreOf self.now seat.old other }
+        requires of { AreOfLock self.now seat.old other }
         requires other { is_first other.known.rank ≡ false }
-        ensures of { IsOf self.now seat.new }
+        ensures of { IsOfLock self.now seat.new }
         ensures joined { HasJoined seat.old.known other.known seat.new.known }
         ensures whole { IsWhole seat.new.known }
     {
@@ -270,7 +270,7 @@ impl<T: Thing> SeatLock<T> {
 
     /// Ends the use of a lock, with its first seat, into which all others were joined. No turn is out then, so the thing is at home.
     pub fn close(self, seat: Seat<T>) -> Shut<T>
-        requires of { IsOf self seat }
+        requires of { IsOfLock self seat }
         requires whole { seat.known.rank ≡ First seat.known.joined }
         ensures told { result.told.value ≡ seat }
         ensures thing { HistoryLeaves T.plain T.mark T.answers self.key.value seat.known.seen result.thing }

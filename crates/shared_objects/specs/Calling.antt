@@ -2,7 +2,7 @@
 use Rattle.std.specs.Prelude.{◌≡◌, ◌<◌, ◌++◌, ℕ, List, [], ◌∷◌, Option, None, Some, length, slice_index_or, slice_set}
 use Rattle.tick_clock.specs.Tickets.{PassState}
 use Rattle.seat_lock.specs.declared.view.Known.{Known}
-use Rattle.seat_lock.specs.Seats.{LockId, SeatState, IsOf, own, call_of}
+use Rattle.seat_lock.specs.Seats.{LockId, SeatState, IsOfLock, own, call_of}
 use Rattle.run_machine.specs.Requests.{Request}
 use Rattle.object_things.specs.declared.stamp.Asking.{Asking}
 use Rattle.object_things.specs.declared.stamp.Replied.{Replied}
@@ -29,7 +29,7 @@ pub record HasAsked {Q S T : Type 0} (asked : Asking Q → Request) (told : Repl
 pub record AreSeatedAt {K T A R : Type 0} (locks : List (K × LockId T)) (seats : List (K × SeatState T A R)) (place : ℕ) : Type 0 where
   pub locked : place < length locks
   pub seated : place < length seats
-  pub of : (lock : K × LockId T) (seat : K × SeatState T A R) → IsOf (slice_index_or locks place lock).1 (slice_index_or seats place seat).1
+  pub of : (lock : K × LockId T) (seat : K × SeatState T A R) → IsOfLock (slice_index_or locks place lock).1 (slice_index_or seats place seat).1
 
 -- The object of the lock at this place was asked, by the seat there.
 pub record HasAskedAt {K Q S T : Type 0} (asked : Asking Q → Request) (told : Replied S → Told) (owes : T → Asking Q → Replied S → Type 0) (place : ℕ)
@@ -40,6 +40,6 @@ pub record HasAskedAt {K Q S T : Type 0} (asked : Asking Q → Request) (told : 
   pub seat : K × SeatState T Request Told
   pub seat_is : seat ≡ slice_index_or old place seat
   pub now : SeatState T Request Told
-  pub of : IsOf lock.1 now
+  pub of : IsOfLock lock.1 now
   pub changed : new ≡ slice_set old place (seat.0, now)
   pub made : HasAsked asked told (owes lock.1.key.value) seat.1.known before ask said now.known after

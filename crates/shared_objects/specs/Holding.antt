@@ -4,7 +4,7 @@ use Rattle.atomic_table.specs.Seated.{TableId}
 use Rattle.tick_clock.specs.Tickets.{PassState}
 use Rattle.seat_lock.specs.declared.view.Known.{Known}
 use Rattle.seat_lock.specs.declared.view.Rank.TheVariants.{Other}
-use Rattle.seat_lock.specs.Seats.{LockId, SeatState, IsOf, own}
+use Rattle.seat_lock.specs.Seats.{LockId, SeatState, IsOfLock, own}
 use Rattle.stack_base.specs.declared.ids.DevId.{DevId}
 use Rattle.stack_base.specs.declared.ids.PoolId.TheVariants.{FsVecs, Records}
 use Rattle.stack_base.specs.declared.ids.SetId.{SetId}
@@ -55,7 +55,7 @@ pub record AreLocked {K T : Type 0} (key : K → ℕ) (mark : T → MarkState) (
 
 -- The seat that the task of this number has of a lock: the first seat of each lock has the number 0, and each task's has one more than the task.
 pub record IsSeatOf {T A R : Type 0} (task : ℕ) (lock : LockId T) (seat : SeatState T A R) : Type 0 where
-  pub of : IsOf lock seat
+  pub of : IsOfLock lock seat
   pub numbered : IsNumbered task seat.known
 
 -- Its seats of locks of a kind, with their keys: as many, and at each place that of the lock there.

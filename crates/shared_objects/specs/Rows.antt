@@ -3,7 +3,7 @@ use Rattle.std.specs.Prelude.{◌≡◌, ◌<◌, ◌≤◌, ℕ, true, false, L
 use Rattle.seat_lock.specs.declared.lock.Shut.{Shut}
 use Rattle.seat_lock.specs.declared.view.Rank.TheVariants.{First}
 use Rattle.seat_lock.specs.History.{HistoryLeaves}
-use Rattle.seat_lock.specs.Seats.{LockId, SeatState, IsOf, HasJoined, IsWhole, is_first, new_seat, own, split_more, split_of}
+use Rattle.seat_lock.specs.Seats.{LockId, SeatState, IsOfLock, HasJoined, IsWhole, is_first, new_seat, own, split_more, split_of}
 use Rattle.shared_objects.specs.Joins.{HasTaken}
 
 module _ {X Y : Type 0} (P : X → Y → Type 0) where
@@ -35,7 +35,7 @@ module _ {L X Y : Type 0} (P : L → X → Y → X → Type 0) where
 module _ {T A R : Type 0} where
   -- the first seat of a lock, from which so many seats were split off, and into which none was joined
   abbrev pub IsFirstOf : ℕ → LockId T → SeatState T A R → Type 0
-  IsFirstOf split lock first = IsOf lock first × HasTaken split [] first.known
+  IsFirstOf split lock first = IsOfLock lock first × HasTaken split [] first.known
 
 module _ {K T A R : Type 0} where
   -- a lock round a thing, with its first seat
@@ -46,7 +46,7 @@ module _ {K T A R : Type 0} where
 
   -- a seat of a lock, with its key
   abbrev pub IsAt : K × LockId T → K × SeatState T A R → Type 0
-  IsAt lock seat = (seat.0 ≡ lock.0) × IsOf lock.1 seat.1
+  IsAt lock seat = (seat.0 ≡ lock.0) × IsOfLock lock.1 seat.1
 
   -- one more seat can be split off
   abbrev pub CanSplit : K × SeatState T A R → Type 0

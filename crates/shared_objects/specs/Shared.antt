@@ -1,6 +1,6 @@
 -- What holds of shared objects: of their locks, of the first seats of these, and of the tasks, each of which is here or was handed out.
 use Rattle.std.specs.Prelude.{◌≡◌, ◌<◌, ◌≤◌, ◌+◌, ℕ, Bool, true, List, [], length, slice_index_or, slice_set, vec_capacity, Option, None, Some}
-use Rattle.seat_lock.specs.Seats.{IsOf}
+use Rattle.seat_lock.specs.Seats.{IsOfLock}
 use Rattle.run_machine.specs.Opened.{Scenario}
 use Rattle.task_steps.specs.TaskViews.{TaskOf}
 use Rattle.task_core.specs.Leaving.{IsReservedForRun}
@@ -18,12 +18,12 @@ use Rattle.shared_objects.specs.declared.shared.Shared.{Shared}
 -- each first seat is of the lock at its place, and the first pass is of the locks' clock
 pub record FirstsHold (locks : Locks) (firsts : TaskSeats) : Type 0 where
   pub bios : Abreast IsAt locks.bios.items firsts.bios.items
-  pub vecs : IsOf locks.vecs firsts.vecs
+  pub vecs : IsOfLock locks.vecs firsts.vecs
   pub records : Abreast IsAt locks.records.items firsts.records.items
   pub lists : Abreast IsAt locks.lists.items firsts.lists.items
   pub disks : Abreast IsAt locks.disks.items firsts.disks.items
   pub books : Abreast IsAt locks.books.items firsts.books.items
-  pub tally : IsOf locks.tally firsts.tally
+  pub tally : IsOfLock locks.tally firsts.tally
   pub pass : IsPassOf locks.common.value.clock firsts.pass
 
 -- there is room for what is left of these locks, of so many tasks, and of the run of a scenario

@@ -1,6 +1,6 @@
 //! One call of an object by its seat, and what came of it.
 ghost use Rattle.std.specs.Prelude.{◌≡◌, slice_index_or};
-ghost use Rattle.seat_lock.specs.Seats.{IsOf, LockId};
+ghost use Rattle.seat_lock.specs.Seats.{IsOfLock, LockId};
 ghost use Rattle.object_things.specs.Stamps.{or_unmade};
 ghost use Rattle.shared_objects.specs.Calling.{AreSeatedAt, FitsWith, HasAsked, HasAskedAt};
 
@@ -23,9 +23,9 @@ pub(crate) fn call<Q, S, T, R>(
 where
     R: Wait,
     T: Thing<Request = Asking<Q>, Reply = Replied<S>, Asked = Asked, Told = Told, Mark = Mark>,
-    requires of { IsOf lock.now seat.old }
+    requires of { IsOfLock lock.now seat.old }
     requires fits { FitsWith (T.fits (T.mark lock.now.key.value)) pass.old ask }
-    ensures of { IsOf lock.now seat.new }
+    ensures of { IsOfLock lock.now seat.new }
     ensures asked { HasAsked T.asked T.told (T.owes (T.mark lock.now.key.value)) seat.old.known pass.old ask result seat.new.known pass.new }
 {
     let Some(held) = pass.take() else {

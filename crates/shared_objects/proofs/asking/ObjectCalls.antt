@@ -3,7 +3,7 @@ use Rattle.std.proofs.Common.{◌≡◌, ℕ, List, Option, refl, sym, ap, subst
 use Rattle.std.specs.Prelude.{IsTrue, slice_index_or}
 use Rattle.std.specs.Global.{Vec}
 use Rattle.tick_clock.specs.Tickets.{PassState}
-use Rattle.seat_lock.specs.Seats.{LockId, SeatState, IsOf}
+use Rattle.seat_lock.specs.Seats.{LockId, SeatState, IsOfLock}
 use Rattle.stack_base.specs.declared.ids.DevId.{DevId}
 use Rattle.run_machine.specs.Laws.{OfRescuer, OfDisk, OfBook, OfTally, object_of}
 use Rattle.run_machine.specs.Opened.{device_at}
@@ -184,7 +184,7 @@ module _ (locks : Locks) (seats : TaskSeats) (holds : DeskHolds locks seats) whe
         subst (λ (m : MarkState). FitsWith (TallyFits m) seats.pass ask) (sym holds.locked.tally)
         (fits_with (TallyFits (mark_as locks.common.value OfTally)) locks.common.value.clock seats.pass ask holds.passed (λ pass clock. (clock, named, fits)))
 
-    module _ (said : TallySaid) (new : SeatState TallyThing Request Told) (after : Option PassState) (of : IsOf locks.tally new)
+    module _ (said : TallySaid) (new : SeatState TallyThing Request Told) (after : Option PassState) (of : IsOfLock locks.tally new)
         (made : HasAsked (λ (asking : Asking TallyAsk). tally_asked asking.ask) tally_told (TallyOwes (tally_mark locks.tally.key.value)) seats.tally.known seats.pass ask said new.known after) where
       abbrev with_tally : TaskSeats
       with_tally = record seats { pass = after; tally = new }

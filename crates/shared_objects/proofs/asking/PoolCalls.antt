@@ -3,7 +3,7 @@ use Rattle.std.proofs.Common.{◌≡◌, ◌+◌, ◌++◌, ℕ, List, [], ◌�
 use Rattle.std.specs.Prelude.{IsTrue, slice_index_or}
 use Rattle.std.specs.Global.{Vec}
 use Rattle.tick_clock.specs.Tickets.{PassState}
-use Rattle.seat_lock.specs.Seats.{LockId, SeatState, IsOf, own}
+use Rattle.seat_lock.specs.Seats.{LockId, SeatState, IsOfLock, own}
 use Rattle.stack_base.specs.declared.ids.DevId.{DevId}
 use Rattle.stack_base.specs.declared.ids.SetId.{SetId}
 use Rattle.bio_records.specs.declared.bio.Pad.{Pad}
@@ -130,7 +130,7 @@ module _ (locks : Locks) (seats : TaskSeats) (holds : DeskHolds locks seats) whe
         subst (λ (m : MarkState). FitsWith (PoolFits m) seats.pass ask) (sym holds.locked.vecs)
         (fits_with (PoolFits (mark_as locks.common.value (OfPool 64))) locks.common.value.clock seats.pass ask holds.passed (λ pass clock. (clock, named, fits)))
 
-    module _ (said : (PoolSaid Vector)) (new : SeatState (PoolThing Vector) Request Told) (after : Option PassState) (of : IsOf locks.vecs new)
+    module _ (said : (PoolSaid Vector)) (new : SeatState (PoolThing Vector) Request Told) (after : Option PassState) (of : IsOfLock locks.vecs new)
         (made : HasAsked (λ (asking : Asking (PoolAsk Vector)). pool_asked asking.ask) pool_told (PoolOwes IsClearVector (pool_mark locks.vecs.key.value)) seats.vecs.known seats.pass ask said new.known after) where
       abbrev with_vecs : TaskSeats
       with_vecs = record seats { pass = after; vecs = new }

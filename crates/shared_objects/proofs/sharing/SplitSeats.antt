@@ -4,7 +4,7 @@ use Rattle.atomic_table.specs.Seated.{TableId}
 use Rattle.tick_clock.specs.Tickets.{PassState, fresh_pass, one_more_pass}
 use Rattle.seat_lock.specs.declared.view.Known.{Known}
 use Rattle.seat_lock.specs.declared.view.Rank.TheVariants.{First}
-use Rattle.seat_lock.specs.Seats.{LockId, SeatState, IsOf, is_first, new_seat, own, split_more, split_of}
+use Rattle.seat_lock.specs.Seats.{LockId, SeatState, IsOfLock, is_first, new_seat, own, split_more, split_of}
 use Rattle.shared_objects.specs.Holding.{IsSeatOf}
 use Rattle.shared_objects.specs.Joins.{HasTaken, IsNumbered}
 use Rattle.shared_objects.specs.Opening.{IsFirstAt, IsNewAt, IsNewOf, first_pass_of}
@@ -18,10 +18,10 @@ module _ {T A R : Type 0} (n : ℕ) where
   splits_one first few taken = (ap is_first taken.rank, subst (λ k. k < 65535) (sym (ap split_of taken.rank)) few)
 
   module _ (lock : LockId T) (old : SeatState T A R) (taken : HasTaken n [] old.known) where
-    pub first_now : (new : SeatState T A R) → IsOf lock new → new.known ≡ split_more old.known → IsFirstOf (n + 1) lock new
+    pub first_now : (new : SeatState T A R) → IsOfLock lock new → new.known ≡ split_more old.known → IsFirstOf (n + 1) lock new
     first_now new of is = (of, subst (λ (k : Known T A R). HasTaken (n + 1) [] k) (sym is) (splits n [] old.known taken).0)
 
-    pub seat_now : (seat : SeatState T A R) → IsOf lock seat → seat.known ≡ new_seat old.known → own seat.known ≡ [] → IsNewOf n lock seat
+    pub seat_now : (seat : SeatState T A R) → IsOfLock lock seat → seat.known ≡ new_seat old.known → own seat.known ≡ [] → IsNewOf n lock seat
     seat_now seat of is none =
         (record { of = of; numbered = subst (λ (k : Known T A R). IsNumbered n k) (sym is) (splits n [] old.known taken).1 }, none)
 
