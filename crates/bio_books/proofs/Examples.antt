@@ -4,7 +4,7 @@ use Rattle.stack_base.specs.declared.ids.Status.{Status}
 use Rattle.stack_base.specs.declared.ids.Status.TheVariants.{Ok, Io, Medium, NoSpace}
 use Rattle.bio_records.specs.declared.bio.Pad.{Pad}
 use Rattle.bio_records.specs.Items.{Item}
-use Rattle.bio_books.specs.Books.{SlipItem, Node, BookState, top_node, master_node, leg_node, keeping, raised, holding_slip, unmastered}
+use Rattle.bio_books.specs.Books.{SlipItem, Node, BookState, top_node, master_node, leg_node, with_kept_part, raised, holding_slip, unmastered}
 use Rattle.bio_books.specs.Links.{Masters, Legs, Made, Stray}
 use Rattle.bio_books.specs.Drops.{Drops, Left, Up}
 use Rattle.bio_books.specs.Endings.{End, all_told}
@@ -40,7 +40,7 @@ book one two three = record { writer = 4; nodes = one ∷ two ∷ three ∷ [] }
 
 -- a master of two legs at place 1 for the node at place 0, whose count stays
 a_master : (part : Item Pad) (slip : SlipItem) → Masters (book (Some (top_node 7 None)) None None) 0 part slip 2 (Made 1)
-    (book (Some (keeping part (top_node 7 None))) (Some (master_node 7 0 slip 2)) None)
+    (book (Some (with_kept_part part (top_node 7 None))) (Some (master_node 7 0 slip 2)) None)
 unfolding book
 a_master part slip = (refl, refl)
 

@@ -87,8 +87,8 @@ abbrev pub leg_node : ℕ → ℕ → Node
 leg_node write parent = record { role = Leg parent; write = write; count = 1; status = Ok; held = nothing_held }
 
 -- a node that keeps this part, in place of one that it kept
-abbrev pub keeping : Item Pad → Node → Node
-keeping part node = record node { held = record node.held { bio = Some part } }
+abbrev pub with_kept_part : Item Pad → Node → Node
+with_kept_part part node = record node { held = record node.held { bio = Some part } }
 
 -- a node that waits for one more end (`bio_inc_remaining`, block/bio.c)
 abbrev pub raised : Node → Node

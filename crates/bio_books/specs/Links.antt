@@ -2,7 +2,7 @@
 use Rattle.std.specs.Prelude.{◌≡◌, ◌⊎◌, ◌-◌, ◌^◌, ◌<◌, ℕ, Option, None, Some, IsSome, slice_get, All}
 use Rattle.bio_records.specs.declared.bio.Pad.{Pad}
 use Rattle.bio_records.specs.Items.{Item}
-use Rattle.bio_books.specs.Books.{VectorItem, SlipItem, Holding, Node, BookState, node_at, with_node, nothing_held, holding_vector, unmastered, top_node, child_node, master_node, leg_node, keeping, raised}
+use Rattle.bio_books.specs.Books.{VectorItem, SlipItem, Holding, Node, BookState, node_at, with_node, nothing_held, holding_vector, unmastered, top_node, child_node, master_node, leg_node, with_kept_part, raised}
 
 -- what a call that opens a node answers: its place, or what it was to hold, where there is no room or the named parent is not open
 pub data Linked : Type 0 where
@@ -48,7 +48,7 @@ Chains old parent answer new = ChainsAt old parent (node_at old parent) answer n
 -- end (`raid1_write_request`, drivers/md/raid1.c, whose `master_bio` is the bio that the mirror serves)
 abbrev pub MastersTo : BookState → ℕ → Node → Item Pad → SlipItem → ℕ → Linked → BookState → Type 0
 MastersTo old parent node part slip legs (Made place) new =
-    IsVacant old place × (new ≡ with_node (with_node old place (Some (master_node node.write parent slip legs))) parent (Some (keeping part node)))
+    IsVacant old place × (new ≡ with_node (with_node old place (Some (master_node node.write parent slip legs))) parent (Some (with_kept_part part node)))
 MastersTo old parent node part slip legs (NoRoom back) new = HasNoVacant old × (back ≡ unmastered part slip) × (new ≡ old)
 MastersTo old parent node part slip legs (Stray back) new = ⊥
 

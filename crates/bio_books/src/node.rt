@@ -1,7 +1,7 @@
 //! The nodes of a book.
 ghost use Rattle.std.specs.Prelude.{◌≡◌, ◌+◌, ◌-◌, ◌^◌, ◌<◌, ◌≤◌};
 ghost use Rattle.bio_records.specs.Items.{item_of, IsAlone};
-ghost use Rattle.bio_books.specs.Books.{child_node, closing, keeping, kept_with, leg_node, lowered, master_node, nothing_held, parent_of, raised, told, top_node, unmastered};
+ghost use Rattle.bio_books.specs.Books.{child_node, closing, with_kept_part, kept_with, leg_node, lowered, master_node, nothing_held, parent_of, raised, told, top_node, unmastered};
 ghost use Rattle.bio_books.specs.Views.{bio_of, closed_node_of, holding_of, slip_item, vector_of, IsAlonePart};
 ghost use Rattle.bio_books.specs.Drops.{closed_of};
 
@@ -271,7 +271,7 @@ pub struct Keep {
 impl Change<Node> for Keep {
     ghost applies = { λ keep _. IsAlone keep.part };
 
-    ghost after = { λ keep. keeping (item_of keep.part) };
+    ghost after = { λ keep. with_kept_part (item_of keep.part) };
 
     fn change(self, node: &mut Node) {
         node.held.bio = Some(self.part);

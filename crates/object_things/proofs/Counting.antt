@@ -9,7 +9,7 @@ use Rattle.std.proofs.lemmas.Option.{none-some, slice_get_within, get_or_from_sl
 use Rattle.stack_base.specs.declared.ids.Status.{Status}
 use Rattle.bio_records.specs.declared.bio.Pad.{Pad}
 use Rattle.bio_records.specs.Items.{Item}
-use Rattle.bio_books.specs.Books.{BookState, Node, SlipItem, node_at, top_node, child_node, master_node, leg_node, keeping, raised, lowered, told}
+use Rattle.bio_books.specs.Books.{BookState, Node, SlipItem, node_at, top_node, child_node, master_node, leg_node, with_kept_part, raised, lowered, told}
 use Rattle.bio_books.specs.Links.{Linked, Made, NoRoom, Stray, ChainsAt, MastersAt, LegsAt}
 use Rattle.bio_books.specs.Drops.{DropOutcome, DropsAt}
 use Rattle.bio_books.specs.Drops as end
@@ -89,7 +89,7 @@ chained writer opening old parent None (Stray back) new at s = same old new s.1
 
 mastered : (writer : ℕ) (opening : Opening) (old : BookState) (parent : ℕ) (part : Item Pad) (slip : SlipItem) (legs : ℕ) (found : Option Node) (answer : Linked) (new : BookState)
     → node_at old parent ≡ found → MastersAt old parent found part slip legs answer new → Counts old (openings (Link writer opening) (LinkedTo answer)) 0 new
-mastered writer opening old parent part slip legs (Some node) (Made place) new at s = opens_below old new place parent (master_node node.write parent slip legs) node (keeping part node) s.0 at s.1
+mastered writer opening old parent part slip legs (Some node) (Made place) new at s = opens_below old new place parent (master_node node.write parent slip legs) node (with_kept_part part node) s.0 at s.1
 mastered writer opening old parent part slip legs (Some node) (NoRoom back) new at s = same old new s.2
 mastered writer opening old parent part slip legs (Some node) (Stray back) new at s = absurd s
 mastered writer opening old parent part slip legs None (Made place) new at s = absurd s

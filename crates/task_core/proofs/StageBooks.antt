@@ -7,7 +7,7 @@ use Rattle.std.proofs.lemmas.Bool.{cases_lt}
 use Rattle.stack_base.specs.declared.ids.Status.{Status}
 use Rattle.bio_records.specs.declared.bio.Pad.{Pad}
 use Rattle.bio_records.specs.Items.{Item}
-use Rattle.bio_books.specs.Books.{VectorItem, SlipItem, Node, BookState, node_at, with_node, parent_of, nothing_held, top_node, child_node, master_node, leg_node, keeping, raised, told, lowered, later_part}
+use Rattle.bio_books.specs.Books.{VectorItem, SlipItem, Node, BookState, node_at, with_node, parent_of, nothing_held, top_node, child_node, master_node, leg_node, with_kept_part, raised, told, lowered, later_part}
 use Rattle.bio_books.specs.Links.{Linked, Made, NoRoom, Stray, Opens, ChainsAt, MastersAt, LegsAt}
 use Rattle.bio_books.specs.Drops.{DropOutcome, DropsAt, closed_of, Left, Up, Top}
 use Rattle.bio_books.specs.Drops as end
@@ -68,7 +68,7 @@ module _ (stage : Stage) where
       → MastersAt old parent node part slip legs answer new → IsBookOf stage writer new × LinkFits stage answer
   masters_is writer parent part slip legs (Made place) old new is fits (Some node) here masters = (
     subst (IsBookOf stage writer) (sym masters.1)
-        (with_is writer parent _ (Some (keeping part node))
+        (with_is writer parent _ (Some (with_kept_part part node))
         (record { write = here.write; held = record { bio = fits.0; vector = here.held.vector; slip = here.held.slip } })
         (with_is writer place old (Some (master_node node.write parent slip legs))
         (record { write = here.write; held = record { bio = tt; vector = tt; slip = record { ledger = fits.1.ledger; kind = fits.1.kind } } }) is)),

@@ -7,7 +7,7 @@ use Rattle.std.proofs.lemmas.Option.{get_or_from_slice_get, slice_get_within}
 use Rattle.stack_base.specs.declared.ids.SetId.TheVariants.{Of}
 use Rattle.bio_lists.specs.Submission.{submitted}
 use Rattle.bio_lists.specs.Punt.{punted, unpunted}
-use Rattle.bio_books.specs.Books.{Node, BookState, node_at, with_node, top_node, child_node, master_node, leg_node, keeping, raised, lowered, told}
+use Rattle.bio_books.specs.Books.{Node, BookState, node_at, with_node, top_node, child_node, master_node, leg_node, with_kept_part, raised, lowered, told}
 use Rattle.bio_books.specs.Links.{IsVacant}
 use Rattle.bio_books.specs.Drops.{closed_of}
 use Rattle.model_disks.specs.Disks.{DiskState}
@@ -147,8 +147,8 @@ delta scene w s (moves.Mastered place x bio lists slip key node) c =
       arith,
       task_delta scene w s place x (with_submission x new) c.0 c.1,
       submission_changes w place x (Drives bio (ToMaster slip)) lists new c.2,
-      sum_at-upd (book_weight w) scene.books s.objects.book bio.bio.writer (with_node (with_node book key (Some master)) bio.bio.node (Some (keeping bio node))) c.3,
-      two_nodes w bio.bio.writer book key bio.bio.node node master (keeping bio node) c.5 c.4,
+      sum_at-upd (book_weight w) scene.books s.objects.book bio.bio.writer (with_node (with_node book key (Some master)) bio.bio.node (Some (with_kept_part bio node))) c.3,
+      two_nodes w bio.bio.writer book key bio.bio.node node master (with_kept_part bio node) c.5 c.4,
     )
 -- links of legs
 delta scene w s (moves.Legged place x bio lists master leg hand key node) c =

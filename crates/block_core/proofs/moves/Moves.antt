@@ -17,7 +17,7 @@ use Rattle.bio_records.specs.Items.{Item}
 use Rattle.bio_lists.specs.Submission.{submitted}
 use Rattle.bio_lists.specs.Punt.{punted, unpunted}
 use Rattle.bio_split.specs.Split.{split_front, split_rest}
-use Rattle.bio_books.specs.Books.{Node, BookState, VectorItem, SlipItem, Holding, node_at, with_node, nothing_held, top_node, child_node, master_node, leg_node, keeping, raised, lowered, told}
+use Rattle.bio_books.specs.Books.{Node, BookState, VectorItem, SlipItem, Holding, node_at, with_node, nothing_held, top_node, child_node, master_node, leg_node, with_kept_part, raised, lowered, told}
 use Rattle.bio_books.specs.Links.{IsVacant}
 use Rattle.bio_books.specs.Drops.{Closed, closed_of}
 use Rattle.model_disks.specs.Disks.{DiskState}
@@ -289,7 +289,7 @@ after scene s (Mastered place x bio lists slip key node) = record {
   objects = with_book s.objects bio.bio.writer (
       with_node
       (with_node (s.objects.book bio.bio.writer) key (Some (master_node node.write bio.bio.node slip (legs_of (tree_at scene.setup bio.bio.dev)))))
-      bio.bio.node (Some (keeping bio node))
+      bio.bio.node (Some (with_kept_part bio node))
       );
   task = upd s.task place (with_submission x (copies scene.setup lists bio.bio key 0));
 }
@@ -376,7 +376,7 @@ gained scene w s (Chained place x bio lists hand number kind sizes members key n
 gained scene w s (Mastered place x bio lists slip key node) =
     submission_weight w (limit_of x) (copies scene.setup lists bio.bio key 0)
     + w.node bio.bio.writer key (master_node node.write bio.bio.node slip (legs_of (tree_at scene.setup bio.bio.dev)))
-    + w.node bio.bio.writer bio.bio.node (keeping bio node)
+    + w.node bio.bio.writer bio.bio.node (with_kept_part bio node)
 gained scene w s (Legged place x bio lists master leg hand key node) =
     submission_weight w (limit_of x) (copies scene.setup (submitted (leg_at bio hand leg key (tree_at scene.setup bio.dev)) lists) bio master (leg + 1))
     + w.node bio.writer key (leg_node node.write master)

@@ -8,7 +8,7 @@ use Rattle.stack_base.specs.PoolId.{pool_number}
 use Rattle.mempool_core.specs.Move.{after_move, resizes}
 use Rattle.bio_records.specs.declared.tasks.TaskLists.{TaskLists}
 use Rattle.bio_lists.specs.Submission.{no_lists}
-use Rattle.bio_books.specs.Books.{keeping, told}
+use Rattle.bio_books.specs.Books.{told}
 use Rattle.run_machine.specs.Maps.{upd}
 use Rattle.run_machine.specs.Scene.{Scene}
 use Rattle.run_machine.specs.Submissions.{Doing, Rests, Drives, Copies, Breaks, rests}

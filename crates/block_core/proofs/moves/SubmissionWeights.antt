@@ -14,7 +14,6 @@ use Rattle.bio_records.specs.Items.{Item}
 use Rattle.bio_records.specs.Sorting.{is_lower, is_for_device, is_of, is_of_other}
 use Rattle.bio_lists.specs.Submission.{order}
 use Rattle.bio_lists.specs.Punt.{punted, unpunted}
-use Rattle.bio_books.specs.Books.{keeping}
 use Rattle.run_machine.specs.Scene.{Setup, tree_at}
 use Rattle.run_machine.specs.Submissions.{Want, ToPush, ToCut, ToRecord, ToMaster, Doing, Rests, Drives, Copies, Breaks, Submission, settled, goes_on, asks_at, first_length, mapped, landed}
 use Rattle.run_machine.specs.Tasks.{TaskState, Writer, Rescuer, Completer, Keeper}

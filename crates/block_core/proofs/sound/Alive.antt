@@ -2,7 +2,7 @@
 use Rattle.std.proofs.Common.{◌≡◌, ◌<◌, ◌≤◌, ℕ, length, Option, None, Some, refl, sym, subst, arith}
 use Rattle.std.proofs.lemmas.List.{length-set}
 use Rattle.stack_base.specs.Tree.{Tree, Leaf, Split, Mirrored}
-use Rattle.bio_books.specs.Books.{Node, BookState, node_at, with_node, top_node, child_node, master_node, leg_node, keeping, raised, lowered, told}
+use Rattle.bio_books.specs.Books.{Node, BookState, node_at, with_node, top_node, child_node, master_node, leg_node, with_kept_part, raised, lowered, told}
 use Rattle.bio_books.specs.Links.{IsVacant}
 use Rattle.run_machine.specs.Maps.{upd}
 use Rattle.run_machine.specs.Scene.{Scene, tree_at}
@@ -64,7 +64,7 @@ module _ (scene : Scene) (s : State) (g : DeviceGeometry scene.setup) (p : Place
       let d = placed_at scene.setup s p place x (Drives bio (ToMaster slip)) lists c.1 c.2 in
       let legs : 1 ≤ legs_of (tree_at scene.setup bio.bio.dev) = by_tree (tree_at scene.setup bio.bio.dev) refl d.3 (g.copied bio.bio d.1.0.0) in
       of_book bio.bio.writer _
-      (two_all IsAlive (s.objects.book bio.bio.writer) key bio.bio.node node (master_node node.write bio.bio.node slip (legs_of (tree_at scene.setup bio.bio.dev))) (keeping bio node) c.5 c.4 (i bio.bio.writer) legs old)
+      (two_all IsAlive (s.objects.book bio.bio.writer) key bio.bio.node node (master_node node.write bio.bio.node slip (legs_of (tree_at scene.setup bio.bio.dev))) (with_kept_part bio node) c.5 c.4 (i bio.bio.writer) legs old)
     where
       by_tree : (t : Tree) → tree_at scene.setup bio.bio.dev ≡ t → AskFits t bio.bio.range bio.bio.dev.0 (ToMaster slip) → IsCopied t → 1 ≤ legs_of t
       by_tree (Leaf number sectors) is a has = absurd a

@@ -3,7 +3,7 @@ use Rattle.std.proofs.Common.{◌≡◌, ◌+◌, ◌*◌, ◌≤◌, ℕ, Optio
 use Rattle.stack_base.specs.PoolId.{pool_number}
 use Rattle.stack_base.specs.Tree.{Tree, Leaf, Split, Mirrored}
 use Rattle.mempool_core.specs.Move.{PoolState, PoolMove, after_move, takes_ordinary, takes_spare, misses, gives, resizes}
-use Rattle.bio_books.specs.Books.{Node, BookState, node_at, top_node, child_node, master_node, leg_node, keeping, raised, lowered, told}
+use Rattle.bio_books.specs.Books.{Node, BookState, node_at, top_node, child_node, master_node, leg_node, with_kept_part, raised, lowered, told}
 use Rattle.run_machine.specs.Maps.{upd}
 use Rattle.run_machine.specs.Scene.{Scene, tree_at}
 use Rattle.run_machine.specs.Submissions.{ToMaster, Drives, legs_of}
@@ -82,7 +82,7 @@ module _ (scene : Scene) (s : State) (g : DeviceGeometry scene.setup) (p : Place
       let d = placed_at scene.setup s p place x (Drives bio (ToMaster slip)) lists c.1 c.2 in
       let legs : legs_of (tree_at scene.setup bio.bio.dev) ≤ 8 = by_tree (tree_at scene.setup bio.bio.dev) (g.copied bio.bio d.1.0.0) in
       of_book bio.bio.writer _
-      (two_all Small (s.objects.book bio.bio.writer) key bio.bio.node node (master_node node.write bio.bio.node slip (legs_of (tree_at scene.setup bio.bio.dev))) (keeping bio node) c.5 c.4 (nodes bio.bio.writer)
+      (two_all Small (s.objects.book bio.bio.writer) key bio.bio.node node (master_node node.write bio.bio.node slip (legs_of (tree_at scene.setup bio.bio.dev))) (with_kept_part bio node) c.5 c.4 (nodes bio.bio.writer)
       (omega (arith, legs)) (omega (arith, old)))
     where
       by_tree : (t : Tree) → IsCopied t → legs_of t ≤ 8

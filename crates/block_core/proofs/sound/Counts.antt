@@ -10,7 +10,7 @@ use Rattle.bio_records.specs.declared.bio.Pad.{Pad}
 use Rattle.bio_records.specs.declared.tasks.TaskLists.{TaskLists}
 use Rattle.bio_records.specs.Items.{Item}
 use Rattle.bio_lists.specs.Submission.{submitted}
-use Rattle.bio_books.specs.Books.{BookState, VectorItem, node_at, top_node, child_node, master_node, leg_node, keeping, raised, lowered, told}
+use Rattle.bio_books.specs.Books.{BookState, VectorItem, node_at, top_node, child_node, master_node, leg_node, with_kept_part, raised, lowered, told}
 use Rattle.run_machine.specs.Scene.{Setup, Scene, tree_at}
 use Rattle.run_machine.specs.Submissions.{Want, Links, Copies, rests, settled, first_length, legs_of, leg_at}
 use Rattle.run_machine.specs.Tasks.{TaskState, Writer, Rescuer, Completer, Keeper, Todo, Carried, Empty, Brings, Carries, Fails}
@@ -132,7 +132,7 @@ module _ (scene : Scene) (s : State) (f : LedgersAreNumbered scene) (i : Invaria
         copies_weight (references scene.setup w k) (blind_refs scene.setup w k) (limit_of x) scene.setup lists bio.bio key 0,
         left_behind (one_if_same bio.bio.writer w * one_if_same key k) 0 legs,
         spread (one_if_same bio.bio.writer w) (one_if_same key k) (one_if_same bio.bio.node k) legs,
-        chained awaited_ends refl s.objects.book bio.bio.writer key bio.bio.node node (master_node node.write bio.bio.node slip legs) (keeping bio node) w k legs 0 0 c.5 c.4 refl refl,
+        chained awaited_ends refl s.objects.book bio.bio.writer key bio.bio.node node (master_node node.write bio.bio.node slip legs) (with_kept_part bio node) w k legs 0 0 c.5 c.4 refl refl,
       )
   -- links of legs
   counts (moves.Legged place x bio lists master leg hand key node) c w k =

@@ -15,7 +15,7 @@ use Rattle.bio_records.specs.Sorting.{is_of_other}
 use Rattle.bio_lists.specs.Submission.{submitted, order}
 use Rattle.bio_lists.specs.Punt.{unpunted}
 use Rattle.bioset_pools.specs.Sets.{bios_of, waits_first}
-use Rattle.bio_books.specs.Books.{Node, BookState, node_at, with_node, top_node, child_node, master_node, leg_node, keeping, raised, lowered, told}
+use Rattle.bio_books.specs.Books.{Node, BookState, node_at, with_node, top_node, child_node, master_node, leg_node, with_kept_part, raised, lowered, told}
 use Rattle.bio_books.specs.Links.{IsVacant}
 use Rattle.run_machine.specs.Maps.{upd}
 use Rattle.run_machine.specs.Scene.{Setup, Scene, tree_at}
@@ -112,7 +112,7 @@ module _ (scene : Scene) (s : State) where
       (in_two (s.objects.book bio.bio.writer) key bio.bio.node (child_node above.write bio.bio.node) above (raised above) k node c.6 c.5 refl) at
   stays_or_closes (moves.Mastered place x bio lists slip key above) c w k node at =
       in_books s.objects.book bio.bio.writer _ w k node
-      (in_two (s.objects.book bio.bio.writer) key bio.bio.node (master_node above.write bio.bio.node slip (legs_of (tree_at scene.setup bio.bio.dev))) above (keeping bio above) k node c.5 c.4
+      (in_two (s.objects.book bio.bio.writer) key bio.bio.node (master_node above.write bio.bio.node slip (legs_of (tree_at scene.setup bio.bio.dev))) above (with_kept_part bio above) k node c.5 c.4
       refl) at
   -- links of legs: the new node is made at a vacant place
   stays_or_closes (moves.Legged place x bio lists master leg hand key above) c w k node at =

@@ -17,7 +17,7 @@ use Rattle.bio_records.specs.Sorting.{is_lower, is_for_device, is_of, is_of_othe
 use Rattle.bio_split.specs.Split.{split_rest}
 use Rattle.bioset_pools.specs.Sets.{bios_of, waits_first}
 use Rattle.bio_lists.specs.Punt.{unpunted}
-use Rattle.bio_books.specs.Books.{VectorItem, keeping}
+use Rattle.bio_books.specs.Books.{VectorItem}
 use Rattle.run_machine.specs.Scene.{Setup, tree_at}
 use Rattle.run_machine.specs.Submissions.{Want, Takes, WantsPunt, Links, Driving, ToPush, ToCut, ToRecord, ToMaster, Doing, Rests, Drives, Copies, Breaks, Submission, settled, goes_on, copies, asks_at, first_length, landed, legs_of, leg_at, is_cut}
 use Rattle.run_machine.specs.Tasks.{TaskState, Writer, Rescuer, Completer, Keeper, Todo, Gathered, NoBio, HasBio, HasBoth, first_bio}

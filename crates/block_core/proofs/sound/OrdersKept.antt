@@ -13,7 +13,7 @@ use Rattle.bio_records.specs.Sorting.{is_of}
 use Rattle.bio_lists.specs.Submission.{submitted}
 use Rattle.bio_lists.specs.Punt.{punted, unpunted}
 use Rattle.bioset_pools.specs.Sets.{bios_of}
-use Rattle.bio_books.specs.Books.{VectorItem, keeping}
+use Rattle.bio_books.specs.Books.{VectorItem}
 use Rattle.run_machine.specs.Maps.{upd}
 use Rattle.run_machine.specs.Scene.{Setup, Scene, tree_at}
 use Rattle.run_machine.specs.Submissions.{Takes, WantsPunt, Links, ToPush, ToCut, ToRecord, ToMaster, Doing, Rests, Drives, Copies, Breaks, Submission, rests, leg_at}

@@ -9,7 +9,7 @@ use Rattle.bio_records.specs.Items.{Item}
 use Rattle.bio_lists.specs.Submission.{submitted}
 use Rattle.bio_books.specs.declared.node.Role.{Role}
 use Rattle.bio_books.specs.declared.node.Role.TheVariants as role
-use Rattle.bio_books.specs.Books.{Node, BookState, VectorItem, node_at, top_node, child_node, master_node, leg_node, keeping, raised, lowered, told, later_part}
+use Rattle.bio_books.specs.Books.{Node, BookState, VectorItem, node_at, top_node, child_node, master_node, leg_node, with_kept_part, raised, lowered, told, later_part}
 use Rattle.run_machine.specs.Scene.{Setup, Scene, tree_at}
 use Rattle.run_machine.specs.Submissions.{Want, Takes, WantsPunt, Links, ToPush, ToCut, ToRecord, ToMaster, Doing, Rests, Drives, Copies, Breaks, rests, settled, first_length, legs_of, leg_at}
 use Rattle.run_machine.specs.Tasks.{TaskState, Writer, Rescuer, Completer, Keeper, Todo, Gathered, NoBio, HasBio, HasBoth, Carried, Empty, Brings, Carries, Fails}
@@ -188,14 +188,14 @@ module _ (scene : Scene) (s : State) (f : LedgersAreNumbered scene) (i : Invaria
       let part = submission_part scene (named bio.bio.writer bio.bio.node) s place x (Drives bio (ToMaster slip)) lists c.0 c.1 c.2 in
       let a = named_away scene s bio node i c.4 (omega (arith, part)) in
       let b : own_part node.role node.held.bio ≡ own_part node.role None = ap (own_part node.role) a.0 in
-      let lost_own : own_of (Some (keeping bio node)) + 1 ≡ own_of (Some node) + 0 = omega (arith, a.1, b, own_some node.role bio) in
+      let lost_own : own_of (Some (with_kept_part bio node)) + 1 ≡ own_of (Some node) + 0 = omega (arith, a.1, b, own_some node.role bio) in
       omega (
         arith,
         i.owns w k,
         delta scene (named w k) s (moves.Mastered place x bio lists slip key node) c,
         copies_weight (named w k) (blind_named w k) (limit_of x) scene.setup lists bio.bio key 0,
         unless_none (0 == legs),
-        chained own_of refl s.objects.book bio.bio.writer key bio.bio.node node (master_node node.write bio.bio.node slip legs) (keeping bio node) w k 0 0 1 c.5 c.4 refl lost_own,
+        chained own_of refl s.objects.book bio.bio.writer key bio.bio.node node (master_node node.write bio.bio.node slip legs) (with_kept_part bio node) w k 0 0 1 c.5 c.4 refl lost_own,
       )
   -- links of legs
   owns (moves.Legged place x bio lists master leg hand key node) c w k =

@@ -6,7 +6,7 @@ use Rattle.bio_records.specs.declared.bio.Pad.{Pad}
 use Rattle.bio_records.specs.Items.{Item}
 use Rattle.bio_lists.specs.Submission.{submitted}
 use Rattle.bio_lists.specs.Punt.{punted}
-use Rattle.bio_books.specs.Books.{Node, BookState, node_at, parent_of, top_node, child_node, master_node, leg_node, keeping, raised, lowered, told}
+use Rattle.bio_books.specs.Books.{Node, BookState, node_at, parent_of, top_node, child_node, master_node, leg_node, with_kept_part, raised, lowered, told}
 use Rattle.bio_books.specs.Links.{IsVacant}
 use Rattle.run_machine.specs.declared.event.Event.{Event}
 use Rattle.run_machine.specs.Maps.{upd}
@@ -144,7 +144,7 @@ module _ (scene : Scene) (s : State) (i : Invariant scene s) (was_master : ℕ �
       let part = parts.submission_part scene (named bio.bio.writer bio.bio.node) s place x (Drives bio (ToMaster slip)) lists c.0 c.1 c.2 in
       let a = parts.named_away scene s bio node i c.4 (omega (arith, part)) in
       let b : own_part node.role node.held.bio ≡ own_part node.role None = ap (own_part node.role) a.0 in
-      let lost_own : own_of (Some (keeping bio node)) + 1 ≡ own_of (Some node) + 0 = omega (arith, a.1, b, own_some node.role bio) in
+      let lost_own : own_of (Some (with_kept_part bio node)) + 1 ≡ own_of (Some node) + 0 = omega (arith, a.1, b, own_some node.role bio) in
       omega (
         arith,
         all w k,
@@ -153,7 +153,7 @@ module _ (scene : Scene) (s : State) (i : Invariant scene s) (was_master : ℕ �
         unless_none (0 == legs),
         zeros lists.list0,
         zeros lists.list1,
-        chained own_of refl s.objects.book bio.bio.writer key bio.bio.node node (master_node node.write bio.bio.node slip legs) (keeping bio node) w k 0 0 1 c.5 c.4 refl lost_own,
+        chained own_of refl s.objects.book bio.bio.writer key bio.bio.node node (master_node node.write bio.bio.node slip legs) (with_kept_part bio node) w k 0 0 1 c.5 c.4 refl lost_own,
       )
   -- links of legs
   stays_stood_for (moves.Legged place x bio lists master leg hand key node) c w k =

@@ -9,7 +9,6 @@ use Rattle.bio_records.specs.declared.tasks.TaskLists.{TaskLists}
 use Rattle.bio_records.specs.Items.{Item}
 use Rattle.bio_lists.specs.Submission.{order, submitted}
 use Rattle.bio_lists.specs.Punt.{unpunted}
-use Rattle.bio_books.specs.Books.{keeping}
 use Rattle.run_machine.specs.Maps.{upd}
 use Rattle.run_machine.specs.Scene.{Setup, Scene, tree_at}
 use Rattle.bioset_pools.specs.Sets.{waits_first}

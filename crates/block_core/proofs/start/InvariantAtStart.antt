@@ -4,7 +4,7 @@ use Rattle.std.specs.Prelude.{sum_by}
 use Rattle.std.proofs.lemmas.List.{get_or_past}
 use Rattle.elem_ledger.specs.Ledger.{LedgerId}
 use Rattle.mempool_core.specs.Facts.{AddsUp}
-use Rattle.bio_books.specs.Books.{Node, BookState, node_at, keeping}
+use Rattle.bio_books.specs.Books.{Node, BookState, node_at}
 use Rattle.model_disks.specs.Disks.{DiskState}
 use Rattle.run_machine.specs.Scene.{Scene}
 use Rattle.run_machine.specs.Submissions.{rests}

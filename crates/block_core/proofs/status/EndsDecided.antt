@@ -13,7 +13,7 @@ use Rattle.bio_records.specs.declared.bio.Pad.{Pad}
 use Rattle.bio_records.specs.Items.{Item}
 use Rattle.bio_lists.specs.Submission.{submitted}
 use Rattle.bio_split.specs.Split.{split_rest}
-use Rattle.bio_books.specs.Books.{Node, BookState, node_at, top_node, child_node, master_node, leg_node, keeping, raised, lowered, told, parent_of}
+use Rattle.bio_books.specs.Books.{Node, BookState, node_at, top_node, child_node, master_node, leg_node, with_kept_part, raised, lowered, told, parent_of}
 use Rattle.bio_books.specs.Links.{IsVacant}
 use Rattle.bio_books.specs.Drops.{Closed, closed_of}
 use Rattle.run_machine.specs.Scene.{Setup, Scene, tree_at}
@@ -231,7 +231,7 @@ module _ (scene : Scene) (ends : Fragment → Status) (written : ℕ → Status 
         more_decided (moves.Mastered place x bio lists slip key node) c bio.bio.writer key new made_node c.5 w k
         (omega (
           arith,
-          chained (lack (marks w k)) refl s.objects.book bio.bio.writer key bio.bio.node node made_node (keeping bio node) w k (lack (marks w k) (Some made_node)) 0 0 c.5 c.4 refl refl,
+          chained (lack (marks w k)) refl s.objects.book bio.bio.writer key bio.bio.node node made_node (with_kept_part bio node) w k (lack (marks w k) (Some made_node)) 0 0 c.5 c.4 refl refl,
           with_nothing (one_if_same bio.bio.writer w) (one_if_same key k * lack (marks w k) (Some made_node)) (one_if_same bio.bio.node k),
         ))
         (omega (

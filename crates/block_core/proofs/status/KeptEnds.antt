@@ -11,7 +11,7 @@ use Rattle.bio_records.specs.declared.bio.Pad.{Pad}
 use Rattle.bio_records.specs.Items.{Item}
 use Rattle.bio_books.specs.declared.node.Role.{Role}
 use Rattle.bio_books.specs.declared.node.Role.TheVariants as role
-use Rattle.bio_books.specs.Books.{Node, BookState, node_at, with_node, top_node, child_node, master_node, leg_node, keeping, raised, kept_with, first_failing}
+use Rattle.bio_books.specs.Books.{Node, BookState, node_at, with_node, top_node, child_node, master_node, leg_node, with_kept_part, raised, kept_with, first_failing}
 use Rattle.bio_books.specs.Links.{Made, IsVacant, ChainsAt, MastersAt, LegsAt}
 use Rattle.bio_books.specs.Drops.{DropOutcome, DropsAt}
 use Rattle.bio_books.specs.Drops as end
@@ -169,7 +169,7 @@ module _ (ledger : ℕ → LedgerId) (old new : Objects) (w k : ℕ) (ends : Lis
       by_found None up made = absurd made
       by_found (Some above) up made =
           by_book writer key _ [] is made.1
-          (at_two (old.book writer) key parent (master_node above.write parent slip legs) above (keeping part above) k ends made.0 up refl refl marks_none)
+          (at_two (old.book writer) key parent (master_node above.write parent slip legs) above (with_kept_part part above) k ends made.0 up refl refl marks_none)
   links writer (requests.Leg master) key made is = by_found (node_at (old.book writer) master) made
     where
       by_found : (found : Option Node) → LegsAt (old.book writer) master found (Made key) (new.book writer) → Keeps (Some (what.Link writer (how_of (requests.Leg master)) key))

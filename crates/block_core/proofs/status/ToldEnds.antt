@@ -8,7 +8,7 @@ use Rattle.stack_base.specs.declared.ids.Status.TheVariants.{Ok}
 use Rattle.layout_model.specs.declared.fragment.Fragment.{Fragment}
 use Rattle.bio_records.specs.declared.bio.Pad.{Pad}
 use Rattle.bio_records.specs.Items.{Item}
-use Rattle.bio_books.specs.Books.{Node, node_at, keeping, told, parent_of, kept_with, closing}
+use Rattle.bio_books.specs.Books.{Node, node_at, told, parent_of, kept_with, closing}
 use Rattle.bio_books.specs.Drops.{Closed, closed_of}
 use Rattle.run_machine.specs.Scene.{Setup, Scene, tree_at}
 use Rattle.run_machine.specs.Tasks.{TaskState, Writer, Rescuer, Completer, Keeper, Carried, Empty, Brings, Carries, Fails}

@@ -4,7 +4,6 @@ use Rattle.std.specs.Prelude.{slice_get}
 use Rattle.stack_base.specs.declared.ids.DevId.{DevId}
 use Rattle.stack_base.specs.declared.stack.Kind.{Kind}
 use Rattle.stack_base.specs.Tree.{Tree, size}
-use Rattle.bio_books.specs.Books.{keeping}
 use Rattle.run_machine.specs.Scene.{Scene}
 use Rattle.run_machine.specs.Submissions.{legs_of}
 use Rattle.run_machine.specs.Tasks.{TaskState, Writer, Rescuer, Completer, Keeper}

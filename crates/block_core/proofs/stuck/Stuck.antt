@@ -8,7 +8,7 @@ use Rattle.stack_base.proofs.ListLemmas.{Each}
 use Rattle.stack_base.proofs.NumberLemmas.{zero_or}
 use Rattle.mempool_core.specs.Move.{resizes}
 use Rattle.bio_records.specs.declared.tasks.TaskLists.{TaskLists}
-use Rattle.bio_books.specs.Books.{Node, node_at, keeping}
+use Rattle.bio_books.specs.Books.{Node, node_at}
 use Rattle.model_disks.specs.Disks.{DiskState}
 use Rattle.run_machine.specs.Scene.{Setup, Scene}
 use Rattle.run_machine.specs.Submissions.{Doing, Rests, Drives, Copies, Breaks, Submission}

@@ -7,7 +7,7 @@ use Rattle.mempool_core.specs.Move.{takes_spare, misses}
 use Rattle.bio_records.specs.declared.tasks.TaskLists.{TaskLists}
 use Rattle.bioset_pools.specs.Sets.{bios_of}
 use Rattle.bio_lists.specs.Punt.{punted}
-use Rattle.bio_books.specs.Books.{Node, node_at, with_node, child_node, master_node, leg_node, keeping, raised}
+use Rattle.bio_books.specs.Books.{Node, node_at, with_node, child_node, master_node, leg_node, with_kept_part, raised}
 use Rattle.model_disks.specs.Moves.{pushed}
 use Rattle.run_machine.specs.Maps.{upd}
 use Rattle.run_machine.specs.Scene.{Setup, Scene, tree_at}
@@ -122,7 +122,7 @@ module _ (scene : Scene) (s : State) (n : Needs scene.setup) (k : Invariant scen
       let o = named place here x at doing lists h w bio.bio.node (omega (arith, names_it)) in
       let need : 1 ≤ need_at setup bio.bio = omega (arith, mirror_need tree bio.bio.range bio.bio.dev.0 slip d.3 d.1.0.0.some) in
       let v = opens place here x at doing lists h w bio.bio.node o.0 o.1 (omega (arith, some_needs (one_if_same w w) (need_at setup bio.bio) (one-same w) need)) in
-      let book = with_node (with_node (s.objects.book w) v.0 (Some (master_node o.0.write bio.bio.node slip legs))) bio.bio.node (Some (keeping bio o.0)) in
+      let book = with_node (with_node (s.objects.book w) v.0 (Some (master_node o.0.write bio.bio.node slip legs))) bio.bio.node (Some (with_kept_part bio o.0)) in
       let opened : MastersAt (s.objects.book w) bio.bio.node (Some o.0) bio slip legs (Made v.0) book = (v.1, refl) in
       inl (free_submission scene s place here x at doing lists h busy (requests.LinkedTo (Made v.0)) _ refl refl (with_book s.objects w book)
       (link_serves scene s w (requests.Master bio.bio.node bio slip legs) (Made v.0) book

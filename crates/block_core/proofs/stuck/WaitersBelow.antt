@@ -7,7 +7,7 @@ use Rattle.bio_records.specs.declared.bio.Pad.{Pad}
 use Rattle.bio_records.specs.declared.tasks.TaskLists.{TaskLists}
 use Rattle.bio_records.specs.Items.{Item}
 use Rattle.bio_lists.specs.Submission.{no_lists}
-use Rattle.bio_books.specs.Books.{Node, VectorItem, SlipItem, Holding, node_at, keeping, parent_of}
+use Rattle.bio_books.specs.Books.{Node, VectorItem, SlipItem, Holding, node_at, parent_of}
 use Rattle.model_disks.specs.Disks.{DiskState}
 use Rattle.run_machine.specs.Scene.{Setup, Scene}
 use Rattle.run_machine.specs.Submissions.{Doing, Rests, Drives, Copies, Breaks, Submission, rests}

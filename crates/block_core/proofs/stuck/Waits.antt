@@ -15,7 +15,6 @@ use Rattle.bio_records.specs.Sorting.{is_of, is_of_other}
 use Rattle.bio_lists.specs.Submission.{order, submitted}
 use Rattle.bio_lists.specs.Punt.{punted, unpunted}
 use Rattle.bioset_pools.specs.Sets.{bios_of, waits_first}
-use Rattle.bio_books.specs.Books.{keeping}
 use Rattle.run_machine.specs.Maps.{upd}
 use Rattle.run_machine.specs.Scene.{Setup, Scene, tree_at}
 use Rattle.run_machine.specs.Submissions.{Want, Takes, WantsPunt, Links, ToPush, ToCut, ToRecord, ToMaster, Doing, Rests, Drives, Copies, Breaks, Submission, settled, goes_on, copies, asks_at, first_length, landed, legs_of, leg_at}

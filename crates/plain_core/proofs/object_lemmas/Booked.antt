@@ -4,7 +4,7 @@ use Rattle.std.proofs.lemmas.List.{get_or-set_other}
 use Rattle.std.proofs.lemmas.Option.{get_or_from_slice_get}
 use Rattle.bio_records.specs.declared.bio.Pad.{Pad}
 use Rattle.bio_records.specs.Items.{Item}
-use Rattle.bio_books.specs.Books.{BookState, Node, SlipItem, node_at, with_node, child_node, master_node, leg_node, keeping, raised}
+use Rattle.bio_books.specs.Books.{BookState, Node, SlipItem, node_at, with_node, child_node, master_node, leg_node, with_kept_part, raised}
 use Rattle.bio_books.specs.Links.{Made, IsVacant, Chains, ChainsAt, Masters, MastersAt, Legs, LegsAt}
 
 -- a vacant place is not that of an open node
@@ -28,7 +28,7 @@ chained book parent place node is few vacant =
 pub mastered : (book : BookState) (parent place : ℕ) (node : Node) (part : Item Pad) (slip : SlipItem) (legs : ℕ) → node_at book parent ≡ Some node → IsVacant book place
     → (next : BookState) × Masters book parent part slip legs (Made place) next
 mastered book parent place node part slip legs is vacant =
-    let next = with_node (with_node book place (Some (master_node node.write parent slip legs))) parent (Some (keeping part node)) in
+    let next = with_node (with_node book place (Some (master_node node.write parent slip legs))) parent (Some (with_kept_part part node)) in
     (next, subst (λ o. MastersAt book parent o part slip legs (Made place) next) (sym is) (vacant, refl))
 
 pub legged : (book : BookState) (master place : ℕ) (node : Node) → node_at book master ≡ Some node → IsVacant book place

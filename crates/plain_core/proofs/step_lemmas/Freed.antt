@@ -17,7 +17,7 @@ use Rattle.bio_records.specs.Items.{Item}
 use Rattle.bioset_pools.specs.Sets.{bios_of}
 use Rattle.model_disks.specs.Disks.{DiskState}
 use Rattle.model_disks.specs.Moves.{Completes, written}
-use Rattle.bio_books.specs.Books.{BookState, Node, node_at, parent_of, with_node, top_node, child_node, master_node, leg_node, keeping, raised, lowered, told}
+use Rattle.bio_books.specs.Books.{BookState, Node, node_at, parent_of, with_node, top_node, child_node, master_node, leg_node, with_kept_part, raised, lowered, told}
 use Rattle.bio_books.specs.Drops.{Drops, DropsAt, closed_of}
 use Rattle.bio_books.specs.Drops as drop
 use Rattle.bio_books.specs.Links.{Linked, Made, NoRoom, Stray, ChainsAt, MastersAt, LegsAt}
@@ -222,7 +222,7 @@ link_free old writer (Chain parent) m =
     let after = with_node (with_node (core_book_at old writer) m.0 (Some (child_node m.1.write parent))) parent (Some (raised m.1)) in
     linked old writer m.0 (Chain parent) after (subst (λ node. ChainsAt (core_book_at old writer) parent node (Made m.0) after) (sym m.3) (m.4, m.2, refl))
 link_free old writer (Master parent part slip legs) m =
-    let after = with_node (with_node (core_book_at old writer) m.0 (Some (master_node m.1.write parent slip legs))) parent (Some (keeping part m.1)) in
+    let after = with_node (with_node (core_book_at old writer) m.0 (Some (master_node m.1.write parent slip legs))) parent (Some (with_kept_part part m.1)) in
     linked old writer m.0 (Master parent part slip legs) after
     (subst (λ node. MastersAt (core_book_at old writer) parent node part slip legs (Made m.0) after) (sym m.3) (m.2, refl))
 link_free old writer (Leg parent) m =

@@ -3,7 +3,7 @@ use Rattle.std.specs.Prelude.{◌≡◌, ◌-◌, ◌^◌, ◌<◌, ℕ, Bool, M
 use Rattle.stack_base.specs.declared.ids.Status.{Status}
 use Rattle.bio_records.specs.declared.bio.Pad.{Pad}
 use Rattle.bio_records.specs.Items.{Item}
-use Rattle.bio_books.specs.Books.{BookState, Node, VectorItem, keeping, lowered, node_at, raised, told, with_node}
+use Rattle.bio_books.specs.Books.{BookState, Node, VectorItem, with_kept_part, lowered, node_at, raised, told, with_node}
 use Rattle.bio_books.specs.Drops.{Drops, Closed, closed_of}
 use Rattle.bio_books.specs.Drops as drop
 use Rattle.bio_books.specs.Links.{IsVacant, Made, Opens}
@@ -43,7 +43,7 @@ IsRaisedAt old place new = (node : Node) → node_at old place ≡ Some node →
 
 -- the node at this place keeps this part, in place of one that it kept
 abbrev pub IsKeptAt : BookState → ℕ → Item Pad → BookState → Type 0
-IsKeptAt old place part new = (node : Node) → node_at old place ≡ Some node → new ≡ with_node old place (Some (keeping part node))
+IsKeptAt old place part new = (node : Node) → node_at old place ≡ Some node → new ≡ with_node old place (Some (with_kept_part part node))
 
 -- the node at this place was told of an end that was not its last
 abbrev pub IsLoweredAt : BookState → ℕ → Status → Option (Item Pad) → BookState → Type 0

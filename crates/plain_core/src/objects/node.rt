@@ -1,6 +1,6 @@
 //! Nodes as plain data: what each holds, how many ends it waits for, and how it ends.
 ghost use Rattle.std.specs.Prelude.{◌≡◌, ◌^◌, ◌-◌, ◌<◌, None, Some};
-ghost use Rattle.bio_books.specs.Books.{Node as Open, told, raised, keeping, top_node, master_node};
+ghost use Rattle.bio_books.specs.Books.{Node as Open, told, raised, with_kept_part, top_node, master_node};
 ghost use Rattle.bio_books.specs.Drops.{closed_of};
 
 use crate::objects::part::{PlainBioElement, Slip, Vector};
@@ -123,7 +123,7 @@ impl Node {
 
     // The node keeps this part.
     pub(crate) fn keep(&mut self, part: &PlainBioElement)
-        ensures { self.new ≡ keeping part.now self.old }
+        ensures { self.new ≡ with_kept_part part.now self.old }
     {
         self.held.bio = Some(part.again());
     }

@@ -20,7 +20,7 @@ use Rattle.bio_records.specs.Items.{Item}
 use Rattle.model_disks.specs.Disks.{DiskState}
 use Rattle.model_disks.specs.Moves as disk
 use Rattle.model_disks.specs.Moves.{written}
-use Rattle.bio_books.specs.Books.{BookState, Node, SlipItem, top_node, master_node, leg_node, keeping, told, lowered}
+use Rattle.bio_books.specs.Books.{BookState, Node, SlipItem, top_node, master_node, leg_node, with_kept_part, told, lowered}
 use Rattle.bio_books.specs.Drops.{closed_of, Closed}
 use Rattle.bio_books.specs.Drops as end
 use Rattle.bio_books.specs.Links.{Made}
@@ -71,7 +71,7 @@ module _ (some : LedgerId) where
 
   -- the write's node, which keeps the bio while the mirror copies it; the master, before and after its first leg's end; and a leg's node
   abbrev top : Node
-  top = keeping bio (top_node 0 None)
+  top = with_kept_part bio (top_node 0 None)
 
   abbrev master : Node
   master = master_node 0 0 slip 2

@@ -8,7 +8,7 @@ use Rattle.bio_records.specs.declared.bio.Pad.{Pad}
 use Rattle.bio_records.specs.Items.{Item}
 use Rattle.bio_books.specs.declared.node.Role.{Role}
 use Rattle.bio_books.specs.declared.node.Role.TheVariants as role
-use Rattle.bio_books.specs.Books.{Node, BookState, SlipItem, node_at, with_node, parent_of, top_node, child_node, master_node, leg_node, keeping, raised, kept_with, closing, told, lowered}
+use Rattle.bio_books.specs.Books.{Node, BookState, SlipItem, node_at, with_node, parent_of, top_node, child_node, master_node, leg_node, with_kept_part, raised, kept_with, closing, told, lowered}
 use Rattle.bio_books.specs.Drops.{DropOutcome, DropsAt, Drops}
 use Rattle.bio_books.specs.Drops as end
 use Rattle.bio_books.specs.Links.{Made, IsVacant, ChainsAt, MastersAt, LegsAt}
@@ -335,12 +335,12 @@ module _ (to : Places) (writer : ℕ) (named : ℕ → Option ℕ) (opened : ℕ
         let grown = opens here named opened one other alike key new 0 is.0 next room in
         let one_more = with_node one key (Some new) in
         let other_more = with_node other (here key) (Some (node_to here 0 new)) in
-        let like = with_node other_more (here parent) (Some (node_to here gone (keeping part node))) in (
+        let like = with_node other_more (here parent) (Some (node_to here gone (with_kept_part part node))) in (
           like,
           subst (λ found. MastersAt other (here parent) found (item_to to part) (slip_to slip) legs (Made (here key)) like) (sym had.1)
               (vacant_too here named opened one other alike key new 0 is.0 next room, refl),
           subst (λ book. BookAlike here (upd named key (Some opened)) (opened + 1) book like) (sym is.1)
-              (changes here (upd named key (Some opened)) (opened + 1) one_more other_more grown parent node (keeping part node) gone (parent_stays parent node new at is.0)),
+              (changes here (upd named key (Some opened)) (opened + 1) one_more other_more grown parent node (with_kept_part part node) gone (parent_stays parent node new at is.0)),
         )
 
     legged : (master : ℕ) (at : Option Node) → node_at one master ≡ at → (now : BookState) → LegsAt one master at (Made key) now → OpenedTo (Leg master) now
