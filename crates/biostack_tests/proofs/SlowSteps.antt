@@ -9,7 +9,7 @@ use Rattle.stack_base.specs.declared.stack.Kind.{Kind}
 use Rattle.stack_base.specs.declared.stack.Device.{Device}
 use Rattle.stack_base.specs.declared.stack.Stack.{Stack}
 use Rattle.stack_base.specs.Mapping.{Slot, slot, head}
-use Rattle.stack_base.specs.Cutting.{next, IsCut}
+use Rattle.stack_base.specs.Cutting.{piece_end, IsCut}
 use Rattle.stack_base.specs.Tree.{Tree, Split, Cuts, shape_of, member_at, size, tree}
 use Rattle.stack_base.specs.Stack.{HasShape, IsStack}
 use Rattle.stack_base.proofs.Heads.{head_bounds}
@@ -64,7 +64,7 @@ module _ (stack : Stack) (good : IsStack stack) (number : ℕ) (device : Device)
 
   -- it cuts by the laws of cutting
   cut_is : IsCut (head device.kind (map (λ (m : DevId). size (tree stack m.0)) device.members.items))
-      (next device.kind (map (λ (m : DevId). size (tree stack m.0)) device.members.items))
+      (piece_end device.kind (map (λ (m : DevId). size (tree stack m.0)) device.members.items))
       (slot device.kind (map (λ (m : DevId). size (tree stack m.0)) device.members.items))
   cut_is = kind_cuts device.kind _ (can_cut device.kind (length device.members.items) (good.each number device found).shape cuts)
 
@@ -99,7 +99,7 @@ module _ (stack : Stack) (good : IsStack stack) (number : ℕ) (device : Device)
       let wide : get_or sizes member 0 ≡ size_at m =
       get_or-map size_at items member m 0 (slice_get_within items member m at_member) ∙ ap size_at (get_or_from_slice_get items member m m at_member) in
       let lies = ap (slot device.kind sizes) (sym begins) ∙ is_first in
-      let along = head_along (head device.kind sizes) (next device.kind sizes) (slot device.kind sizes) cut_is r s le in
+      let along = head_along (head device.kind sizes) (piece_end device.kind sizes) (slot device.kind sizes) cut_is r s le in
       record {
         below = below;
         known = omega (arith, slice_get_within stack.devices.items number device found);

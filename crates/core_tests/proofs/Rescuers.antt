@@ -7,7 +7,7 @@ use Rattle.stack_base.specs.declared.stack.Kind.{Kind}
 use Rattle.stack_base.specs.declared.stack.Device.{Device}
 use Rattle.stack_base.specs.declared.stack.Stack.{Stack}
 use Rattle.stack_base.specs.Stack.{HasShape, IsMember, IsStack}
-use Rattle.stack_base.specs.Tree.{Tree, built, over, size, tree_below, weight}
+use Rattle.stack_base.specs.Tree.{Tree, built, over, size, tree_below, most_begun}
 
 -- what a device is by kind and members
 abbrev pub Bare : Type 0
@@ -67,7 +67,7 @@ stays_stack old new long kept alike is = record {
         shape = subst (λ (b : Bare). HasShape b.0 (length b.1)) (sym w.same) d.shape;
         some = subst (λ t. 1 ≤ size t) (sym same) d.some;
         small = subst (λ t. size t ≤ 262144) (sym same) d.small;
-        narrow = subst (λ t. weight t ≤ 288) (sym same) d.narrow;
+        narrow = subst (λ t. most_begun t ≤ 288) (sym same) d.narrow;
       };
   once = λ p q i j m one other. is.once p q i j m (member p i m one) (member q j m other);
   sizes = λ number lt.

@@ -4,7 +4,7 @@ use Rattle.std.specs.Prelude.{Contains}
 use Rattle.std.specs.List.{AllPairs}
 use Rattle.stack_base.specs.declared.stack.Kind.{Kind}
 use Rattle.stack_base.specs.Mapping.{slot}
-use Rattle.stack_base.specs.Cutting.{next}
+use Rattle.stack_base.specs.Cutting.{piece_end}
 use Rattle.stack_base.specs.Tree.{Tree, Leaf, Split, Mirrored}
 use Rattle.layout_model.specs.declared.fragment.Fragment.{Fragment}
 use Rattle.layout_model.specs.Way.{FitsWay, Place, place}
@@ -66,7 +66,7 @@ module _ (number : ℕ) (kind : Kind) (sizes : List ℕ) (members : ℕ → Tree
   split_other zero write offset r (suc more) enough = absurd (omega arith)
   split_other (suc bound) write offset r (suc more) enough =
       let len : ℕ = suc more in
-      let n : ℕ = min (next kind sizes r - r) len in
+      let n : ℕ = min (piece_end kind sizes r - r) len in
       let ahead = (cut_of_split number kind sizes members sound).ahead in
       let member = members (slot kind sizes r).member in
       let start = (slot kind sizes r).at in

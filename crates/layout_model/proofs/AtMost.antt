@@ -5,8 +5,8 @@ use Rattle.std.proofs.lemmas.Bool.{cases_lt}
 use Rattle.std.proofs.lemmas.List.Sums.{sum-map, sum_by-le-sum_by}
 use Rattle.std.proofs.lemmas.List.FromFn.{length-range_with_len}
 use Rattle.stack_base.specs.Mapping.{slot, head}
-use Rattle.stack_base.specs.Cutting.{next}
-use Rattle.stack_base.specs.Tree.{Tree, Leaf, Split, Mirrored, weight}
+use Rattle.stack_base.specs.Cutting.{piece_end}
+use Rattle.stack_base.specs.Tree.{Tree, Leaf, Split, Mirrored, most_begun}
 use Rattle.layout_model.specs.Need.{elements_begun, needed, fragments_in_run}
 use Rattle.layout_model.specs.Sound.{Sound, NothingBehindMembers}
 use Rattle.layout_model.proofs.RangeSums.{sum_le, term_le_sum, sum_of_one, sum_of_two}
@@ -15,10 +15,10 @@ use Rattle.layout_model.proofs.PieceInduction.{by_pieces}
 
 -- a member weighs no more than all of them
 member_le : (number : ℕ) (sizes : List ℕ) (members : ℕ → Tree) → ((k : ℕ) → length sizes ≤ k → members k ≡ Leaf number 0) → (k : ℕ)
-    → weight (members k) ≤ sum (map (λ k. weight (members k)) (range_with_len 0 (length sizes)))
-unfolding weight
+    → most_begun (members k) ≤ sum (map (λ k. most_begun (members k)) (range_with_len 0 (length sizes)))
+unfolding most_begun
 member_le number sizes members closed k = elim (cases_lt k (length sizes)) [
-  | inl lt ↦ rw sum-map (term_le_sum (λ k. weight (members k)) (length sizes) k lt)
+  | inl lt ↦ rw sum-map (term_le_sum (λ k. most_begun (members k)) (length sizes) k lt)
   | inr ge ↦ rw (closed k ge) (omega arith)
 ]
 
@@ -28,32 +28,32 @@ choice_le true n = omega arith
 choice_le false n = omega arith
 
 -- at one sector no more begins than the device weighs
-pub begun_le_weight : (t : Tree) (r s : ℕ) → NothingBehindMembers t → elements_begun t r s ≤ weight t
-unfolding NothingBehindMembers elements_begun weight
-begun_le_weight (Leaf number sectors) r s closed = omega arith
-begun_le_weight (Split number kind sizes members) r s closed =
-    let below = begun_le_weight (members (slot kind sizes s).member) (slot kind sizes (head kind sizes r s)).at (slot kind sizes s).at (closed.1 (slot kind sizes s).member) in
+pub begun_le_most : (t : Tree) (r s : ℕ) → NothingBehindMembers t → elements_begun t r s ≤ most_begun t
+unfolding NothingBehindMembers elements_begun most_begun
+begun_le_most (Leaf number sectors) r s closed = omega arith
+begun_le_most (Split number kind sizes members) r s closed =
+    let below = begun_le_most (members (slot kind sizes s).member) (slot kind sizes (head kind sizes r s)).at (slot kind sizes s).at (closed.1 (slot kind sizes s).member) in
     omega (arith, choice_le ((head kind sizes r s == s) && not (r == s)) 1, below, member_le number sizes members closed.0 (slot kind sizes s).member)
-begun_le_weight (Mirrored number sizes members) r s closed =
+begun_le_most (Mirrored number sizes members) r s closed =
     omega (
       arith,
       choice_le (r == s) (1 + length sizes),
-      sum-map (λ k. weight (members k)) (range_with_len 0 (length sizes)),
-      sum_by-le-sum_by (λ k. elements_begun (members k) r s) (λ k. weight (members k)) (range_with_len 0 (length sizes))
-          (λ k. begun_le_weight (members k) r s (closed.1 k)),
+      sum-map (λ k. most_begun (members k)) (range_with_len 0 (length sizes)),
+      sum_by-le-sum_by (λ k. elements_begun (members k) r s) (λ k. most_begun (members k)) (range_with_len 0 (length sizes))
+          (λ k. begun_le_most (members k) r s (closed.1 k)),
     )
 
 -- a run needs no more than what its device weighs at each of its sectors
-pub needed_le_weight : (t : Tree) (r len : ℕ) → NothingBehindMembers t → needed t r len ≤ weight t * len
+pub needed_le_most : (t : Tree) (r len : ℕ) → NothingBehindMembers t → needed t r len ≤ most_begun t * len
 unfolding needed
-needed_le_weight t r len closed = sum_le (elements_begun t r) r len (weight t) (λ s. begun_le_weight t r s closed)
+needed_le_most t r len closed = sum_le (elements_begun t r) r len (most_begun t) (λ s. begun_le_most t r s closed)
 
 -- each fragment but the first has come of a piece or a copy more
 pub fragments_le_needed : (t : Tree) (r len : ℕ) → Sound t → 0 < len → fragments_in_run t r len ≤ 1 + needed t r len
 unfolding Sound
 fragments_le_needed (Leaf number sectors) r len sound some = omega (arith, fragments_of_disk number sectors r len some)
 fragments_le_needed (Split number kind sizes members) r len sound some =
-    by_pieces (next kind sizes) (λ r len. fragments_in_run (Split number kind sizes members) r len ≤ 1 + needed (Split number kind sizes members) r len)
+    by_pieces (piece_end kind sizes) (λ r len. fragments_in_run (Split number kind sizes members) r len ≤ 1 + needed (Split number kind sizes members) r len)
     sound.0.ahead
     (λ r len n is begins whole. omega (
       arith,

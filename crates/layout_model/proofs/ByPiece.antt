@@ -4,7 +4,7 @@ use Rattle.std.proofs.lemmas.Bool.{cases_lt}
 use Rattle.stack_base.specs.declared.mapping.Piece.{Piece}
 use Rattle.stack_base.specs.declared.stack.Kind.{Kind}
 use Rattle.stack_base.specs.Mapping.{Slot, slot, head}
-use Rattle.stack_base.specs.Cutting.{next, IsCut}
+use Rattle.stack_base.specs.Cutting.{piece_end, IsCut}
 use Rattle.stack_base.specs.Piece.{IsPiece}
 use Rattle.stack_base.specs.Tree.{Tree, Split}
 use Rattle.stack_base.proofs.Pieces.{piece_len}
@@ -14,7 +14,7 @@ use Rattle.layout_model.specs.Shown.{shown_sector}
 use Rattle.layout_model.proofs.CountSteps.{fragments_none}
 use Rattle.layout_model.proofs.Begun.{needed_piece, needed_more, fragments_of_piece, fragments_of_more}
 
-module _ (number : ℕ) (kind : Kind) (sizes : List ℕ) (members : ℕ → Tree) (cut : IsCut (head kind sizes) (next kind sizes) (slot kind sizes))
+module _ (number : ℕ) (kind : Kind) (sizes : List ℕ) (members : ℕ → Tree) (cut : IsCut (head kind sizes) (piece_end kind sizes) (slot kind sizes))
     (start len : ℕ) (piece : Piece) (is : IsPiece kind sizes start len piece) where
   -- a run that is one piece needs what the piece needs
   pub needed_alone : piece.len ≡ len → needed (Split number kind sizes members) start len ≡ needed (members piece.member) piece.at piece.len

@@ -5,7 +5,7 @@ use Rattle.std.proofs.lemmas.List.{append-nil, length-append}
 use Rattle.std.proofs.lemmas.List.Concat.{length-flat_map}
 use Rattle.stack_base.specs.declared.stack.Kind.{Kind}
 use Rattle.stack_base.specs.Mapping.{slot}
-use Rattle.stack_base.specs.Cutting.{next}
+use Rattle.stack_base.specs.Cutting.{piece_end}
 use Rattle.stack_base.specs.Tree.{Tree, Leaf, Split, Mirrored}
 use Rattle.layout_model.specs.Need.{fragments_in_run}
 use Rattle.layout_model.specs.Plan.{frags}
@@ -17,7 +17,7 @@ use Rattle.layout_model.proofs.Cutting.{frags_first, frags_none}
 
 -- a run that is one piece has the fragments of the piece
 pub frags_piece : (number : ℕ) (kind : Kind) (sizes : List ℕ) (members : ℕ → Tree) (write offset r len n : ℕ)
-    → Sound (Split number kind sizes members) → 0 < len → n ≡ min (next kind sizes r - r) len → n ≡ len
+    → Sound (Split number kind sizes members) → 0 < len → n ≡ min (piece_end kind sizes r - r) len → n ≡ len
     → frags (Split number kind sizes members) write offset r len ≡ frags (members (slot kind sizes r).member) write offset (slot kind sizes r).at len
 frags_piece number kind sizes members write offset r len n sound some is whole =
     let split : Tree = Split number kind sizes members in
@@ -33,7 +33,7 @@ pub fragments_of_is_length : (t : Tree) (write offset r len : ℕ) → Sound t �
 unfolding Sound frags
 fragments_of_is_length (Leaf number sectors) write offset r len sound some = fragments_of_disk number sectors r len some
 fragments_of_is_length (Split number kind sizes members) write offset r len sound some =
-    by_pieces (next kind sizes)
+    by_pieces (piece_end kind sizes)
     (λ r len. (offset : ℕ) → fragments_in_run (Split number kind sizes members) r len ≡ length (frags (Split number kind sizes members) write offset r len))
     sound.0.ahead
     (λ r len n is begins whole offset.

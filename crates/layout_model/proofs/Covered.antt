@@ -3,7 +3,7 @@ use Rattle.std.proofs.Common.{◌≡◌, ℕ, ◌+◌, ◌-◌, ◌<◌, ◌≤�
 use Rattle.std.proofs.lemmas.Bool.{cases_lt}
 use Rattle.stack_base.specs.declared.stack.Kind.{Kind}
 use Rattle.stack_base.specs.Mapping.{slot, head}
-use Rattle.stack_base.specs.Cutting.{next, IsCut}
+use Rattle.stack_base.specs.Cutting.{piece_end, IsCut}
 use Rattle.stack_base.specs.Tree.{Tree, Leaf, Split, Mirrored}
 use Rattle.layout_model.specs.declared.fragment.Fragment.{Fragment}
 use Rattle.layout_model.specs.Way.{FitsWay}
@@ -53,9 +53,9 @@ module _ (number : ℕ) (sizes : List ℕ) (members : ℕ → Tree) (write offse
       )
 
 -- where a run is cut
-module _ (number : ℕ) (kind : Kind) (sizes : List ℕ) (members : ℕ → Tree) (cut : IsCut (head kind sizes) (next kind sizes) (slot kind sizes)) where
+module _ (number : ℕ) (kind : Kind) (sizes : List ℕ) (members : ℕ → Tree) (cut : IsCut (head kind sizes) (piece_end kind sizes) (slot kind sizes)) where
   -- a fragment of the first piece is one of the run, by the same choices
-  in_piece : (write offset r len n j : ℕ) (choices : List ℕ) → n ≡ min (next kind sizes r - r) len
+  in_piece : (write offset r len n j : ℕ) (choices : List ℕ) → n ≡ min (piece_end kind sizes r - r) len
       → InSome (members (slot kind sizes r).member) write offset (slot kind sizes r).at n choices j
       → InSome (Split number kind sizes members) write offset r len choices j
   unfolding InSome from_piece
@@ -71,7 +71,7 @@ module _ (number : ℕ) (kind : Kind) (sizes : List ℕ) (members : ℕ → Tree
       )
 
   -- and so is one of the rest
-  in_rest : (write offset r len n j : ℕ) (choices : List ℕ) → n ≡ min (next kind sizes r - r) len → n ≤ j
+  in_rest : (write offset r len n j : ℕ) (choices : List ℕ) → n ≡ min (piece_end kind sizes r - r) len → n ≤ j
       → InSome (Split number kind sizes members) write (offset + n) (r + n) (len - n) choices (j - n)
       → InSome (Split number kind sizes members) write offset r len choices j
   unfolding InSome from_rest
@@ -87,7 +87,7 @@ module _ (number : ℕ) (kind : Kind) (sizes : List ℕ) (members : ℕ → Tree
       )
 
   -- a sector of the first piece
-  in_first : (write offset r len n j : ℕ) (choices : List ℕ) → n ≡ min (next kind sizes r - r) len → j < n
+  in_first : (write offset r len n j : ℕ) (choices : List ℕ) → n ≡ min (piece_end kind sizes r - r) len → j < n
       → ((k at : ℕ) → FitsWay (members k) (at + j) choices → InSome (members k) write offset at n choices j)
       → FitsWay (Split number kind sizes members) (r + j) choices
       → InSome (Split number kind sizes members) write offset r len choices j
@@ -103,7 +103,7 @@ covered (Split number kind sizes members) sound write offset r len j choices lt 
     let cut = cut_of_split number kind sizes members sound in
     let below : (offset n j : ℕ) → j < n → (k at : ℕ) → FitsWay (members k) (at + j) choices → InSome (members k) write offset at n choices j =
     λ offset n j lt k at fits. covered (members k) (sound_piece number kind sizes members sound k) write offset at n j choices lt fits in
-    by_pieces (next kind sizes)
+    by_pieces (piece_end kind sizes)
     (λ r len. (offset j : ℕ) → j < len → FitsWay (Split number kind sizes members) (r + j) choices → InSome (Split number kind sizes members) write offset r len choices j)
     cut.ahead
     (λ r len n is begins whole offset j lt fits.

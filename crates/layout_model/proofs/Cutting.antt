@@ -3,7 +3,7 @@ use Rattle.std.proofs.Common.{◌≡◌, ℕ, zero, suc, ◌+◌, ◌-◌, ◌<�
 use Rattle.std.specs.List.{flat_map}
 use Rattle.stack_base.specs.declared.stack.Kind.{Kind}
 use Rattle.stack_base.specs.Mapping.{slot}
-use Rattle.stack_base.specs.Cutting.{next}
+use Rattle.stack_base.specs.Cutting.{piece_end}
 use Rattle.stack_base.specs.Tree.{Tree, Split}
 use Rattle.layout_model.specs.Plan.{Part, cuts_in, cuts, frags}
 use Rattle.layout_model.proofs.Sound.{Sound, cut_of_split}
@@ -45,11 +45,11 @@ module _ (number : ℕ) (kind : Kind) (sizes : List ℕ) (members : ℕ → Tree
   frags_none write offset r = refl
 
   -- the fragments of a run that is cut: those of its first piece, and then those of the rest
-  pub frags_first : Sound (Split number kind sizes members) → (write offset r len n : ℕ) → 0 < len → n ≡ min (next kind sizes r - r) len
+  pub frags_first : Sound (Split number kind sizes members) → (write offset r len n : ℕ) → 0 < len → n ≡ min (piece_end kind sizes r - r) len
       → frags (Split number kind sizes members) write offset r len
       ≡ frags (members (slot kind sizes r).member) write offset (slot kind sizes r).at n
       ++ frags (Split number kind sizes members) write (offset + n) (r + n) (len - n)
   unfolding frags
   frags_first sound write offset r len n some is =
       rw is (ap (flat_map (λ p. frags (members (slot kind sizes p.start).member) write p.offset (slot kind sizes p.start).at p.len))
-      (cuts_first (next kind sizes) (cut_of_split number kind sizes members sound).ahead offset r len some))
+      (cuts_first (piece_end kind sizes) (cut_of_split number kind sizes members sound).ahead offset r len some))

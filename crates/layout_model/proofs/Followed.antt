@@ -2,7 +2,7 @@
 use Rattle.std.proofs.Common.{◌≡◌, ◌+◌, ◌-◌, ◌<◌, ◌≤◌, ℕ, zero, suc, List, [], ◌∷◌, refl, sym, ap, ◌∙◌, subst, inl, inr, arith}
 use Rattle.std.proofs.lemmas.Bool.{cases_lt}
 use Rattle.stack_base.specs.Mapping.{Slot, slot, head}
-use Rattle.stack_base.specs.Cutting.{next, IsCut}
+use Rattle.stack_base.specs.Cutting.{piece_end, IsCut}
 use Rattle.stack_base.specs.Tree.{Tree, Leaf, Split, Mirrored}
 use Rattle.stack_base.proofs.ListLemmas.{first_or, behind_first}
 use Rattle.layout_model.specs.Way.{Place, heads, place}
@@ -50,11 +50,11 @@ follow (Split number kind sizes members) sound r s n choices le same =
     let cut = cut_of_split number kind sizes members sound in
     let h = head kind sizes r s in
     let top : head kind sizes r (s + n) ≡ h = ap (first_or 0) same in
-    let at_s : slot kind sizes s ≡ record { member = (slot kind sizes h).member; at = (slot kind sizes h).at + (s - h) } = along_piece (head kind sizes) (next kind sizes) (slot kind sizes) cut r s le in
+    let at_s : slot kind sizes s ≡ record { member = (slot kind sizes h).member; at = (slot kind sizes h).at + (s - h) } = along_piece (head kind sizes) (piece_end kind sizes) (slot kind sizes) cut r s le in
     let le_n : r ≤ s + n = omega arith in
-    let behind : h ≤ s = head_before (head kind sizes) (next kind sizes) (slot kind sizes) cut r s le in
+    let behind : h ≤ s = head_before (head kind sizes) (piece_end kind sizes) (slot kind sizes) cut r s le in
     let at_n : slot kind sizes (s + n) ≡ record { member = (slot kind sizes h).member; at = (slot kind sizes h).at + (s - h) + n } =
-    along_piece (head kind sizes) (next kind sizes) (slot kind sizes) cut r (s + n) le_n
+    along_piece (head kind sizes) (piece_end kind sizes) (slot kind sizes) cut r (s + n) le_n
     ∙ ap (λ g. record { member = (slot kind sizes g).member; at = (slot kind sizes g).at + (s + n - g) }) top
     ∙ ap (λ m. record { member = (slot kind sizes h).member; at = m }) (omega arith) in
     let below = members (slot kind sizes h).member in

@@ -5,7 +5,7 @@ use Rattle.std.proofs.lemmas.List.{length-map, get_or_past}
 use Rattle.stack_base.specs.declared.stack.Kind.{Kind}
 use Rattle.stack_base.specs.declared.stack.Kind.TheVariants.{Disk, Linear, Stripe, Zoned, Limit, Mirror}
 use Rattle.stack_base.specs.Mapping.{slot, head}
-use Rattle.stack_base.specs.Cutting.{next, CanCut, IsCut}
+use Rattle.stack_base.specs.Cutting.{piece_end, CanCut, IsCut}
 use Rattle.stack_base.specs.Tree.{Tree, Leaf, size, Shape, Keeps, Cuts, Copies, shape_of, over_shape, member_at}
 use Rattle.stack_base.specs.Stack.{HasShape}
 use Rattle.layout_model.proofs.Sound.{Sound}
@@ -20,7 +20,7 @@ at_each_place P number list behind each k = elim (cases_lt k (length list)) [
 
 module _ (number : ℕ) (kind : Kind) (list : List Tree) where
   -- a device is sound if its kind is and each member is
-  pub sound_over : (shape : Shape) → (shape ≡ Cuts → IsCut (head kind (map size list)) (next kind (map size list)) (slot kind (map size list)))
+  pub sound_over : (shape : Shape) → (shape ≡ Cuts → IsCut (head kind (map size list)) (piece_end kind (map size list)) (slot kind (map size list)))
       → (shape ≡ Copies → 1 ≤ length list) → ((k : ℕ) → k < length list → Sound (member_at number list k))
       → Sound (over_shape shape number kind list)
   unfolding over_shape Sound

@@ -3,7 +3,7 @@ use Rattle.std.proofs.Common.{◌≡◌, ℕ, ◌+◌, ◌-◌, ◌<◌, ◌≤�
 use Rattle.stack_base.specs.declared.mapping.Piece.{Piece}
 use Rattle.stack_base.specs.declared.stack.Kind.{Kind}
 use Rattle.stack_base.specs.Mapping.{Slot, slot, size_of}
-use Rattle.stack_base.specs.Cutting.{CanCut, next}
+use Rattle.stack_base.specs.Cutting.{CanCut, piece_end}
 use Rattle.stack_base.specs.Piece.{IsPiece}
 use Rattle.stack_base.specs.Stack.{HasShape}
 use Rattle.stack_base.proofs.KindCuts.{kind_cuts}
@@ -17,7 +17,7 @@ pub piece_inside :
     → (piece.member < length sizes) × (piece.at + piece.len ≤ get_or sizes piece.member 0)
 piece_inside kind sizes start len piece can shape within is =
     let cut = kind_cuts kind sizes can in
-    let ends : piece.len ≡ min (next kind sizes start - start) len = piece_len kind sizes start len piece cut is in
+    let ends : piece.len ≡ min (piece_end kind sizes start - start) len = piece_len kind sizes start len piece cut is in
     let some : 1 ≤ piece.len = is.some in
     let last : ℕ = start + (piece.len - 1) in
     let there : slot kind sizes last ≡ record { member = piece.member; at = piece.at + (last - start) } =

@@ -2,7 +2,7 @@
 use Rattle.std.proofs.Common.{◌↔◌, Contains, length, sym, ap, ◌∙◌, subst, arith}
 use Rattle.std.specs.List.{AllPairs}
 use Rattle.stack_base.specs.Mapping.{slot, head}
-use Rattle.stack_base.specs.Cutting.{next}
+use Rattle.stack_base.specs.Cutting.{piece_end}
 use Rattle.stack_base.specs.Tree.{tree}
 use Rattle.stack_base.proofs.Heads.{piece_only}
 use Rattle.layout_model.specs.Fragments.{IsFragmentOf, AreOther}
@@ -20,7 +20,7 @@ plan_of_pieces number kind sizes members write offset start len piece sound is =
     let cut = cut_of_split number kind sizes members sound in
     subst (λ place. IsCutOff number kind sizes members write offset start len place.member place.at piece.len) is.place
     (pieces_first number kind sizes members write offset start len piece.len cut (omega (arith, is.some, is.within))
-    (piece_only (head kind sizes) (next kind sizes) (slot kind sizes) cut start len piece.len is.some is.within is.exact))
+    (piece_only (head kind sizes) (piece_end kind sizes) (slot kind sizes) cut start len piece.len is.some is.within is.exact))
 
 -- a mirror's plan
 pub plan_of_legs : PlanOfLegs

@@ -4,7 +4,7 @@ use Rattle.std.specs.List.{range_with_len}
 use Rattle.std.proofs.lemmas.List.FromFn.{length-range_with_len}
 use Rattle.stack_base.specs.declared.stack.Kind.{Kind}
 use Rattle.stack_base.specs.Mapping.{slot, head}
-use Rattle.stack_base.specs.Cutting.{next, IsCut}
+use Rattle.stack_base.specs.Cutting.{piece_end, IsCut}
 use Rattle.stack_base.specs.Tree.{Tree, Leaf, Split, Mirrored}
 use Rattle.layout_model.specs.declared.fragment.Fragment.{Fragment}
 use Rattle.layout_model.specs.Need.{needed}
@@ -23,7 +23,7 @@ part_plan kind sizes members write p = plan (members (slot kind sizes p.start).m
 
 -- the plans of the pieces of a run
 abbrev pub piece_plans : Kind → List ℕ → (ℕ → Tree) → ℕ → ℕ → ℕ → ℕ → Plans
-piece_plans kind sizes members write offset r len = plans_of (part_plan kind sizes members write) (cuts (next kind sizes) offset r len)
+piece_plans kind sizes members write offset r len = plans_of (part_plan kind sizes members write) (cuts (piece_end kind sizes) offset r len)
 
 -- a run of no sectors has no pieces
 pub piece_plans_none : (kind : Kind) (sizes : List ℕ) (members : ℕ → Tree) (write offset r : ℕ) → piece_plans kind sizes members write offset r 0 ≡ none
@@ -32,16 +32,16 @@ piece_plans_none kind sizes members write offset r = refl
 
 -- the first piece, and the pieces of the rest
 pub piece_plans_first : (kind : Kind) (sizes : List ℕ) (members : ℕ → Tree) (write offset r len n : ℕ)
-    → IsCut (head kind sizes) (next kind sizes) (slot kind sizes) → 0 < len → n ≡ min (next kind sizes r - r) len
+    → IsCut (head kind sizes) (piece_end kind sizes) (slot kind sizes) → 0 < len → n ≡ min (piece_end kind sizes r - r) len
     → piece_plans kind sizes members write offset r len
     ≡ also (plan (members (slot kind sizes r).member) write offset (slot kind sizes r).at n) (piece_plans kind sizes members write (offset + n) (r + n) (len - n))
 unfolding plans_of
 piece_plans_first kind sizes members write offset r len n cut some is =
-    rw is (ap (plans_of (part_plan kind sizes members write)) (cuts_first (next kind sizes) cut.ahead offset r len some))
+    rw is (ap (plans_of (part_plan kind sizes members write)) (cuts_first (piece_end kind sizes) cut.ahead offset r len some))
 
 -- a run that is one piece
 pub piece_plans_one : (kind : Kind) (sizes : List ℕ) (members : ℕ → Tree) (write offset r len n : ℕ)
-    → IsCut (head kind sizes) (next kind sizes) (slot kind sizes) → 0 < len → n ≡ min (next kind sizes r - r) len → n ≡ len
+    → IsCut (head kind sizes) (piece_end kind sizes) (slot kind sizes) → 0 < len → n ≡ min (piece_end kind sizes r - r) len → n ≡ len
     → piece_plans kind sizes members write offset r len ≡ also (plan (members (slot kind sizes r).member) write offset (slot kind sizes r).at n) none
 piece_plans_one kind sizes members write offset r len n cut some is whole =
     let first : Plan = plan (members (slot kind sizes r).member) write offset (slot kind sizes r).at n in
@@ -64,7 +64,7 @@ pieces_are number kind sizes members write offset r len = refl
 
 -- the first piece stands before the plans of the rest, which are those of the rest as a run of its own
 pub pieces_first : (number : ℕ) (kind : Kind) (sizes : List ℕ) (members : ℕ → Tree) (write offset r len n : ℕ)
-    → IsCut (head kind sizes) (next kind sizes) (slot kind sizes) → 0 < len → n ≡ min (next kind sizes r - r) len
+    → IsCut (head kind sizes) (piece_end kind sizes) (slot kind sizes) → 0 < len → n ≡ min (piece_end kind sizes r - r) len
     → IsCutOff number kind sizes members write offset r len (slot kind sizes r).member (slot kind sizes r).at n
 pieces_first number kind sizes members write offset r len n cut some is = record {
   rest = piece_plans kind sizes members write (offset + n) (r + n) (len - n);
@@ -86,7 +86,7 @@ unfolding plan leaves frags
 leaves_plan (Leaf number sectors) write offset r len = refl
 leaves_plan (Split number kind sizes members) write offset r len =
     leaves_of_each (part_plan kind sizes members write)
-    (λ p. frags (members (slot kind sizes p.start).member) write p.offset (slot kind sizes p.start).at p.len) (cuts (next kind sizes) offset r len)
+    (λ p. frags (members (slot kind sizes p.start).member) write p.offset (slot kind sizes p.start).at p.len) (cuts (piece_end kind sizes) offset r len)
     (λ p. leaves_plan (members (slot kind sizes p.start).member) write p.offset (slot kind sizes p.start).at p.len)
 leaves_plan (Mirrored number sizes members) write offset r len =
     leaves_of_each (λ k. plan (members k) write offset r len) (λ k. frags (members k) write offset r len) (range_with_len 0 (length sizes))
@@ -119,7 +119,7 @@ pub takes_plan : (t : Tree) (write offset r len : ℕ) → Sound t → 0 < len �
 unfolding Sound plan
 takes_plan (Leaf number sectors) write offset r len sound some = takes_whole _ ∙ sym (needed_disk number sectors r len)
 takes_plan (Split number kind sizes members) write offset r len sound some =
-    by_pieces (next kind sizes)
+    by_pieces (piece_end kind sizes)
     (λ r len. (offset : ℕ) → takes (Pieces number (piece_plans kind sizes members write offset r len)) ≡ needed (Split number kind sizes members) r len)
     sound.0.ahead
     (λ r len n is begins whole offset.
@@ -130,7 +130,7 @@ takes_plan (Split number kind sizes members) write offset r len sound some =
     ∙ sym (needed_piece number kind sizes members r len n sound.0 is whole))
     (λ r len n is begins more rest offset.
     let first = plan (members (slot kind sizes r).member) write offset (slot kind sizes r).at n in
-    let second = piece_plans_first kind sizes members write (offset + n) (r + n) (len - n) (min (next kind sizes (r + n) - (r + n)) (len - n)) sound.0 (omega arith) refl in
+    let second = piece_plans_first kind sizes members write (offset + n) (r + n) (len - n) (min (piece_end kind sizes (r + n) - (r + n)) (len - n)) sound.0 (omega arith) refl in
     ap (λ plans. takes (Pieces number plans)) (piece_plans_first kind sizes members write offset r len n sound.0 (omega arith) is)
     ∙ takes_more number first _ _ (piece_plans kind sizes members write (offset + n) (r + n) (len - n)) second
     ∙ ap (λ taken. taken + (1 + takes (Pieces number (piece_plans kind sizes members write (offset + n) (r + n) (len - n)))))

@@ -3,9 +3,9 @@ use Rattle.std.proofs.Common.{ℕ, ◌+◌, ◌*◌, ◌<◌, ◌≤◌, length,
 use Rattle.std.proofs.Math.Nat.{mul-le-mul}
 use Rattle.stack_base.specs.declared.stack.Stack.{Stack}
 use Rattle.stack_base.specs.Stack.{IsStack}
-use Rattle.stack_base.specs.Tree.{size, weight, tree}
+use Rattle.stack_base.specs.Tree.{size, most_begun, tree}
 use Rattle.layout_model.specs.Need.{needed, fragments_in_run}
-use Rattle.layout_model.proofs.AtMost.{needed_le_weight, fragments_le_needed}
+use Rattle.layout_model.proofs.AtMost.{needed_le_most, fragments_le_needed}
 use Rattle.layout_model.proofs.Closed.{closed_tree}
 use Rattle.layout_model.proofs.Stacks.{element, tree_sound}
 
@@ -16,9 +16,9 @@ module _ (stack : Stack) (good : IsStack stack) (number start len : ℕ) (known 
   needed_small =
       let there = element stack.devices.items number known in
       let is_device = good.each number there.0 there.1 in
-      let most : needed (tree stack number) start len ≤ weight (tree stack number) * len =
-      needed_le_weight (tree stack number) start len (closed_tree stack number) in
-      let both : weight (tree stack number) * len ≤ 288 * 262144 = mul-le-mul {n₂ = 288} {m₂ = 262144} is_device.narrow (omega (arith, is_device.small)) in
+      let most : needed (tree stack number) start len ≤ most_begun (tree stack number) * len =
+      needed_le_most (tree stack number) start len (closed_tree stack number) in
+      let both : most_begun (tree stack number) * len ≤ 288 * 262144 = mul-le-mul {n₂ = 288} {m₂ = 262144} is_device.narrow (omega (arith, is_device.small)) in
       omega arith
 
   -- and has no more fragments than it needs elements, but for one

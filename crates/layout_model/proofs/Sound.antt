@@ -2,13 +2,13 @@
 use Rattle.std.proofs.Common.{ℕ, List}
 use Rattle.stack_base.specs.declared.stack.Kind.{Kind}
 use Rattle.stack_base.specs.Mapping.{slot, head}
-use Rattle.stack_base.specs.Cutting.{next, IsCut}
+use Rattle.stack_base.specs.Cutting.{piece_end, IsCut}
 use Rattle.stack_base.specs.Tree.{Tree, Split, Mirrored}
 unfoldable pub use Rattle.layout_model.specs.Sound.{Sound}
 
 module _ (number : ℕ) (kind : Kind) (sizes : List ℕ) (members : ℕ → Tree) where
   -- the laws of a sound device that cuts
-  pub cut_of_split : Sound (Split number kind sizes members) → IsCut (head kind sizes) (next kind sizes) (slot kind sizes)
+  pub cut_of_split : Sound (Split number kind sizes members) → IsCut (head kind sizes) (piece_end kind sizes) (slot kind sizes)
   unfolding Sound
   cut_of_split sound = sound.0
 

@@ -5,7 +5,7 @@ use Rattle.std.proofs.lemmas.Bool.{cases_lt}
 use Rattle.std.proofs.lemmas.List.Elements.{Contains-append_left, Contains-append_right, Contains-append_cases}
 use Rattle.stack_base.specs.declared.stack.Kind.{Kind}
 use Rattle.stack_base.specs.Mapping.{slot}
-use Rattle.stack_base.specs.Cutting.{next}
+use Rattle.stack_base.specs.Cutting.{piece_end}
 use Rattle.stack_base.specs.Tree.{Tree, Leaf, Split, Mirrored}
 use Rattle.layout_model.specs.declared.fragment.Fragment.{Fragment}
 use Rattle.layout_model.specs.Way.{FitsWay, Place, place, heads}
@@ -113,7 +113,7 @@ module _ (number : ℕ) (kind : Kind) (sizes : List ℕ) (members : ℕ → Tree
   cut_exact zero write offset r (suc more) enough f = absurd (omega arith)
   cut_exact (suc bound) write offset r (suc more) enough f =
       let len : ℕ = suc more in
-      let n : ℕ = min (next kind sizes r - r) len in
+      let n : ℕ = min (piece_end kind sizes r - r) len in
       let cut = cut_of_split number kind sizes members sound in
       let first = frags_first number kind sizes members sound write offset r len n (omega arith) refl in
       let piece = below (slot kind sizes r).member write offset (slot kind sizes r).at n (omega (arith, cut.ahead r)) f in

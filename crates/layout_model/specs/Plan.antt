@@ -3,7 +3,7 @@
 use Rattle.std.specs.Prelude.{◌+◌, ◌-◌, min, ℕ, zero, suc, List, [], ◌∷◌, ◌++◌, length}
 use Rattle.std.specs.List.{range_with_len, flat_map}
 use Rattle.stack_base.specs.Mapping.{slot}
-use Rattle.stack_base.specs.Cutting.{next}
+use Rattle.stack_base.specs.Cutting.{piece_end}
 use Rattle.stack_base.specs.Tree.{Tree, Leaf, Split, Mirrored}
 use Rattle.layout_model.specs.declared.fragment.Fragment.{Fragment}
 
@@ -29,7 +29,7 @@ unfoldable pub frags : Tree → ℕ → ℕ → ℕ → ℕ → List Fragment
 frags (Leaf number sectors) write offset r len =
     record { write = write; offset = offset; len = len; disk = record { 0 = number }; at = r } ∷ []
 frags (Split number kind sizes members) write offset r len =
-    flat_map (λ p. frags (members (slot kind sizes p.start).member) write p.offset (slot kind sizes p.start).at p.len) (cuts (next kind sizes) offset r len)
+    flat_map (λ p. frags (members (slot kind sizes p.start).member) write p.offset (slot kind sizes p.start).at p.len) (cuts (piece_end kind sizes) offset r len)
 frags (Mirrored number sizes members) write offset r len =
     flat_map (λ k. frags (members k) write offset r len) (range_with_len 0 (length sizes))
 
@@ -55,7 +55,7 @@ unfoldable pub plan : Tree → ℕ → ℕ → ℕ → ℕ → Plan
 plan (Leaf number sectors) write offset r len =
     OneFragment (record { write = write; offset = offset; len = len; disk = record { 0 = number }; at = r })
 plan (Split number kind sizes members) write offset r len =
-    Pieces number (plans_of (λ p. plan (members (slot kind sizes p.start).member) write p.offset (slot kind sizes p.start).at p.len) (cuts (next kind sizes) offset r len))
+    Pieces number (plans_of (λ p. plan (members (slot kind sizes p.start).member) write p.offset (slot kind sizes p.start).at p.len) (cuts (piece_end kind sizes) offset r len))
 plan (Mirrored number sizes members) write offset r len =
     Legs number (plans_of (λ k. plan (members k) write offset r len) (range_with_len 0 (length sizes)))
 

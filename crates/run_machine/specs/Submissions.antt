@@ -4,7 +4,7 @@ use Rattle.stack_base.specs.declared.ids.DevId.{DevId}
 use Rattle.stack_base.specs.declared.ids.Range.{Range}
 use Rattle.stack_base.specs.declared.ids.SetId.TheVariants.{Of}
 use Rattle.stack_base.specs.declared.stack.Kind.{Kind}
-use Rattle.stack_base.specs.Cutting.{next}
+use Rattle.stack_base.specs.Cutting.{piece_end}
 use Rattle.stack_base.specs.Mapping.{Slot, slot}
 use Rattle.stack_base.specs.Tree.{Tree, Leaf, Split, Mirrored}
 pub use Rattle.stack_base.specs.Tree.{legs_of}
@@ -64,7 +64,7 @@ doing_breach (Breaks breach kept) = Some breach
 
 -- how long the first piece of a run is
 abbrev pub first_length : Kind → List ℕ → Range → ℕ
-first_length kind sizes range = min (next kind sizes range.start - range.start) range.len
+first_length kind sizes range = min (piece_end kind sizes range.start - range.start) range.len
 
 -- whether a device cuts a run: the run is more than its first piece there
 abbrev pub is_cut : Tree → Range → Bool

@@ -11,8 +11,8 @@ use Rattle.stack_base.specs.declared.stack.Device.{Device}
 use Rattle.stack_base.specs.declared.stack.Stack.{Stack}
 use Rattle.stack_base.specs.Declaration.{own_sectors, IsDeclared}
 use Rattle.stack_base.specs.Stack.{HasShape, IsMember, IsStack, KeepsSizes}
-use Rattle.stack_base.specs.Tree.{Tree, tree, size, weight}
-use Rattle.stack_base.proofs.DeclaredKinds.{size_of_le, weight_over_le}
+use Rattle.stack_base.specs.Tree.{Tree, tree, size, most_begun}
+use Rattle.stack_base.proofs.DeclaredKinds.{size_of_le, most_over_le}
 use Rattle.stack_base.proofs.DeclaredSums.{total_grows, total_of_list, value_of, value_le}
 use Rattle.stack_base.proofs.Unfolded.{GoesDown, tree_going_down, size_going_down}
 
@@ -89,24 +89,24 @@ module _ (stack : Stack) (declared : IsDeclared stack) where
       )
 
   -- no device has more beginning at one sector than nine for each device
-  pub declared_narrow : (number : ℕ) → number < length stack.devices.items → weight (tree stack number) ≤ 288
+  pub declared_narrow : (number : ℕ) → number < length stack.devices.items → most_begun (tree stack number) ≤ 288
   declared_narrow number within =
       omega (
         arith,
         declared.few,
         sum_by-le (λ (device : Device). 9) 9 stack.devices.items (λ i d lt. omega arith),
-        measure_le weight (λ device. 9) (λ p device found.
+        measure_le most_begun (λ device. 9) (λ p device found.
             let items = device.members.items in
             let trees = map (λ (m : DevId). tree stack m.0) items in
-            let weights = λ (m : DevId). weight (tree stack m.0) in
+            let of_members = λ (m : DevId). most_begun (tree stack m.0) in
             let shape : HasShape device.kind (length trees) =
             subst (HasShape device.kind) (sym (length-map items (λ (m : DevId). tree stack m.0))) (declared.shape p device found) in
             omega (
               arith,
-              ap weight (tree_going_down stack declared_down p device found),
-              weight_over_le p device.kind trees shape,
-              ap sum (map-map weight (λ (m : DevId). tree stack m.0) items),
-              sum-map weights items,
+              ap most_begun (tree_going_down stack declared_down p device found),
+              most_over_le p device.kind trees shape,
+              ap sum (map-map most_begun (λ (m : DevId). tree stack m.0) items),
+              sum-map of_members items,
             )) number within,
       )
 

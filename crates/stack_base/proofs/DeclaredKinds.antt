@@ -10,7 +10,7 @@ use Rattle.stack_base.specs.declared.stack.Kind.TheVariants.{Disk, Linear, Strip
 use Rattle.stack_base.specs.Declaration.{own_sectors}
 use Rattle.stack_base.specs.Mapping.{size_of, smallest}
 use Rattle.stack_base.specs.Stack.{HasShape}
-use Rattle.stack_base.specs.Tree.{Tree, Leaf, size, member_at, over, over_shape, weight}
+use Rattle.stack_base.specs.Tree.{Tree, Leaf, size, member_at, over, over_shape, most_begun}
 use Rattle.stack_base.proofs.MemberSizes.{shape_few}
 use Rattle.stack_base.proofs.Smallest.{smallest_le, chunks_times_le}
 use Rattle.stack_base.proofs.WholeChunks.{whole_chunks_le}
@@ -36,27 +36,27 @@ size_of_le (Zoned chunk) sizes = omega (arith, whole_chunks_le chunk sizes)
 size_of_le (Limit longest chunk) sizes = omega (arith, smallest_le_sum sizes)
 size_of_le (Mirror records) sizes = omega (arith, smallest_le_sum sizes)
 
--- the weights of the members by their places
-weights_by_place :
+-- the most that begins at one sector of each member, by their places
+most_by_place :
     (number : ℕ) (members : List Tree)
-    → map (λ k. weight (member_at number members k)) (range_with_len 0 (length (map size members))) ≡ map weight members
-weights_by_place number members =
-    let at = λ (k : ℕ). weight (member_at number members k) in
+    → map (λ k. most_begun (member_at number members k)) (range_with_len 0 (length (map size members))) ≡ map most_begun members
+most_by_place number members =
+    let at = λ (k : ℕ). most_begun (member_at number members k) in
     let n = length (map size members) in
     let many : n ≡ length members = length-map members size in
-    same_lists (map at (range_with_len 0 n)) (map weight members) (length-map-range_with_len at 0 n ∙ many ∙ sym (length-map members weight)) (λ k d lt.
+    same_lists (map at (range_with_len 0 n)) (map most_begun members) (length-map-range_with_len at 0 n ∙ many ∙ sym (length-map members most_begun)) (λ k d lt.
     let within : k < length members = omega (arith, length-map-range_with_len at 0 n) in
-    get_or-map-range_with_len at 0 n k k d (omega arith) (omega arith) ∙ sym (get_or-map weight members k (Leaf number 0) d within))
+    get_or-map-range_with_len at 0 n k k d (omega arith) (omega arith) ∙ sym (get_or-map most_begun members k (Leaf number 0) d within))
 
 -- a device over its members is no heavier than they are, and a record and a clone for each of at most eight
-pub weight_over_le :
+pub most_over_le :
     (number : ℕ) (kind : Kind) (members : List Tree) → HasShape kind (length members)
-    → weight (over number kind members) ≤ 9 + sum (map weight members)
-unfolding over_shape weight
-weight_over_le number (Disk sectors bad) members shape = omega arith
-weight_over_le number Linear members shape = omega (arith, ap sum (weights_by_place number members))
-weight_over_le number (Stripe chunk) members shape = omega (arith, ap sum (weights_by_place number members))
-weight_over_le number (Zoned chunk) members shape = omega (arith, ap sum (weights_by_place number members))
-weight_over_le number (Limit longest chunk) members shape = omega (arith, ap sum (weights_by_place number members))
-weight_over_le number (Mirror records) members shape =
-    omega (arith, ap sum (weights_by_place number members), length-map members size, shape_few (Mirror records) (length members) shape)
+    → most_begun (over number kind members) ≤ 9 + sum (map most_begun members)
+unfolding over_shape most_begun
+most_over_le number (Disk sectors bad) members shape = omega arith
+most_over_le number Linear members shape = omega (arith, ap sum (most_by_place number members))
+most_over_le number (Stripe chunk) members shape = omega (arith, ap sum (most_by_place number members))
+most_over_le number (Zoned chunk) members shape = omega (arith, ap sum (most_by_place number members))
+most_over_le number (Limit longest chunk) members shape = omega (arith, ap sum (most_by_place number members))
+most_over_le number (Mirror records) members shape =
+    omega (arith, ap sum (most_by_place number members), length-map members size, shape_few (Mirror records) (length members) shape)

@@ -5,13 +5,13 @@ use Rattle.std.proofs.lemmas.Bool.{cases_lt}
 use Rattle.std.proofs.lemmas.Nat.{mod_below}
 use Rattle.stack_base.specs.declared.stack.Kind.TheVariants.{Disk, Linear, Stripe, Zoned, Limit, Mirror}
 use Rattle.stack_base.specs.Mapping.{Slot, slot, head, among, whole_chunks, zones, in_zones}
-use Rattle.stack_base.specs.Cutting.{next, IsCut, PiecesAreCuts}
+use Rattle.stack_base.specs.Cutting.{piece_end, IsCut, PiecesAreCuts}
 use Rattle.stack_base.proofs.Blocks.{same_block, later_block, stretch_here, stretch_later}
 use Rattle.stack_base.proofs.Members.{among_at_le, among_along, among_apart, next_member_ahead}
 
 -- members one behind the other: a piece ends with its member
-pub linear_cuts : (sizes : List ℕ) → IsCut (head Linear sizes) (next Linear sizes) (slot Linear sizes)
-unfolding head next slot
+pub linear_cuts : (sizes : List ℕ) → IsCut (head Linear sizes) (piece_end Linear sizes) (slot Linear sizes)
+unfolding head piece_end slot
 linear_cuts sizes = record {
   ahead = next_member_ahead sizes;
   here = λ r s le lt.
@@ -38,18 +38,18 @@ module _ (chunk : ℕ) (pos : 1 ≤ chunk) (place : ℕ → Slot) where
   }
 
 -- chunks that go round all members
-pub stripe_cuts : (chunk : ℕ) (sizes : List ℕ) → 1 ≤ chunk → IsCut (head (Stripe chunk) sizes) (next (Stripe chunk) sizes) (slot (Stripe chunk) sizes)
-unfolding head next slot
+pub stripe_cuts : (chunk : ℕ) (sizes : List ℕ) → 1 ≤ chunk → IsCut (head (Stripe chunk) sizes) (piece_end (Stripe chunk) sizes) (slot (Stripe chunk) sizes)
+unfolding head piece_end slot
 stripe_cuts chunk sizes pos = chunked_cuts chunk pos (λ number. record { member = number % length sizes; at = number / length sizes })
 
 -- chunks that go round the members of their zone
-pub zoned_cuts : (chunk : ℕ) (sizes : List ℕ) → 1 ≤ chunk → IsCut (head (Zoned chunk) sizes) (next (Zoned chunk) sizes) (slot (Zoned chunk) sizes)
-unfolding head next slot
+pub zoned_cuts : (chunk : ℕ) (sizes : List ℕ) → 1 ≤ chunk → IsCut (head (Zoned chunk) sizes) (piece_end (Zoned chunk) sizes) (slot (Zoned chunk) sizes)
+unfolding head piece_end slot
 zoned_cuts chunk sizes pos = chunked_cuts chunk pos (in_zones (zones (whole_chunks chunk sizes)))
 
 -- pieces of limited length, with no boundaries
-pub limit_cuts : (longest : ℕ) (sizes : List ℕ) → 1 ≤ longest → IsCut (head (Limit longest 0) sizes) (next (Limit longest 0) sizes) (slot (Limit longest 0) sizes)
-unfolding head next slot
+pub limit_cuts : (longest : ℕ) (sizes : List ℕ) → 1 ≤ longest → IsCut (head (Limit longest 0) sizes) (piece_end (Limit longest 0) sizes) (slot (Limit longest 0) sizes)
+unfolding head piece_end slot
 limit_cuts longest sizes pos = record {
   ahead = λ r. omega arith;
   here = λ r s le lt.
@@ -63,8 +63,8 @@ limit_cuts longest sizes pos = record {
 }
 
 -- pieces of limited length within chunks
-pub limit_in_chunk_cuts : (longest chunk : ℕ) (sizes : List ℕ) → 1 ≤ longest → IsCut (head (Limit longest (suc chunk)) sizes) (next (Limit longest (suc chunk)) sizes) (slot (Limit longest (suc chunk)) sizes)
-unfolding head next slot
+pub limit_in_chunk_cuts : (longest chunk : ℕ) (sizes : List ℕ) → 1 ≤ longest → IsCut (head (Limit longest (suc chunk)) sizes) (piece_end (Limit longest (suc chunk)) sizes) (slot (Limit longest (suc chunk)) sizes)
+unfolding head piece_end slot
 limit_in_chunk_cuts longest chunk sizes pos = record {
   ahead = λ r. omega (arith, mod_below r (suc chunk) (omega arith));
   here = λ r s le lt.

@@ -3,7 +3,7 @@ use Rattle.std.proofs.Common.{◌≡◌, ℕ, ◌≤◌, List, refl, sym, arith}
 use Rattle.stack_base.specs.declared.stack.Kind.{Kind}
 use Rattle.stack_base.specs.declared.stack.Kind.TheVariants.{Disk, Linear, Stripe, Zoned, Limit, Mirror}
 use Rattle.stack_base.specs.Mapping.{slot, head}
-use Rattle.stack_base.specs.Cutting.{CanCut, next, HeadsStay, HeadsAreHeads}
+use Rattle.stack_base.specs.Cutting.{CanCut, piece_end, HeadsStay, HeadsAreHeads}
 use Rattle.stack_base.proofs.Heads.{head_again, head_bounds, head_twice}
 use Rattle.stack_base.proofs.KindCuts.{kind_cuts}
 
@@ -11,7 +11,7 @@ use Rattle.stack_base.proofs.KindCuts.{kind_cuts}
 cut_again :
     (kind : Kind) (sizes : List ℕ) → CanCut kind → (r r2 s : ℕ) → r ≤ r2 → head kind sizes r r2 ≡ r2 → r2 ≤ s
     → head kind sizes r2 s ≡ head kind sizes r s
-cut_again kind sizes can = head_again (head kind sizes) (next kind sizes) (slot kind sizes) (kind_cuts kind sizes can)
+cut_again kind sizes can = head_again (head kind sizes) (piece_end kind sizes) (slot kind sizes) (kind_cuts kind sizes can)
 
 -- and the head of a sector is a head
 cut_twice :
@@ -19,8 +19,8 @@ cut_twice :
     → (r ≤ head kind sizes r s) × (head kind sizes r s ≤ s) × (head kind sizes r (head kind sizes r s) ≡ head kind sizes r s)
 cut_twice kind sizes can r s le =
     let cut = kind_cuts kind sizes can in
-    let bounds = head_bounds (head kind sizes) (next kind sizes) (slot kind sizes) cut r s le in
-    (bounds.0, bounds.1, head_twice (head kind sizes) (next kind sizes) (slot kind sizes) cut r s le)
+    let bounds = head_bounds (head kind sizes) (piece_end kind sizes) (slot kind sizes) cut r s le in
+    (bounds.0, bounds.1, head_twice (head kind sizes) (piece_end kind sizes) (slot kind sizes) cut r s le)
 
 -- so it is at each kind
 pub kind_again : HeadsStay

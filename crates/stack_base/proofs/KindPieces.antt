@@ -5,7 +5,7 @@ use Rattle.std.proofs.lemmas.List.Sums.{sum_by-cons}
 use Rattle.stack_base.specs.declared.mapping.Piece.{Piece}
 use Rattle.stack_base.specs.declared.stack.Kind.TheVariants.{Linear, Stripe, Zoned, Limit}
 use Rattle.stack_base.specs.Mapping.{Slot, among, slot, whole_chunks, zones, in_zones}
-use Rattle.stack_base.specs.Cutting.{next_member, next}
+use Rattle.stack_base.specs.Cutting.{next_member, piece_end}
 use Rattle.stack_base.specs.Piece.{IsPiece}
 use Rattle.stack_base.proofs.Members.{among-in, among-behind, next_member-in, next_member-behind}
 use Rattle.stack_base.proofs.KindCuts.{linear_cuts, stripe_cuts, zoned_cuts, limit_cuts, limit_in_chunk_cuts}
@@ -18,7 +18,7 @@ pub stripe_piece_is :
     → piece.member ≡ start / chunk % length sizes
     → piece.at ≡ start / chunk / length sizes * chunk + start % chunk
     → IsPiece (Stripe chunk) sizes start len piece
-unfolding next slot
+unfolding piece_end slot
 stripe_piece_is chunk start len sizes piece pos some ends member lies =
     is_piece (Stripe chunk) sizes start len piece (stripe_cuts chunk sizes pos) some
     (omega (arith, mod_below start chunk pos))
@@ -31,7 +31,7 @@ pub zoned_piece_is :
     → in_zones (zones (whole_chunks chunk sizes)) (start / chunk) ≡ record { member = piece.member; at = row }
     → piece.at ≡ row * chunk + start % chunk
     → IsPiece (Zoned chunk) sizes start len piece
-unfolding next slot
+unfolding piece_end slot
 zoned_piece_is chunk start len row sizes piece pos some ends there lies =
     is_piece (Zoned chunk) sizes start len piece (zoned_cuts chunk sizes pos) some
     (omega (arith, mod_below start chunk pos))
@@ -44,7 +44,7 @@ pub limit_piece_is :
     → (1 ≤ chunk → stretch ≡ min longest (chunk - start % chunk))
     → piece.len ≡ min stretch len → piece.member ≡ 0 → piece.at ≡ start
     → IsPiece (Limit longest chunk) sizes start len piece
-unfolding next slot
+unfolding piece_end slot
 limit_piece_is longest zero start len stretch sizes piece pos some free bound ends member lies =
     is_piece (Limit longest 0) sizes start len piece (limit_cuts longest sizes pos) some
     (omega (arith, free refl))
@@ -82,7 +82,7 @@ pub linear_piece_is :
     → start ≡ sum (take piece.member sizes) + piece.at
     → piece.len ≡ min (get_or sizes piece.member 0 - piece.at) len
     → IsPiece Linear sizes start len piece
-unfolding next slot
+unfolding piece_end slot
 linear_piece_is sizes start len piece some within inside begins ends =
     let at_member = linear_place sizes piece.member piece.at within inside in
     let end : next_member sizes start ≡ sum (take piece.member sizes) + get_or sizes piece.member 0 = ap (next_member sizes) begins ∙ at_member.1 in

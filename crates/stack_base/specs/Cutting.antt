@@ -10,14 +10,14 @@ next_member [] r = r + 1
 next_member (size ∷ sizes) r = if nat_lt r size then size else size + next_member sizes (r - size)
 
 -- where the piece that begins at r ends, if the run goes on
-unfoldable pub next : Kind → List ℕ → ℕ → ℕ
-next Linear sizes r = next_member sizes r
-next (Stripe chunk) sizes r = (r - r % chunk) + chunk
-next (Zoned chunk) sizes r = (r - r % chunk) + chunk
-next (Limit longest zero) sizes r = r + longest
-next (Limit longest (suc chunk)) sizes r = min (r + longest) ((r - r % suc chunk) + suc chunk)
-next (Disk sectors bad) sizes r = r + 1
-next (Mirror records) sizes r = r + 1
+unfoldable pub piece_end : Kind → List ℕ → ℕ → ℕ
+piece_end Linear sizes r = next_member sizes r
+piece_end (Stripe chunk) sizes r = (r - r % chunk) + chunk
+piece_end (Zoned chunk) sizes r = (r - r % chunk) + chunk
+piece_end (Limit longest zero) sizes r = r + longest
+piece_end (Limit longest (suc chunk)) sizes r = min (r + longest) ((r - r % suc chunk) + suc chunk)
+piece_end (Disk sectors bad) sizes r = r + 1
+piece_end (Mirror records) sizes r = r + 1
 
 -- a device that cuts, with numbers that are not 0
 abbrev pub CanCut : Kind → Type 0
@@ -58,4 +58,4 @@ HeadsAreHeads =
 
 -- at each kind that cuts, the sectors from one on to the next end are one piece
 abbrev pub PiecesAreCuts : Type 0
-PiecesAreCuts = (kind : Kind) (sizes : List ℕ) → CanCut kind → IsCut (head kind sizes) (next kind sizes) (slot kind sizes)
+PiecesAreCuts = (kind : Kind) (sizes : List ℕ) → CanCut kind → IsCut (head kind sizes) (piece_end kind sizes) (slot kind sizes)

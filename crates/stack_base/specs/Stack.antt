@@ -5,7 +5,7 @@ use Rattle.stack_base.specs.declared.stack.Kind.{Kind}
 use Rattle.stack_base.specs.declared.stack.Kind.TheVariants.{Disk, Linear, Stripe, Zoned, Limit, Mirror}
 use Rattle.stack_base.specs.declared.stack.Device.{Device}
 use Rattle.stack_base.specs.declared.stack.Stack.{Stack}
-use Rattle.stack_base.specs.Tree.{tree, size, weight}
+use Rattle.stack_base.specs.Tree.{tree, size, most_begun}
 
 -- the numbers of a kind, and how many members it has
 abbrev pub HasShape : Kind → ℕ → Type 0
@@ -28,7 +28,7 @@ pub record IsDevice (stack : Stack) (number : ℕ) (device : Device) : Type 0 wh
   pub some : 1 ≤ size (tree stack number)
   pub small : size (tree stack number) ≤ 262144
   -- what begins at one sector is no more than a record and eight clones for each device
-  pub narrow : weight (tree stack number) ≤ 288
+  pub narrow : most_begun (tree stack number) ≤ 288
 
 -- the sizes of the members of a device, in their order
 abbrev pub AreMemberSizes : Stack → ℕ → List ℕ → Type 0
@@ -38,6 +38,7 @@ AreMemberSizes stack d sizes = (device : Device) → slice_get stack.devices.ite
 abbrev pub KeepsSizes : Stack → Type 0
 KeepsSizes stack = (number : ℕ) → number < length stack.devices.items → slice_get stack.sizes.items number ≡ Some (size (tree stack number))
 
+-- at most 32 devices, each over earlier ones; none is a member twice, and the size of each is kept
 pub record IsStack (stack : Stack) : Type 0 where
   pub few : length stack.devices.items ≤ 32
   pub each : (number : ℕ) (device : Device) → slice_get stack.devices.items number ≡ Some device → IsDevice stack number device

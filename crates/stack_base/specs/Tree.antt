@@ -15,6 +15,7 @@ pub data Tree : Type 0 where
   Split : (number : ℕ) (kind : Kind) (sizes : List ℕ) → (ℕ → Tree) → Tree
   Mirrored : (number : ℕ) (sizes : List ℕ) → (ℕ → Tree) → Tree
 
+-- how many sectors it has, by its kind and the sizes of its members
 abbrev pub size : Tree → ℕ
 size (Leaf number sectors) = sectors
 size (Split number kind sizes members) = size_of kind sizes
@@ -71,7 +72,7 @@ abbrev pub sizes_at : Stack → Device → List ℕ
 sizes_at stack device = map (λ (m : DevId). size (tree stack m.0)) device.members.items
 
 -- how many elements can begin at one sector of a run, at the most: one bio where a device cuts, a record and a clone a member where it copies
-unfoldable pub weight : Tree → ℕ
-weight (Leaf number sectors) = 0
-weight (Split number kind sizes members) = 1 + sum (map (λ k. weight (members k)) (range_with_len 0 (length sizes)))
-weight (Mirrored number sizes members) = 1 + length sizes + sum (map (λ k. weight (members k)) (range_with_len 0 (length sizes)))
+unfoldable pub most_begun : Tree → ℕ
+most_begun (Leaf number sectors) = 0
+most_begun (Split number kind sizes members) = 1 + sum (map (λ k. most_begun (members k)) (range_with_len 0 (length sizes)))
+most_begun (Mirrored number sizes members) = 1 + length sizes + sum (map (λ k. most_begun (members k)) (range_with_len 0 (length sizes)))

@@ -8,7 +8,7 @@ use Rattle.stack_base.specs.declared.ids.DevId.{DevId}
 use Rattle.stack_base.specs.declared.mapping.Piece.{Piece}
 use Rattle.stack_base.specs.declared.stack.Device.{Device}
 use Rattle.stack_base.specs.declared.stack.Stack.{Stack}
-use Rattle.stack_base.specs.Cutting.{IsCut, next}
+use Rattle.stack_base.specs.Cutting.{IsCut, piece_end}
 use Rattle.stack_base.specs.Mapping.{Slot, slot, head}
 use Rattle.stack_base.specs.Piece.{IsPiece}
 use Rattle.stack_base.specs.Stack.{IsStack}
@@ -127,7 +127,7 @@ first_at stack good bio within =
             let sizes = sizes_at stack device in
             let to : Slot = slot kind sizes bio.range.start in
             let piece : Piece = record { len = first_length kind sizes bio.range; member = to.member; at = to.at } in
-            let cut : IsCut (head kind sizes) (next kind sizes) (slot kind sizes) =
+            let cut : IsCut (head kind sizes) (piece_end kind sizes) (slot kind sizes) =
             kind_cuts kind sizes (can_cut kind (length device.members.items) (good.each bio.dev.0 device found).shape e) in
             let is : IsPiece kind sizes bio.range.start bio.range.len piece =
             is_piece kind sizes bio.range.start bio.range.len piece cut within.some refl refl in

@@ -15,13 +15,13 @@ use Rattle.decl_text.specs.Refusals.{first_found, refusal}
 use Rattle.decl_text.specs.declared.item.Item.{Item}
 use Rattle.decl_text.specs.declared.item.Item.TheVariants as item
 use Rattle.stack_base.specs.declared.stack.Kind.{Kind}
-use Rattle.stack_base.specs.Tree.{Copies, Cuts, Leaf, Tree, member_at, over_shape, weight}
+use Rattle.stack_base.specs.Tree.{Copies, Cuts, Leaf, Tree, member_at, over_shape, most_begun}
 use Rattle.stack_base.specs.Mapping.{size_of, smallest}
 use Rattle.stack_base.proofs.ListLemmas.{Each}
 use Rattle.layout_model.specs.Bound.{most_elements}
 use Rattle.layout_model.specs.Need.{needed, vectors}
 use Rattle.layout_model.specs.Sound.{NothingBehindMembers}
-use Rattle.layout_model.proofs.AtMost.{needed_le_weight}
+use Rattle.layout_model.proofs.AtMost.{needed_le_most}
 use Rattle.work_text.specs.Work.{all_checks, elements_in}
 use Rattle.work_text.specs.Generated.{runs, write_words, words_of_runs}
 use Rattle.work_text.proofs.Said.{IsWord, Writes, body_of, decimal_writes, word_by}
@@ -81,15 +81,15 @@ module _ (m0 m1 m2 m3 c0 c1 : List ℕ) where
       (closed_two 8 _ _ _ (closed_one 4 _ _ (closed_leaf 0 32768)) (closed_one 5 _ _ (closed_leaf 1 32768))).0
       (closed_two 9 _ _ _ (closed_one 6 _ _ (closed_leaf 2 32768)) (closed_one 7 _ _ (closed_leaf 3 32768))).0).1
 
-  weighs : weight top ≡ 9
-  unfolding weight over_shape
+  weighs : most_begun top ≡ 9
+  unfolding most_begun over_shape
   weighs = refl
 
   -- at most eleven elements a sector: its bio, a vector, and what begins below
   eleven : (write : Written) → write.dev ≡ 10 → 1 ≤ write.count → elements_in devices write ≤ 11 * write.count
   eleven write dev some =
       let most_below : needed top write.start write.count ≤ 9 * write.count =
-      subst (λ w. needed top write.start write.count ≤ w * write.count) weighs (needed_le_weight top write.start write.count closed) in
+      subst (λ w. needed top write.start write.count ≤ w * write.count) weighs (needed_le_most top write.start write.count closed) in
       let same : needed (tree_of devices write.dev) write.start write.count ≡ needed top write.start write.count = ap (λ d. needed (tree_of devices d) write.start write.count) dev in
       let few : vectors write.count ≤ 1 = vector_le write.count in
       omega (arith, most_below, same, few, some)

@@ -11,7 +11,7 @@ use Rattle.stack_base.specs.Tree.{Tree, Leaf, Split, Mirrored, tree, sizes_at}
 use Rattle.layout_model.proofs.RangeSums.{sum_next, sum_of_two}
 use Rattle.layout_model.proofs.Over.{can_cut}
 use Rattle.stack_base.proofs.KindCuts.{kind_cuts}
-use Rattle.stack_base.specs.Cutting.{next, IsCut}
+use Rattle.stack_base.specs.Cutting.{piece_end, IsCut}
 use Rattle.stack_base.specs.Mapping.{slot, head}
 use Rattle.block_core.proofs.bound.RunCharges.{charge_disk, charge_piece, charge_more, charge_legs}
 use Rattle.bio_records.specs.declared.bio.Bio.{Bio}
@@ -96,7 +96,7 @@ module _ (price : Paid → ℕ) (stack : Stack) (good : IsStack stack) (places :
 
   -- the heads of a device that cuts
   is_cut_of : (number : ℕ) (device : Device) → slice_get stack.devices.items number ≡ Some device → shape_of device.kind ≡ Cuts
-      → IsCut (head device.kind (sizes_at stack device)) (next device.kind (sizes_at stack device)) (slot device.kind (sizes_at stack device))
+      → IsCut (head device.kind (sizes_at stack device)) (piece_end device.kind (sizes_at stack device)) (slot device.kind (sizes_at stack device))
   is_cut_of number device found cuts_it =
       kind_cuts device.kind (sizes_at stack device) (can_cut device.kind (length device.members.items) (good.each number device found).shape cuts_it)
 

@@ -4,7 +4,7 @@ use Rattle.std.specs.Prelude.{sum_by}
 use Rattle.std.specs.List.{range_with_len}
 use Rattle.stack_base.specs.declared.stack.Kind.{Kind}
 use Rattle.stack_base.specs.Mapping.{slot, head}
-use Rattle.stack_base.specs.Cutting.{next, IsCut}
+use Rattle.stack_base.specs.Cutting.{piece_end, IsCut}
 use Rattle.stack_base.specs.Tree.{Tree, Leaf, Split, Mirrored}
 use Rattle.layout_model.proofs.RangeSums.{sum_of_first}
 use Rattle.layout_model.proofs.Counted.{total_piece, total_more, total_legs}
@@ -19,21 +19,21 @@ module _ (price : Paid → ℕ) where
 
   -- a run that is one piece is charged what the piece is in its member
   pub charge_piece : (number : ℕ) (kind : Kind) (sizes : List ℕ) (members : ℕ → Tree) (r len n : ℕ)
-      → IsCut (head kind sizes) (next kind sizes) (slot kind sizes) → n ≡ min (next kind sizes r - r) len → n ≡ len
+      → IsCut (head kind sizes) (piece_end kind sizes) (slot kind sizes) → n ≡ min (piece_end kind sizes r - r) len → n ≡ len
       → run_charge price (Split number kind sizes members) r len ≡ run_charge price (members (slot kind sizes r).member) (slot kind sizes r).at len
   unfolding begun_charge run_charge
   charge_piece number kind sizes members r len n cut is whole =
-      total_piece (head kind sizes) (next kind sizes) (slot kind sizes) cut (cost price PieceBio) (λ m. begun_charge price (members m)) r len n is whole
+      total_piece (head kind sizes) (piece_end kind sizes) (slot kind sizes) cut (cost price PieceBio) (λ m. begun_charge price (members m)) r len n is whole
 
   -- a run with more pieces is charged what its first is in its member, a bio for the first, and what the rest is
   pub charge_more : (number : ℕ) (kind : Kind) (sizes : List ℕ) (members : ℕ → Tree) (r len n : ℕ)
-      → IsCut (head kind sizes) (next kind sizes) (slot kind sizes) → n ≡ min (next kind sizes r - r) len → n < len
+      → IsCut (head kind sizes) (piece_end kind sizes) (slot kind sizes) → n ≡ min (piece_end kind sizes r - r) len → n < len
       → run_charge price (Split number kind sizes members) r len
       ≡ run_charge price (members (slot kind sizes r).member) (slot kind sizes r).at n
       + (cost price PieceBio + run_charge price (Split number kind sizes members) (r + n) (len - n))
   unfolding begun_charge run_charge
   charge_more number kind sizes members r len n cut is more =
-      total_more (head kind sizes) (next kind sizes) (slot kind sizes) cut (cost price PieceBio) (λ m. begun_charge price (members m)) r len n is more
+      total_more (head kind sizes) (piece_end kind sizes) (slot kind sizes) cut (cost price PieceBio) (λ m. begun_charge price (members m)) r len n is more
 
   -- a run at a mirror is charged a record, a bio for each member, and what it is in each member
   pub charge_legs : (number : ℕ) (sizes : List ℕ) (members : ℕ → Tree) (r len : ℕ) → 0 < len

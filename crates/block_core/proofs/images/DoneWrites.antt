@@ -5,7 +5,7 @@ use Rattle.std.specs.List.{range_with_len, flat_map}
 use Rattle.std.proofs.lemmas.List.Sums.{sum_by-cons, sum_by-append}
 use Rattle.elem_ledger.specs.Ledger.{LedgerId}
 use Rattle.stack_base.specs.Mapping.{slot}
-use Rattle.stack_base.specs.Cutting.{next}
+use Rattle.stack_base.specs.Cutting.{piece_end}
 use Rattle.stack_base.specs.Tree.{Tree, Leaf, Split, Mirrored}
 use Rattle.layout_model.specs.declared.fragment.Fragment.{Fragment}
 use Rattle.layout_model.specs.Plan.{cuts, frags, leaves, plan}
@@ -67,7 +67,7 @@ module _ (w : ℕ) (value : Fragment → ℕ) (other : (f : Fragment) → f.writ
       let f : Fragment = record { write = write; offset = offset; len = len; disk = record { 0 = number }; at = r } in
       omega (arith, sum_by-cons value f [], other f ne)
   frags_none (Split number kind sizes members) write offset r len ne =
-      flat_none value (λ p. frags (members (slot kind sizes p.start).member) write p.offset (slot kind sizes p.start).at p.len) (cuts (next kind sizes) offset r len)
+      flat_none value (λ p. frags (members (slot kind sizes p.start).member) write p.offset (slot kind sizes p.start).at p.len) (cuts (piece_end kind sizes) offset r len)
       (λ p. frags_none (members (slot kind sizes p.start).member) write p.offset (slot kind sizes p.start).at p.len ne)
   frags_none (Mirrored number sizes members) write offset r len ne =
       flat_none value (λ k. frags (members k) write offset r len) (range_with_len 0 (length sizes)) (λ k. frags_none (members k) write offset r len ne)

@@ -11,7 +11,7 @@ use Rattle.stack_base.specs.declared.stack.Stack.{Stack}
 use Rattle.stack_base.specs.declared.stack.Kind.{Kind}
 use Rattle.stack_base.specs.Stack.{IsStack, HasShape}
 use Rattle.stack_base.specs.Fault.{status_eq}
-use Rattle.stack_base.specs.Cutting.{next, IsCut}
+use Rattle.stack_base.specs.Cutting.{piece_end, IsCut}
 use Rattle.stack_base.specs.Mapping.{slot, head}
 use Rattle.stack_base.specs.Tree.{Tree, Leaf, Split, Mirrored, Cuts, shape_of, tree, sizes_at}
 use Rattle.stack_base.proofs.KindCuts.{kind_cuts}
@@ -173,7 +173,7 @@ module _ (stack : Stack) (good : IsStack stack) (places : ℕ → ℕ) (ends : F
 
   -- a device that cuts cuts at its next ends
   cut_at_ends : (number : ℕ) (device : Device) → slice_get stack.devices.items number ≡ Some device → shape_of device.kind ≡ Cuts
-      → IsCut (head device.kind (sizes_at stack device)) (next device.kind (sizes_at stack device)) (slot device.kind (sizes_at stack device))
+      → IsCut (head device.kind (sizes_at stack device)) (piece_end device.kind (sizes_at stack device)) (slot device.kind (sizes_at stack device))
   cut_at_ends number device found cuts =
       let shape_is : HasShape device.kind (length device.members.items) = (good.each number device found).shape in
       kind_cuts device.kind (sizes_at stack device) (can_cut device.kind (length device.members.items) shape_is cuts)

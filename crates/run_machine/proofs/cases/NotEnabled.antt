@@ -7,7 +7,7 @@ use Rattle.fail_script.specs.Script.{Answers, only_tail}
 use Rattle.stack_base.specs.declared.ids.DevId.{DevId}
 use Rattle.stack_base.specs.declared.ids.PoolId.TheVariants.{FsBios, FsVecs, Bios}
 use Rattle.stack_base.specs.declared.ids.Status.TheVariants.{Ok, Io}
-use Rattle.stack_base.specs.Cutting.{next, next_member}
+use Rattle.stack_base.specs.Cutting.{piece_end, next_member}
 use Rattle.stack_base.specs.Mapping.{slot, among}
 use Rattle.stack_base.specs.Tree.{Leaf}
 use Rattle.mempool_core.specs.Move.{PoolState, CanMove, misses, opened}
@@ -219,7 +219,7 @@ module _ (some : LedgerId) where
 
   -- Pushes: of the bio at hand, as it is. What is left of a bio that is cut comes behind its first piece.
   rest_waits : IsEnabled cuts (cut_at 6) (cut.w some (what.Push (device_at 0) 7 1 0)) → ⊥
-  unfolding upd next next_member slot among
+  unfolding upd piece_end next_member slot among
   rest_waits = not_next _ _ _ 0 refl (λ can. absurd (omega (arith, can.needs.1)))
 
   another_sector : IsEnabled one_write (one_at 2) (one.by_writer some (what.Push a 1 1 0)) → ⊥
@@ -255,7 +255,7 @@ module _ (some : LedgerId) where
 
   -- Links of a child, a master and a leg: the node that they name is open.
   stray_child : IsEnabled cuts (with_books (cut_at 3) empty) (cut.w some (what.Link 0 how.Chain 1)) → ⊥
-  unfolding upd next next_member
+  unfolding upd piece_end next_member
   stray_child = not_next _ _ _ 0 refl (λ can. can.needs.2.1)
 
   stray_master : IsEnabled mirror (with_books (mirror_at 3) empty) (mirrored.w some (what.Link 0 how.Master 1)) → ⊥
@@ -268,7 +268,7 @@ module _ (some : LedgerId) where
 
   -- Links of a child: its parent waits for fewer ends than can be counted.
   one_end_too_many : IsEnabled cuts (with_books (cut_at 3) crowded) (cut.w some (what.Link 0 how.Chain 1)) → ⊥
-  unfolding upd next next_member
+  unfolding upd piece_end next_member
   one_end_too_many = not_next _ _ _ 0 refl (λ can. absurd (omega (arith, can.needs.2.1.0)))
 
   -- Ends that nodes are told of: the node is open.

@@ -11,7 +11,7 @@ use Rattle.stack_base.specs.declared.ids.SetId.TheVariants.{Fs, Of}
 use Rattle.stack_base.specs.declared.ids.Status.TheVariants.{Ok}
 use Rattle.stack_base.specs.declared.stack.Kind.TheVariants.{Linear, Limit}
 use Rattle.stack_base.specs.declared.stack.Stack.{Stack}
-use Rattle.stack_base.specs.Cutting.{next, next_member}
+use Rattle.stack_base.specs.Cutting.{piece_end, next_member}
 use Rattle.stack_base.specs.Mapping.{slot, among, head, size_of, smallest}
 use Rattle.stack_base.specs.Tree.{Tree, Leaf, Split, tree, tree_below, over_shape, member_at}
 use Rattle.decl_text.specs.Text.{without_empty_end, is_name, number_of}
@@ -189,7 +189,7 @@ module _ (some : LedgerId) where
       ∷ []
 
   are_turns : AreTurns scene start turns events
-  unfolding upd next next_member slot among
+  unfolding upd piece_end next_member slot among
   are_turns = (
     (refl, refl, (Present 0, (refl, refl), refl), refl, (((omega arith, omega arith), refl), refl)),
     (
@@ -264,7 +264,7 @@ module _ (some : LedgerId) where
   others_home number bios records own = rw (bios, records, own) refl
 
   split_ends : HasEnded (follow setup start turns)
-  unfolding next next_member slot among upd
+  unfolding piece_end next_member slot among upd
   split_ends = record {
     writes = refl;
     pools = all_home (follow setup start turns).objects.pool (65 ∷ 6 ∷ 4 ∷ []) (refl, (refl, (refl, tt))) (λ number other. others_home number other.0 other.1.0 other.1.1.0);
@@ -305,7 +305,7 @@ module _ (memory : Global) where
   rescuer_is (suc (suc (suc (suc n)))) = refl
 
   three_nodes : 3 ≡ nodes_of stack write
-  unfolding tree_below over_shape size_of smallest needed elements_begun head slot among next next_member
+  unfolding tree_below over_shape size_of smallest needed elements_begun head slot among piece_end next_member
   three_nodes = refl
 
   bads_are : (dev : ℕ) → [] ≡ bads_of stack dev
@@ -349,5 +349,5 @@ module _ (memory : Global) where
       begins.text_runs setup reserve tally scenario is_of_text tasks tasks_are (ledger some) (events some) (follow setup start (turns some)) (split_runs some)
 
   says : SaysScenario text scenario
-  unfolding refusal without_empty_end first_found command_of is_name number_of meaning pool_at over_shape size_of smallest needed elements_begun head slot among next next_member
+  unfolding refusal without_empty_end first_found command_of is_name number_of meaning pool_at over_shape size_of smallest needed elements_begun head slot among piece_end next_member
   says = says_of text scenario refl (refl, (refl, (refl, (refl, tt)))) refl

@@ -5,7 +5,7 @@ use Rattle.std.proofs.lemmas.Option.{none-some, same_Some}
 use Rattle.std.specs.Global.{Global}
 use Rattle.stack_base.specs.declared.stack.Device.{Device}
 use Rattle.stack_base.specs.Stack.{IsDevice, IsMember}
-use Rattle.stack_base.specs.Tree.{tree, size, weight, tree_below, over_shape}
+use Rattle.stack_base.specs.Tree.{tree, size, most_begun, tree_below, over_shape}
 use Rattle.layout_model.specs.declared.write.Write.{Write}
 use Rattle.layout_model.specs.Writes.{IsWrite}
 use Rattle.run_machine.proofs.cases.OneDisk.{stack}
@@ -19,7 +19,7 @@ module _ (memory : Global) where
   no_member (suc d) i m (device, is, at) = none-some device is
 
   is_device : (number : ℕ) (device : Device) → slice_get (stack memory 8).devices.items number ≡ Some device → IsDevice (stack memory 8) number device
-  unfolding tree_below over_shape weight
+  unfolding tree_below over_shape most_begun
   is_device zero device is = subst (IsDevice (stack memory 8) zero) (same_Some _ device is) (record {
     below = λ i m at. absurd (none-some m at);
     shape = refl;
@@ -30,7 +30,7 @@ module _ (memory : Global) where
   is_device (suc n) device is = absurd (none-some device is)
 
   pub is_scenario : IsScenario (scenario memory)
-  unfolding tree_below over_shape weight
+  unfolding tree_below over_shape most_begun
   is_scenario = record {
     stack = record {
       few = omega arith;

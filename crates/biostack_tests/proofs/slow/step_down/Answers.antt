@@ -1,6 +1,6 @@
 use Rattle.std.proofs.Common.{List, ℕ, length, sum, sym, ap, ◌∙◌, subst, arith}
 use Rattle.std.proofs.lemmas.Option.{slice_get-get_or}
-use Rattle.stack_base.specs.Cutting.{next}
+use Rattle.stack_base.specs.Cutting.{piece_end}
 use Rattle.stack_base.specs.Mapping.{size_of, slot, head}
 use Rattle.stack_base.specs.Stack.{HasShape}
 use Rattle.stack_base.proofs.MemberSizes.{shape_few, members_small}
@@ -27,7 +27,7 @@ slot-from-requires c =
     let first = c.deref.ensures.0 ∙ known in
     let good = c.requires.stack.each c.args.dev.0 c.args.device.now c.requires.found in
     let can = can_cut kind (length c.args.device.now.members.items) good.shape c.requires.cuts in
-    let low = head_bounds (head kind c.deref.result.now) (next kind c.deref.result.now) (slot kind c.deref.result.now) (kind_cuts kind c.deref.result.now can) c.args.start c.args.sector c.requires.in_run in
+    let low = head_bounds (head kind c.deref.result.now) (piece_end kind c.deref.result.now) (slot kind c.deref.result.now) (kind_cuts kind c.deref.result.now can) c.args.start c.args.sector c.requires.in_run in
     record {
       shape = subst (λ (sizes : List ℕ). HasShape kind (length sizes)) (sym sizes)
           (sized_shape c.args.stack.now c.requires.stack c.args.dev.0 c.args.device.now c.requires.found c.requires.cuts c.args.sector c.requires.within);
