@@ -107,7 +107,7 @@ module _ (stack : Stack) (good : IsStack stack) where
   pub tree_apart : (number : ℕ) → number < length stack.devices.items → Apart (tree stack number)
   tree_apart number within = apart_below (number + 1) number (omega arith) within
 
-  -- what cutting at a device gives, sorted by rank, is the list of the fragments
+  -- what cutting at a device gives, sorted by their order, is the list of the fragments
   pub tree_fragments : (number : ℕ) → number < length stack.devices.items → (write r len : ℕ) → 0 < len
       → (list : List Fragment) → IsPermutation (frags (tree stack number) write 0 r len) list → IsNonDecreasingBy fragment_order list
       → AreFragments (tree stack number) write r len list

@@ -22,6 +22,6 @@ module _ (stack : Stack) (good : IsStack stack) (write : Write) (served : IsWrit
       omega (arith, one_or_none (ltb 4 ((write.count + 7) / 8)), needed_small stack good write.dev.0 write.start write.count served.known served.within)
 
   -- it has no more fragments than it needs elements
-  pub parts_le_elements : write_fragments stack write ≤ elements stack write
-  parts_le_elements =
+  pub fragments_le_elements : write_fragments stack write ≤ elements stack write
+  fragments_le_elements =
       omega (arith, fragments_le_needed (tree stack write.dev.0) write.start write.count (tree_sound stack good write.dev.0 served.known) served.some)

@@ -14,7 +14,7 @@ use Rattle.layout_model.specs.Need.{needed, vectors}
 use Rattle.layout_model.specs.NeedCounts.{IsNeeds, elements, write_fragments}
 use Rattle.layout_model.specs.Bound.{IsBound, most_elements, all_elements}
 use Rattle.layout_model.specs.Writes.{IsWrite}
-use Rattle.layout_model.proofs.WriteSizes.{parts_le_elements}
+use Rattle.layout_model.proofs.WriteSizes.{fragments_le_elements}
 use Rattle.decl_text.specs.Accepting.{shown_devices}
 use Rattle.decl_text.specs.Checks.{is_among, shares}
 use Rattle.decl_text.specs.Known.{Declarations, Written, all_members, device_of, present, tree_of}
@@ -173,7 +173,7 @@ pub bound_more : (stack : Stack) → IsStack stack → (writes : List Write) (z 
 bound_more stack good writes z bound write needs so_far need is allowed =
     let more = sum_by_push (λ (w : Write). elements stack w) writes write in
     let more_parts = sum_by_push (λ (w : Write). write_fragments stack w) writes write in
-    let fewer = parts_le_elements stack good write is in
+    let fewer = fragments_le_elements stack good write is in
     record {
       allowed = omega (arith, so_far.elements, need.elements);
       elements = omega (arith, so_far.elements, need.elements);

@@ -4,7 +4,7 @@ use Rattle.std.proofs.lemmas.List.Sums.{sum_by_more}
 use Rattle.layout_model.specs.declared.write.Write.{Write}
 use Rattle.layout_model.specs.NeedCounts.{elements, write_fragments}
 use Rattle.layout_model.specs.Writes.{IsWrite}
-use Rattle.layout_model.proofs.WriteSizes.{elements_small, parts_le_elements, no_write}
+use Rattle.layout_model.proofs.WriteSizes.{elements_small, fragments_le_elements, no_write}
 use Rattle.layout_model.proofs.totals.bound.Goals as goal
 
 -- each write needs little
@@ -23,7 +23,7 @@ overflow_add-g c =
       arith,
       c.need-needs.ensures.elements,
       c.need-needs.ensures.fragments,
-      parts_le_elements c.args.stack.now c.requires.stack write served,
+      fragments_le_elements c.args.stack.now c.requires.stack write served,
     )
 
 pub loop-number-preserved : goal.loop-number-preserved
@@ -51,7 +51,7 @@ loop-number-preserved c =
         arith,
         c.need-needs.ensures.elements,
         c.need-needs.ensures.fragments,
-        parts_le_elements c.args.stack.now c.requires.stack write served,
+        fragments_le_elements c.args.stack.now c.requires.stack write served,
       );
       counted = omega (arith, c.need-needs.ensures.elements, c.loop-number.invariant.counted);
     }

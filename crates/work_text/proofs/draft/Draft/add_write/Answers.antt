@@ -8,7 +8,7 @@ use Rattle.stack_base.specs.declared.ids.Range.{Range}
 use Rattle.layout_model.specs.declared.write.Write.{Write}
 use Rattle.layout_model.specs.Bound.{IsBound}
 use Rattle.layout_model.specs.Writes.{IsWrite}
-use Rattle.layout_model.proofs.WriteSizes.{parts_le_elements}
+use Rattle.layout_model.proofs.WriteSizes.{fragments_le_elements}
 use Rattle.decl_text.specs.Checks.{is_empty_list}
 use Rattle.decl_text.specs.Known.{Written, present}
 use Rattle.work_text.specs.Work.{as_written}
@@ -54,7 +54,7 @@ overflow_add-self-3 c =
       follow.allowed,
       follow.needed.elements,
       follow.needed.fragments,
-      parts_le_elements c.args.stack.now c.requires.stack write follow.served,
+      fragments_le_elements c.args.stack.now c.requires.stack write follow.served,
     )
 
 pub returns-clause-draft : goal.returns-clause-draft
