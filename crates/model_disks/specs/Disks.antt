@@ -1,5 +1,5 @@
 -- A disk of the model, as contracts see it.
-use Rattle.std.specs.Prelude.{◌≡◌, ◌+◌, ◌-◌, ◌%◌, ◌^◌, ◌<◌, ◌≤◌, ℕ, List, length, min, sum, sum_by}
+use Rattle.std.specs.Prelude.{◌≡◌, ◌+◌, ◌-◌, ◌*◌, ◌/◌, ◌%◌, ◌^◌, ◌<◌, ◌≤◌, ℕ, List, length, min, sum, sum_by, take, drop}
 use Rattle.stack_base.specs.declared.ids.DevId.{DevId}
 use Rattle.stack_base.specs.declared.ids.Bad.{Bad}
 use Rattle.stack_base.specs.declared.ids.Status.TheVariants as status
@@ -23,6 +23,10 @@ waiting_count disk = min (length disk.pending) (2 ^ 64 - 1)
 -- the sum of all words of an image, modulo 2 ^ 64
 abbrev pub sum_of_words : List (List ℕ) → ℕ
 sum_of_words image = sum_by sum image % 2 ^ 64
+
+-- these words are those of the sectors from one on, 64 of each, one sector behind the other
+abbrev pub HasSectorsFrom : (ℕ → List ℕ) → ℕ → List ℕ → Type 0
+HasSectorsFrom sector at words = (i : ℕ) → i < length words / 64 → take 64 (drop (64 * i) words) ≡ sector (at + i)
 
 -- a bad range of a disk of so many sectors: it has a sector, ends within the disk, and lets no bio end well
 pub record IsBadRange (sectors : ℕ) (bad : Bad) : Type 0 where

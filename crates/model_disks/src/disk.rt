@@ -57,13 +57,13 @@ pub struct Done {
 }
 
 impl Disk {
-    ghost use Rattle.std.specs.Prelude.{◌≡◌, ◌+◌, ◌*◌, ◌/◌, ◌%◌, ◌<◌, ◌≤◌, ℕ, [], ◌++◌, length, take, drop, map, reverse, slice_index_or, All, IfOk, MatchOption};
+    ghost use Rattle.std.specs.Prelude.{◌≡◌, ◌+◌, ◌*◌, ◌%◌, ◌<◌, ◌≤◌, [], ◌++◌, length, map, reverse, slice_index_or, All, IfOk, MatchOption};
     ghost use Rattle.std.specs.Borrow.{sem};
     ghost use Rattle.std.specs.Io.BufRead.{Rests};
     ghost use Rattle.std.specs.List.{concat};
     ghost use Rattle.stack_base.specs.Words.{is_written, zero_sector};
     ghost use Rattle.bio_records.specs.Items.{item_of, plain_of, IsAlone};
-    ghost use Rattle.model_disks.specs.Disks.{IsBadRange, sum_of_words, waiting_count};
+    ghost use Rattle.model_disks.specs.Disks.{HasSectorsFrom, IsBadRange, sum_of_words, waiting_count};
     ghost use Rattle.model_disks.specs.Moves.{blank_disk, pushed, Completes};
     ghost use Rattle.model_disks.specs.Runs.{EndsInWord, IsApart, IsNextRun};
     ghost use Rattle.model_disks.specs.contracts.disk.Disk.{the_row};
@@ -120,8 +120,7 @@ impl Disk {
     /// keeps no words of that one, which are all zeros.
     pub fn rest(&self, at: u64) -> &[u64]
         requires { at < length self.now.image }
-        ensures sectors { (i : ℕ) → i < length result.now / 64
-            → take 64 (drop (64 * i) result.now) ≡ slice_index_or self.now.image (at + i) [] }
+        ensures sectors { HasSectorsFrom (λ x. slice_index_or self.now.image x []) at result.now }
         ensures whole { length result.now % 64 ≡ 0 }
         ensures within { 64 * at + length result.now ≤ 64 * length self.now.image }
         ensures zeros { length result.now ≡ 0 → slice_index_or self.now.image at [] ≡ zero_sector }

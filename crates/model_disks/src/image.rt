@@ -80,12 +80,12 @@ fn sum_of_written(pages: &Pages, flags: &[bool]) -> u64
 }
 
 impl Image {
-    ghost use Rattle.std.specs.Prelude.{◌≡◌, ◌+◌, ◌*◌, ◌/◌, ◌-◌, ◌%◌, ◌<◌, ◌≤◌, ℕ, [], length, take, drop, map, replicate, slice_index_or, IfOk, MatchOption};
+    ghost use Rattle.std.specs.Prelude.{◌≡◌, ◌+◌, ◌*◌, ◌-◌, ◌%◌, ◌<◌, ◌≤◌, [], length, map, replicate, slice_index_or, IfOk, MatchOption};
     ghost use Rattle.std.specs.Borrow.{sem};
     ghost use Rattle.std.specs.Io.BufRead.{Rests};
     ghost use Rattle.std.specs.List.{concat};
     ghost use Rattle.stack_base.specs.Words.{is_written, zero_sector};
-    ghost use Rattle.model_disks.specs.Disks.{sum_of_words};
+    ghost use Rattle.model_disks.specs.Disks.{HasSectorsFrom, sum_of_words};
     ghost use Rattle.model_disks.specs.Moves.{written};
     ghost use Rattle.model_disks.specs.Runs.{EndsInWord, IsApart, IsNextRun};
     ghost use Rattle.model_disks.specs.contracts.image.Image.{the_row};
@@ -124,7 +124,7 @@ impl Image {
     /// The words of the sectors from one on, as many as stand side by side, or none where the image keeps no words of that one.
     pub fn rest(&self, at: u64) -> &[u64]
         requires { at < length self.now }
-        ensures sectors { (i : ℕ) → i < length result.now / 64 → take 64 (drop (64 * i) result.now) ≡ slice_index_or self.now (at + i) [] }
+        ensures sectors { HasSectorsFrom (λ x. slice_index_or self.now x []) at result.now }
         ensures whole { length result.now % 64 ≡ 0 }
         ensures within { 64 * at + length result.now ≤ 64 * length self.now }
         ensures zeros { length result.now ≡ 0 → slice_index_or self.now at [] ≡ zero_sector }

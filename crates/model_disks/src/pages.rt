@@ -106,9 +106,10 @@ fn in_turn(alloc: Global, count: u32) -> Result<Vec<u32>, AllocError>
 }
 
 impl Pages {
-    ghost use Rattle.std.specs.Prelude.{◌≡◌, ◌+◌, ◌*◌, ◌/◌, ◌%◌, ◌<◌, ◌≤◌, ℕ, [], length, take, drop, vec_capacity, IfOk};
+    ghost use Rattle.std.specs.Prelude.{◌≡◌, ◌+◌, ◌*◌, ◌/◌, ◌%◌, ◌<◌, ◌≤◌, [], length, vec_capacity, IfOk};
     ghost use Rattle.std.specs.List.{concat};
     ghost use Rattle.stack_base.specs.Words.{zero_sector};
+    ghost use Rattle.model_disks.specs.Disks.{HasSectorsFrom};
     ghost use Rattle.model_disks.specs.Paged.{AreInverse, AreInOrder, IsExchanged, IsFilled, ArePagesKept, StaysSame, in_pages, number_at, sector_in_pages};
 
     // The pages in two slots change places.
@@ -218,8 +219,7 @@ impl Pages {
         requires paged { ArePagesKept self.now }
         requires here { at < 16 * length self.now.slots.items }
         requires some { 1 ≤ most }
-        ensures sectors { (i : ℕ) → i < length result.now / 64
-            → take 64 (drop (64 * i) result.now) ≡ sector_in_pages self.now (at + i) }
+        ensures sectors { HasSectorsFrom (sector_in_pages self.now) at result.now }
         ensures whole { length result.now % 64 ≡ 0 }
         ensures short { length result.now ≤ 64 * most }
         ensures zeros { length result.now ≡ 0 → sector_in_pages self.now at ≡ zero_sector }
