@@ -1,14 +1,9 @@
 -- Which fragments `layout` tells.
 use Rattle.std.specs.Prelude.{◌≡◌, ◌+◌, List, [], ◌∷◌, ◌++◌, ℕ}
 use Rattle.stack_base.specs.declared.stack.Stack.{Stack}
-use Rattle.stack_base.specs.Tree.{tree}
 use Rattle.layout_model.specs.declared.write.Write.{Write}
 use Rattle.layout_model.specs.declared.fragment.Fragment.{Fragment}
-use Rattle.layout_model.specs.Fragments.{AreFragments}
-
--- the fragments of a write, which has this number
-abbrev pub AreFragmentsOf : Stack → ℕ → Write → List Fragment → Type 0
-AreFragmentsOf stack number write own = AreFragments (tree stack write.dev.0) number write.start write.count own
+use Rattle.layout_model.specs.Fragments.{AreFragmentsOf}
 
 -- those of a write were added behind the old ones
 abbrev pub AddsFragmentsOf : Stack → ℕ → Write → List Fragment → List Fragment → Type 0

@@ -1,8 +1,10 @@
 -- The fragments of a run: which of its sectors come to a disk together.
 use Rattle.std.specs.Prelude.{◌≡◌, ◌↔◌, ◌+◌, ◌*◌, ◌^◌, ◌<◌, ◌≤◌, ℕ, List, map, Contains}
 use Rattle.std.specs.List.Sorted.{IsStrictlyIncreasing}
-use Rattle.stack_base.specs.Tree.{Tree}
+use Rattle.stack_base.specs.declared.stack.Stack.{Stack}
+use Rattle.stack_base.specs.Tree.{Tree, tree}
 use Rattle.layout_model.specs.declared.fragment.Fragment.{Fragment}
+use Rattle.layout_model.specs.declared.write.Write.{Write}
 use Rattle.layout_model.specs.Way.{FitsWay, place, heads}
 
 -- the choices lead the other sector too, and its heads agree with those of s at every device of the way
@@ -43,3 +45,7 @@ fragment_order f = f.offset * 2 ^ 32 + f.disk.0
 pub record AreFragments (t : Tree) (write r len : ℕ) (fragments : List Fragment) : Type 0 where
   pub each : (f : Fragment) → Contains fragments f ↔ IsFragmentOf t write 0 r len f
   pub order : IsStrictlyIncreasing (map fragment_order fragments)
+
+-- the fragments of a write, which has this number
+abbrev pub AreFragmentsOf : Stack → ℕ → Write → List Fragment → Type 0
+AreFragmentsOf stack number write own = AreFragments (tree stack write.dev.0) number write.start write.count own

@@ -1,11 +1,14 @@
 -- What a run becomes when it is cut piece by piece: the second form of the layout, for those that do so. It defines no fragment: laws tie
 -- it to the first form.
-use Rattle.std.specs.Prelude.{◌+◌, ◌-◌, min, ℕ, zero, suc, List, [], ◌∷◌, ◌++◌, length}
+use Rattle.std.specs.Prelude.{◌≡◌, ◌+◌, ◌-◌, min, ℕ, zero, suc, List, [], ◌∷◌, ◌++◌, length}
 use Rattle.std.specs.List.{range_with_len, flat_map}
+use Rattle.stack_base.specs.declared.ids.DevId.{DevId}
+use Rattle.stack_base.specs.declared.stack.Stack.{Stack}
 use Rattle.stack_base.specs.Mapping.{slot}
 use Rattle.stack_base.specs.Cutting.{piece_end}
-use Rattle.stack_base.specs.Tree.{Tree, Leaf, Split, Mirrored}
+use Rattle.stack_base.specs.Tree.{Tree, Leaf, Split, Mirrored, tree}
 use Rattle.layout_model.specs.declared.fragment.Fragment.{Fragment}
+use Rattle.layout_model.specs.declared.fragment.Run.{Run}
 
 -- a part of a run: how far it stands behind the run's first sector in the write, its first sector, and its length
 pub record Part : Type 0 where
@@ -32,6 +35,10 @@ frags (Split number kind sizes members) write offset r len =
     flat_map (λ p. frags (members (slot kind sizes p.start).member) write p.offset (slot kind sizes p.start).at p.len) (cuts (piece_end kind sizes) offset r len)
 frags (Mirrored number sizes members) write offset r len =
     flat_map (λ k. frags (members k) write offset r len) (range_with_len 0 (length sizes))
+
+-- those of a run at a device were added behind the old ones
+abbrev pub AddsFragments : Stack → DevId → ℕ → Run → List Fragment → List Fragment → Type 0
+AddsFragments stack dev write run old new = new ≡ old ++ frags (tree stack dev.0) write run.offset run.start run.len
 
 mutual
   pub data Plan : Type 0 where

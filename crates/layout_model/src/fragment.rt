@@ -1,10 +1,10 @@
 //! The fragments of a write.
-ghost use Rattle.std.specs.Prelude.{◌≡◌, ◌+◌, ◌-◌, ◌*◌, ◌<◌, ◌≤◌, ◌++◌, length, IfOk, OnOk, slice_get, Some};
+ghost use Rattle.std.specs.Prelude.{◌≡◌, ◌+◌, ◌-◌, ◌*◌, ◌<◌, ◌≤◌, length, IfOk, OnOk, slice_get, Some};
 ghost use Rattle.stack_base.specs.Stack.{IsStack};
 ghost use Rattle.stack_base.specs.Tree.{tree, size, shape_of, Cuts, Copies};
 ghost use Rattle.layout_model.specs.Writes.{IsWrite};
-ghost use Rattle.layout_model.specs.Plan.{frags};
-ghost use Rattle.layout_model.specs.Fragments.{AreFragments, fragment_order};
+ghost use Rattle.layout_model.specs.Plan.{AddsFragments};
+ghost use Rattle.layout_model.specs.Fragments.{AreFragmentsOf, fragment_order};
 
 use crate::Write;
 use crate::piece::first_piece;
@@ -51,7 +51,7 @@ fn cut(
     requires some { 1 ≤ run.len }
     requires within { run.start + run.len ≤ size (tree stack.now dev.0) }
     requires fits { run.offset + run.len ≤ 262144 }
-    ensures { OnOk result (into.new.items ≡ into.old.items ++ frags (tree stack.now dev.0) write run.offset run.start run.len) }
+    ensures { OnOk result (AddsFragments stack.now dev write run into.old.items into.new.items) }
 {
     let device = stack.device(dev);
     match device.kind {
@@ -87,7 +87,7 @@ fn cut_pieces(
     requires cuts { shape_of device.now.kind ≡ Cuts }
     requires within { run.start + run.len ≤ size (tree stack.now dev.0) }
     requires fits { run.offset + run.len ≤ 262144 }
-    ensures { OnOk result (into.new.items ≡ into.old.items ++ frags (tree stack.now dev.0) write run.offset run.start run.len) }
+    ensures { OnOk result (AddsFragments stack.now dev write run into.old.items into.new.items) }
 {
     let mut rest = run;
     'cutting: while rest.len > 0 {
@@ -128,7 +128,7 @@ fn copy_legs(
     requires some { 1 ≤ run.len }
     requires within { run.start + run.len ≤ size (tree stack.now dev.0) }
     requires fits { run.offset + run.len ≤ 262144 }
-    ensures { OnOk result (into.new.items ≡ into.old.items ++ frags (tree stack.now dev.0) write run.offset run.start run.len) }
+    ensures { OnOk result (AddsFragments stack.now dev write run into.old.items into.new.items) }
 {
     'legs: for member in device.members.iter() {
         cut(stack, write, *member, run, into)?;
@@ -159,7 +159,7 @@ pub fn fragments(
 ) -> Result<Vec<Fragment>, AllocError>
     requires stack { IsStack stack.now }
     requires write { IsWrite stack.now write.now }
-    ensures { IfOk result (λ found. AreFragments (tree stack.now write.now.dev.0) number write.now.start write.now.count found.items) }
+    ensures { IfOk result (λ found. AreFragmentsOf stack.now number write.now found.items) }
 {
     let mut found = Vec::new(alloc);
     let run = Run {
