@@ -1,8 +1,8 @@
 //! What all writes of a scenario need together. No memory is taken.
-ghost use Rattle.std.specs.Prelude.{◌≡◌, ◌+◌, ◌*◌, ◌^◌, ◌<◌, IfErr, IfOk, Contains};
+ghost use Rattle.std.specs.Prelude.{◌≡◌, ◌+◌, ◌*◌, ◌^◌, ◌<◌, IfErr, IfOk};
 ghost use Rattle.stack_base.specs.Stack.{IsStack};
 ghost use Rattle.layout_model.specs.Bound.{IsBound, IsTooMuch};
-ghost use Rattle.layout_model.specs.Writes.{IsWrite};
+ghost use Rattle.layout_model.specs.Writes.{AreWritesOf};
 
 use crate::{Write, need};
 use stack_base::Stack;
@@ -49,7 +49,7 @@ pub struct TooMuchWork {
 /// Exactly where the writes need more than 1,048,576 elements.
 pub fn bound(stack: &Stack, writes: &[Write], z: u64) -> Result<Bounds, TooMuchWork>
     requires stack { IsStack stack.now }
-    requires served { (write : Write) → Contains writes.now write → IsWrite stack.now write }
+    requires served { AreWritesOf stack.now writes.now }
     ensures bounds { IfOk result (λ bounds. IsBound stack.now writes.now z bounds) }
     ensures refused { IfErr result (λ refusal. IsTooMuch stack.now writes.now refusal) }
 {

@@ -1,6 +1,6 @@
 -- The writes so far: what each of them is, and one more.
 use Rattle.std.proofs.Common.{◌≡◌, ℕ, ◌+◌, ◌<◌, ◌≤◌, ◌==◌, ◌||◌, Bool, false, List, [], ◌∷◌, ◌++◌, length, get_or, map, Some, None, Option, cond, nat_lt, not, true, refl, ap, sym, ◌∙◌, subst, inl, inr, arith}
-use Rattle.std.specs.Prelude.{All, Contains, sum_by, is_none, unwrap_or}
+use Rattle.std.specs.Prelude.{All, sum_by, is_none, unwrap_or}
 use Rattle.std.specs.List.{list_any}
 use Rattle.std.proofs.lemmas.List.Elements.{All-cons, All-map, All-nil, All-head, All-tail, Contains-get_or, Contains-push_cases}
 use Rattle.std.proofs.lemmas.List.Sums.{sum_by-cons, sum_by_push}
@@ -13,7 +13,7 @@ use Rattle.layout_model.specs.declared.totals.Bounds.{Bounds}
 use Rattle.layout_model.specs.Need.{needed, vectors}
 use Rattle.layout_model.specs.NeedCounts.{IsNeeds, elements, write_fragments}
 use Rattle.layout_model.specs.Bound.{IsBound, most_elements, all_elements}
-use Rattle.layout_model.specs.Writes.{IsWrite}
+use Rattle.layout_model.specs.Writes.{AreWritesOf, IsWrite}
 use Rattle.layout_model.proofs.WriteSizes.{fragments_le_elements}
 use Rattle.decl_text.specs.Accepting.{shown_devices}
 use Rattle.decl_text.specs.Checks.{is_among, shares}
@@ -34,10 +34,7 @@ use Rattle.work_text.specs.Draft.{IsDraft, item_with, known_so_far, known_with}
 use Rattle.work_text.proofs.OverlapLemmas.{marks_next}
 use Rattle.work_text.proofs.Rests.{IsPaired}
 
-abbrev Served : Stack → List Write → Type 0
-Served stack writes = (write : Write) → Contains writes write → IsWrite stack write
-
-all_served : (stack : Stack) (writes : List Write) → Served stack writes → All (IsWrite stack) writes
+all_served : (stack : Stack) (writes : List Write) → AreWritesOf stack writes → All (IsWrite stack) writes
 all_served stack writes served = λ k d lt. served (get_or writes k d) (Contains-get_or writes k d lt)
 
 -- each of those of a round has a sector
@@ -53,7 +50,7 @@ round_some n (w ∷ writes) (r ∷ rounds) all =
     (first_some (r == n) w (of_round n writes rounds) (All-head (λ (w : Written). 1 ≤ w.count) w writes all)
     (round_some n writes rounds (All-tail (λ (w : Written). 1 ≤ w.count) w writes all)))
 
-pub counts : (stack : Stack) (work : Work) (syncs : ℕ) → Served stack work.writes.items → All (λ (w : Written). 1 ≤ w.count) (present (known_with stack work syncs))
+pub counts : (stack : Stack) (work : Work) (syncs : ℕ) → AreWritesOf stack work.writes.items → All (λ (w : Written). 1 ≤ w.count) (present (known_with stack work syncs))
 counts stack work syncs served =
     round_some syncs (map as_written work.writes.items) work.rounds.items
     (All-map (λ (w : Written). 1 ≤ w.count) as_written work.writes.items (λ k d lt. (all_served stack work.writes.items served k d lt).some))
@@ -117,7 +114,7 @@ pub found_nowhere : (known : Declarations) (name : List ℕ) (task start count t
 found_nowhere known name task start count tag none = found_by known name task start count tag ∙ ap (by_place known task start count tag) none
 
 -- the checks of a write, by what the stack and the work so far say
-pub found_with : (stack : Stack) → IsStack stack → (work : Work) (syncs : ℕ) → Served stack work.writes.items → (write : Write) → write.dev.0 < length stack.devices.items
+pub found_with : (stack : Stack) → IsStack stack → (work : Work) (syncs : ℕ) → AreWritesOf stack work.writes.items → (write : Write) → write.dev.0 < length stack.devices.items
     → (name : List ℕ) → device_of (shown_devices stack) name ≡ Some write.dev.0
     → first_found all_checks (known_with stack work syncs) (item_with name write)
     ≡ row_of (is_member stack write.dev.0) (nat_lt (size (tree stack write.dev.0)) (write.start + write.count))
@@ -160,7 +157,7 @@ pub row_none : (a b c d e : Bool) → a ≡ false → b ≡ false → c ≡ fals
 row_none a b c d e first second third fourth fifth = rw (first, second, third, fourth, fifth)
 
 -- one more write, and what it needs
-pub served_more : (stack : Stack) (writes : List Write) (write : Write) → Served stack writes → IsWrite stack write → Served stack (writes ++ write ∷ [])
+pub served_more : (stack : Stack) (writes : List Write) (write : Write) → AreWritesOf stack writes → IsWrite stack write → AreWritesOf stack (writes ++ write ∷ [])
 served_more stack writes write served is other there =
     elim (Contains-push_cases writes write other there) [
       | inl before ↦ served other before

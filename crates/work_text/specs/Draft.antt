@@ -1,24 +1,25 @@
 -- The writes of a text so far.
-use Rattle.std.specs.Prelude.{◌≡◌, ◌+◌, ◌≤◌, List, ℕ, filter, length, map, nat_le, not, All, Contains, false, None, Some, Result, Ok, Err}
+use Rattle.std.specs.Prelude.{◌≡◌, ◌+◌, ◌≤◌, List, ℕ, filter, length, map, nat_le, not, All, false, None, Some, Result, Ok, Err}
 use Rattle.stack_base.specs.PoolId.{pool_number}
 use Rattle.stack_base.specs.declared.stack.Stack.{Stack}
 use Rattle.layout_model.specs.declared.write.Write.{Write}
 use Rattle.layout_model.specs.declared.counts.Needs.{Needs}
 use Rattle.layout_model.specs.NeedCounts.{IsNeeds}
 use Rattle.layout_model.specs.Bound.{IsBound, most_elements}
-use Rattle.layout_model.specs.Writes.{IsWrite}
+use Rattle.layout_model.specs.Writes.{AreWritesOf, IsWrite}
 use Rattle.decl_text.specs.Known.{Declarations, device_of, present}
 use Rattle.decl_text.specs.Checks.{is_empty_list}
 use Rattle.decl_text.specs.Accepting.{shown_devices}
 use Rattle.decl_text.specs.Refusals.{first_found}
 use Rattle.decl_text.specs.declared.line.LineFault.{LineFault}
+use Rattle.decl_text.specs.declared.reason.ReadFault.{ReadFault}
 use Rattle.decl_text.specs.declared.reason.Reason.{Reason}
 use Rattle.decl_text.specs.declared.item.Item.{Item}
 use Rattle.decl_text.specs.declared.item.Item.TheVariants as item
 use Rattle.work_text.specs.Work.{as_written, change_of, known_of, last_round, all_checks}
 use Rattle.work_text.specs.declared.Resize.{Resize}
 use Rattle.work_text.specs.declared.Work.{Work}
-use Rattle.work_text.specs.Lines.{AddsWork}
+use Rattle.work_text.specs.Lines.{AddsWork, ReadsNumbered}
 use Rattle.work_text.specs.Marks.{is_member, AreMarks}
 use Rattle.work_text.specs.declared.draft.Draft.{Draft}
 
@@ -34,10 +35,15 @@ known_so_far stack draft = known_with stack draft.work draft.syncs
 abbrev pub AddsToDraft : Stack → Draft → Item → Draft → Result (Unit {0}) LineFault → Type 0
 AddsToDraft stack before said after_it result = AddsWork (known_so_far stack before) said (known_so_far stack after_it) result
 
+-- the line with this number is not refused, and the draft knows what it says then, or it is refused so
+abbrev pub DraftReads : Stack → ℕ → List ℕ → Draft → Result (Unit {0}) ReadFault → Draft → Type 0
+DraftReads stack number line before result after_it =
+    ReadsNumbered (known_so_far stack before) number line (known_so_far stack after_it) result
+
 -- the stack serves the writes, they need so much, and the marks tell of those of the present round
 pub record IsDraft (stack : Stack) (draft : Draft) : Type 0 where
   pub bound : IsBound stack draft.work.writes.items draft.work.bound.z draft.work.bound
-  pub served : (write : Write) → Contains draft.work.writes.items write → IsWrite stack write
+  pub served : AreWritesOf stack draft.work.writes.items
   pub paired : length draft.work.rounds.items ≡ length draft.work.writes.items
   -- no write is of a later round
   pub past : All (λ round. round ≤ draft.syncs) draft.work.rounds.items

@@ -31,6 +31,10 @@ line_of [] = 10 ∷ []
 line_of (word ∷ []) = word ++ 10 ∷ []
 line_of (word ∷ next ∷ more) = word ++ 32 ∷ line_of (next ∷ more)
 
+-- the line of these words was added behind the old bytes
+abbrev pub AddsLineOf : List (List ℕ) → List ℕ → List ℕ → Type 0
+AddsLineOf words old new = new ≡ old ++ line_of words
+
 abbrev pub text_of : List (List (List ℕ)) → List ℕ
 text_of [] = []
 text_of (words ∷ more) = line_of words ++ text_of more

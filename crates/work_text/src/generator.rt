@@ -1,6 +1,6 @@
 //! Makes a large text of a number.
 ghost use Rattle.std.specs.Prelude.{◌≡◌, ◌+◌, ◌%◌, ◌<◌, ◌≤◌, ◌++◌, flat_map, IfOk, OnOk};
-ghost use Rattle.work_text.specs.Generated.{behind, behind_all, chunk_in, declaration_words, fitting_writes, generated, limit_words, line_of, longest_in, memory_words, mirror_size, stripe_size, stripe_words, text_of, word, write_words};
+ghost use Rattle.work_text.specs.Generated.{AddsLineOf, behind, behind_all, chunk_in, declaration_words, fitting_writes, generated, limit_words, longest_in, memory_words, mirror_size, stripe_size, stripe_words, text_of, word, write_words};
 
 use itoa::Buffer;
 use rand_core::SeedableRng;
@@ -87,7 +87,8 @@ fn add_limit(
     name: &[u8],
     disk: &[u8],
 ) -> Result<(), AllocError>
-    ensures text { OnOk result (text.new.items ≡ text.old.items ++ line_of (limit_words name.now disk.now (longest_in words.old))) }
+    ensures text { OnOk result
+        (AddsLineOf (limit_words name.now disk.now (longest_in words.old)) text.old.items text.new.items) }
     ensures words { words.new ≡ behind words.old }
 {
     let longest = 16 + pick(words, 241);
@@ -114,7 +115,8 @@ fn add_stripe(
     first: &[u8],
     second: &[u8],
 ) -> Result<u64, AllocError>
-    ensures text { OnOk result (text.new.items ≡ text.old.items ++ line_of (stripe_words name.now first.now second.now (chunk_in words.old))) }
+    ensures text { OnOk result
+        (AddsLineOf (stripe_words name.now first.now second.now (chunk_in words.old)) text.old.items text.new.items) }
     ensures size { IfOk result (λ sectors. sectors ≡ stripe_size (chunk_in words.old)) }
     ensures words { words.new ≡ behind words.old }
 {
@@ -131,7 +133,8 @@ fn add_stripe_of<'a>(
     first: &'a [u8],
     second: &'a [u8],
 ) -> Result<(), AllocError>
-    ensures { OnOk result (text.new.items ≡ text.old.items ++ line_of (stripe_words name.now first.now second.now chunk)) }
+    ensures { OnOk result
+        (AddsLineOf (stripe_words name.now first.now second.now chunk) text.old.items text.new.items) }
 {
     let mut digits = Buffer::new();
     add(
@@ -170,7 +173,8 @@ fn add_writes(text: &mut Vec<u8>, words: &mut Lcg64Xsh32, sectors: u64) -> Resul
 // Adds the write of this number.
 fn add_write(text: &mut Vec<u8>, number: u64, start: u64, count: u64) -> Result<(), AllocError>
     requires { start ≤ 65536 }
-    ensures { OnOk result (text.new.items ≡ text.old.items ++ line_of (write_words number (record { start = start; count = count }))) }
+    ensures { OnOk result
+        (AddsLineOf (write_words number (record { start = start; count = count })) text.old.items text.new.items) }
 {
     let mut task = Buffer::new();
     let mut at = Buffer::new();

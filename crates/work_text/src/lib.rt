@@ -1,11 +1,11 @@
 //! Reads the work of a text: its writes, their rounds, and the reserves that change between rounds.
 #![tactic(auto)]
 
-ghost use Rattle.std.specs.Prelude.{◌≡◌, ◌+◌, ◌<◌, ◌≤◌, ◌^◌, [], length, Contains, IfOk, OnOk};
-ghost use Rattle.layout_model.specs.Writes.{IsWrite};
+ghost use Rattle.std.specs.Prelude.{◌≡◌, ◌+◌, ◌<◌, ◌≤◌, ◌^◌, [], length, IfOk, OnOk};
+ghost use Rattle.layout_model.specs.Writes.{AreWritesOf};
 ghost use Rattle.decl_text.specs.Reading.{declarations};
-ghost use Rattle.work_text.specs.Draft.{IsDraft, known_so_far};
-ghost use Rattle.work_text.specs.Lines.{CanStand, ReadsNumbered};
+ghost use Rattle.work_text.specs.Draft.{DraftReads, IsDraft, known_so_far};
+ghost use Rattle.work_text.specs.Lines.{CanStand};
 ghost use Rattle.work_text.specs.Reading.{ReadsBehind, ReadsWork, work_lines};
 ghost use Rattle.work_text.specs.Work.{all_entries, last_round};
 
@@ -61,7 +61,7 @@ pub fn read_work(alloc: Global, text: &[u8], accepted: &Accepted) -> Result<Work
     requires lines { accepted.now.line + length text.now < 2 ^ 64 }
     requires work { declarations (work_lines text.now accepted.now) ≡ [] }
     ensures read { ReadsWork text.now accepted.now result }
-    ensures served { IfOk result (λ work. (write : _) → Contains work.writes.items write → IsWrite accepted.now.stack write) }
+    ensures served { IfOk result (λ work. AreWritesOf accepted.now.stack work.writes.items) }
     ensures few { IfOk result (λ work. last_round work.rounds.items + length work.resizes.items ≤ 5120) }
 {
     let mut draft = Draft::new(alloc, &accepted.stack, all_entries(accepted))?;
@@ -117,7 +117,7 @@ fn read_numbered(
     requires stands { CanStand (known_so_far accepted.now.stack draft.old) bytes.now }
     ensures draft { OnOk result (IsDraft accepted.now.stack draft.new) }
     ensures entries { OnOk result (draft.new.work.bound.z ≡ draft.old.work.bound.z) }
-    ensures read { ReadsNumbered (known_so_far accepted.now.stack draft.old) number bytes.now (known_so_far accepted.now.stack draft.new) result }
+    ensures read { DraftReads accepted.now.stack number bytes.now draft.old result draft.new }
 {
     match draft.read_line(alloc, &accepted.stack, bytes) {
         Ok(()) => Ok(()),

@@ -1,7 +1,5 @@
-use Rattle.std.proofs.Common.{List, length, ap, sym, ◌∙◌, subst, arith}
-use Rattle.std.specs.Prelude.{Contains}
-use Rattle.layout_model.specs.declared.write.Write.{Write}
-use Rattle.layout_model.specs.Writes.{IsWrite}
+use Rattle.std.proofs.Common.{length, ap, sym, ◌∙◌, subst, arith}
+use Rattle.layout_model.specs.Writes.{AreWritesOf}
 use Rattle.decl_text.specs.Known.{Declarations}
 use Rattle.decl_text.specs.Refusals.{known_after, refusal}
 use Rattle.decl_text.proofs.FewEntries.{entries_few}
@@ -38,8 +36,7 @@ returns-clause-read c =
 
 pub returns-clause-served : goal.returns-clause-served
 returns-clause-served c =
-    subst (λ (ws : List Write). (write : Write) → Contains ws write → IsWrite c.args.accepted.now.stack write) (sym c.in_ok-work.ensures.writes)
-    c.in_ok-read_lines.ensures.draft.served
+    subst (AreWritesOf c.args.accepted.now.stack) (sym c.in_ok-work.ensures.writes) c.in_ok-read_lines.ensures.draft.served
 
 pub returns-clause-few : goal.returns-clause-few
 returns-clause-few c =

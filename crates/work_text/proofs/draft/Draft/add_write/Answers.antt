@@ -1,5 +1,5 @@
 use Rattle.std.proofs.Common.{◌≡◌, ◌+◌, ◌≤◌, ◌∷◌, ◌++◌, [], ℕ, List, Some, length, not, set, subst, sym, ap, ◌∙◌, arith}
-use Rattle.std.specs.Prelude.{All, Contains, slice_get}
+use Rattle.std.specs.Prelude.{All, slice_get}
 use Rattle.std.specs.Option.{option_map}
 use Rattle.std.proofs.lemmas.List.{length_push}
 use Rattle.std.proofs.lemmas.List.Elements.{All-push}
@@ -7,7 +7,7 @@ use Rattle.stack_base.specs.declared.ids.DevId.{DevId}
 use Rattle.stack_base.specs.declared.ids.Range.{Range}
 use Rattle.layout_model.specs.declared.write.Write.{Write}
 use Rattle.layout_model.specs.Bound.{IsBound}
-use Rattle.layout_model.specs.Writes.{IsWrite}
+use Rattle.layout_model.specs.Writes.{AreWritesOf}
 use Rattle.layout_model.proofs.WriteSizes.{fragments_le_elements}
 use Rattle.decl_text.specs.Checks.{is_empty_list}
 use Rattle.decl_text.specs.Known.{Written, present}
@@ -76,7 +76,7 @@ returns-clause-draft c =
           (λ (ws : List Write). IsBound stack ws old.work.bound.z (record { e = old.work.bound.e + needs.elements; g = old.work.bound.g + needs.fragments; z = old.work.bound.z }))
           grown
           (bound_more stack c.requires.stack before old.work.bound.z old.work.bound write needs c.requires.draft.bound follow.needed follow.served follow.allowed);
-      served = subst (λ (ws : List Write). (w : Write) → Contains ws w → IsWrite stack w) grown (served_more stack before write c.requires.draft.served follow.served);
+      served = subst (AreWritesOf stack) grown (served_more stack before write c.requires.draft.served follow.served);
       paired = omega (
         arith,
         c.requires.draft.paired,
