@@ -61,6 +61,10 @@ tree_below (suc bound) stack number = built number (slice_get stack.devices.item
 abbrev pub tree : Stack → ℕ → Tree
 tree stack number = tree_below (number + 1) stack number
 
+-- the trees of the members of a device, in their order
+abbrev pub member_trees : Stack → Device → List Tree
+member_trees stack device = map (λ (m : DevId). tree stack m.0) device.members.items
+
 -- how many legs a bio of a device has: one for each member of a mirror, and none at any other device
 abbrev pub legs_of : Tree → ℕ
 legs_of (Leaf number sectors) = 0

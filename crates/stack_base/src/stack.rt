@@ -1,8 +1,8 @@
 //! A stack of devices, and how large each of them is.
-ghost use Rattle.std.specs.Prelude.{◌≡◌, ◌<◌, length, map, slice_get};
+ghost use Rattle.std.specs.Prelude.{◌≡◌, ◌<◌, length, slice_get};
 ghost use Rattle.stack_base.specs.Mapping.{size_of};
 ghost use Rattle.stack_base.specs.Stack.{AreMemberSizes, IsDevice, IsStack};
-ghost use Rattle.stack_base.specs.Tree.{over, size, tree};
+ghost use Rattle.stack_base.specs.Tree.{member_trees, over, size, sizes_at, tree};
 
 use crate::{Bad, DevId};
 use arrayvec::{ArrayString, ArrayVec};
@@ -68,8 +68,8 @@ impl Stack {
         requires device { d.0 < length self.now.devices.items }
         ensures found { slice_get self.now.devices.items d.0 ≡ Some result.now }
         ensures is_device { IsDevice self.now d.0 result.now }
-        ensures over_members { tree self.now d.0 ≡ over d.0 result.now.kind (map (λ m. tree self.now m.0) result.now.members.items) }
-        ensures sized { size (tree self.now d.0) ≡ size_of result.now.kind (map (λ m. size (tree self.now m.0)) result.now.members.items) }
+        ensures over_members { tree self.now d.0 ≡ over d.0 result.now.kind (member_trees self.now result.now) }
+        ensures sized { size (tree self.now d.0) ≡ size_of result.now.kind (sizes_at self.now result.now) }
     {
         &self.devices[d.0 as usize]
     }
