@@ -1,5 +1,5 @@
 -- How nodes and places are kept. No contract of the public calls speaks of this.
-use Rattle.std.specs.Prelude.{◌≡◌, ◌+◌, ◌^◌, ◌<◌, ◌≤◌, ◌==◌, ℕ, List, [], ◌∷◌, length, Option, None, Some, IsSome, All, Bool, true, false, slice_get, slice_index_or, slice_set}
+use Rattle.std.specs.Prelude.{◌≡◌, ◌+◌, ◌^◌, ◌<◌, ◌≤◌, ◌==◌, ℕ, List, [], ◌∷◌, length, Option, None, Some, IsSome, All, Bool, true, false, slice_get, slice_index_or, slice_set, MatchOption, Result, Ok, Err}
 use Rattle.slab.specs.Slab.{Slab, get, slab_len}
 use Rattle.elem_ledger.specs.declared.element.Element.{Element}
 use Rattle.bio_records.specs.declared.bio.Pad.{Pad}
@@ -18,6 +18,15 @@ FillsVacant old place value new = (slice_get old place ≡ Some None) × (new �
 -- a value stands at each place, and stays there
 abbrev pub StaysFull : {T : Type 0} → List (Option T) → List (Option T) → Type 0
 StaysFull old new = (new ≡ old) × All IsSome old
+
+-- a value was put at the place that is answered, or it is handed back where none is vacant
+abbrev pub InsertsOrFull : {T : Type 0} → List (Option T) → T → Result ℕ T → List (Option T) → Type 0
+InsertsOrFull old value (Ok place) new = FillsVacant old place value new
+InsertsOrFull old value (Err back) new = (back ≡ value) × StaysFull old new
+
+-- the value at a place became another, if there is one there
+abbrev pub IsAltered : {T : Type 0} → (T → T) → List (Option T) → ℕ → List (Option T) → Type 0
+IsAltered after old place new = MatchOption (slice_index_or old place None) (new ≡ old) (λ value. new ≡ slice_set old place (Some (after value)))
 
 -- the key that is kept beside the number of a place
 abbrev pub key_at : List (Option ℕ) → ℕ → Option ℕ

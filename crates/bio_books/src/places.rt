@@ -1,6 +1,6 @@
 //! Numbered places for values, in memory that is had once.
-ghost use Rattle.std.specs.Prelude.{◌≡◌, ◌↔◌, List, Option, None, Some, All, IsTrue, IsSome, IfOk, MatchOption, MatchResult, length, option_copied, replicate, slice_index_or, slice_set};
-ghost use Rattle.bio_books.specs.Kept.{FillsVacant, StaysFull, key_at};
+ghost use Rattle.std.specs.Prelude.{◌≡◌, ◌↔◌, List, Option, None, Some, All, IsTrue, IsSome, IfOk, MatchOption, length, option_copied, replicate, slice_index_or, slice_set};
+ghost use Rattle.bio_books.specs.Kept.{InsertsOrFull, IsAltered, key_at};
 
 use slab::Slab;
 use std::alloc::{AllocError, Global};
@@ -85,8 +85,7 @@ impl<T: Drop> Places<T> {
 
     /// Puts a value at a vacant place, and answers the place, or the value where none is vacant.
     pub fn insert(&mut self, value: T) -> Result<u32, T>
-        ensures { MatchResult result (λ place. FillsVacant self.old place value self.new)
-            (λ back. (back ≡ value) × StaysFull self.old self.new) }
+        ensures { InsertsOrFull self.old value result self.new }
     {
         let Some(place) = self.free.pop() else {
             return Err(value);
@@ -112,8 +111,7 @@ impl<T: Drop> Places<T> {
     #[inline(always)] // a change is then made of what its caller has at hand
     pub fn alter<C: Change<T> + Drop>(&mut self, place: u32, change: C)
         requires { MatchOption (slice_index_or self.old place None) (Unit {0}) (C.applies change) }
-        ensures { MatchOption (slice_index_or self.old place None) (self.new ≡ self.old)
-            (λ value. self.new ≡ slice_set self.old place (Some (C.after change value))) }
+        ensures { IsAltered (C.after change) self.old place self.new }
     {
         if let Some(key) = key_of(&self.keys, place) {
             if let Some(value) = self.slots.get_mut(key) {
