@@ -53,7 +53,7 @@ impl<'a> Decl<'a> {
     pub fn parts(self) -> DeclParts<'a>
         ensures declarations { AreDeclarations result.items.items }
         ensures lines { ∥ AreOfLines result.items.items result.fault ∥₁ }
-        ensures parts { self.entry ≡ record { items = result.items.items; fault = result.fault; rest = result.rest; line = result.line } }
+        ensures parts { self.entry ≡ read_of result }
     {
         self.parts
     }
