@@ -1,9 +1,10 @@
 -- What contracts see of a pool, and how it keeps its spares.
-use Rattle.std.specs.Prelude.{◌≡◌, ℕ, ◌+◌, ◌≤◌, All, max, vec_len, vec_capacity}
+use Rattle.std.specs.Prelude.{◌≡◌, ℕ, ◌+◌, ◌<◌, ◌≤◌, All, Result, Ok, Err, max, vec_len, vec_capacity}
 use Rattle.std.specs.Global.{Box, Vec}
 use Rattle.fail_script.specs.Script.{Answers, entries_of}
 use Rattle.elem_ledger.specs.Ledger.{LedgerId}
 use Rattle.mempool_core.specs.declared.Counts.{Counts}
+use Rattle.mempool_core.specs.declared.Facts.{Facts}
 use Rattle.mempool_core.specs.Facts.{AddsUp}
 use Rattle.mempool_core.specs.Move.{PoolState, PoolMove, Moves}
 
@@ -22,6 +23,11 @@ pub record PoolMoves (old : LedgerPool) (move : PoolMove) (new : LedgerPool) : T
 -- a pool with elements laid aside, so that its reserve may be this large; nothing else tells
 abbrev pub widened : ℕ → LedgerPool → LedgerPool
 widened most pool = record pool { most = max pool.most most }
+
+-- a pool with no element out ends and tells its numbers, and another is handed back as it was
+abbrev pub ClosesIfHome : LedgerPool → Result Facts LedgerPool → Type 0
+ClosesIfHome pool (Ok facts) = (pool.state.facts.out ≡ 0) × (facts ≡ pool.state.facts)
+ClosesIfHome pool (Err back) = (0 < pool.state.facts.out) × (back ≡ pool)
 
 -- the state with so many spares and elements out
 abbrev pub state_with : Answers → Counts → ℕ → ℕ → PoolState

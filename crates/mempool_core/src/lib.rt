@@ -7,12 +7,12 @@
 //! A script says which takes may have ordinary memory at all, so that a run can ask for a shortage of it.
 #![tactic(auto)]
 
-ghost use Rattle.std.specs.Prelude.{◌≡◌, ℕ, ◌<◌, ◌≤◌, IfOk, OnOk, OnErr, MatchResult, vec_len};
+ghost use Rattle.std.specs.Prelude.{◌≡◌, ℕ, ◌≤◌, IfOk, OnOk, OnErr, vec_len};
 ghost use Rattle.fail_script.specs.Script.{entries_of};
 ghost use Rattle.mempool_core.specs.Position.{uses_entry, next_pos};
 ghost use Rattle.mempool_core.specs.Facts.{AddsUp};
 ghost use Rattle.mempool_core.specs.Move.{gives, resizes, opened};
-ghost use Rattle.mempool_core.specs.Pool.{PoolMoves, widened};
+ghost use Rattle.mempool_core.specs.Pool.{ClosesIfHome, PoolMoves, widened};
 ghost use Rattle.mempool_core.specs.Taken.{TakeOf};
 
 mod bodies;
@@ -286,9 +286,7 @@ impl<P: Fresh + Drop> Pool<P> {
 
     /// Ends the pool and tells its numbers. A pool with an element out is handed back as it was, where `mempool_destroy` would not look.
     pub fn close(self) -> Result<Facts, Pool<P>>
-        ensures ends { MatchResult result
-            (λ facts. (self.state.facts.out ≡ 0) × (facts ≡ self.state.facts))
-            (λ pool. (0 < self.state.facts.out) × (pool ≡ self)) }
+        ensures ends { ClosesIfHome self result }
         // all that the pool was made with lies in it, and nothing that takes added is left
         ensures whole { IfOk result (λ facts. (facts.spares ≡ facts.min) × (facts.live ≡ 0)) }
     {
