@@ -13,7 +13,7 @@ use Rattle.model_disks.specs.Moves as disk
 use Rattle.run_machine.specs.Scene.{keeps_data}
 use Rattle.task_steps.specs.Within.{AreWithin}
 use Rattle.run_machine.specs.Objects.{TallyState, Objects}
-use Rattle.run_machine.specs.Opened.{device_at, opened_disk}
+use Rattle.run_machine.specs.Opened.{opened_disk}
 use Rattle.plain_core.specs.declared.fault.CoreFault.{CoreFault}
 use Rattle.plain_core.specs.declared.fault.CoreFault.TheVariants as fault
 

@@ -13,7 +13,7 @@ use Rattle.task_steps.specs.declared.step.Step.TheVariants.{Stepped, Blocked, Wa
 use Rattle.tick_clock.specs.Tickets.{PassState}
 use Rattle.task_steps.specs.declared.step.Step.{Step}
 use Rattle.stack_base.specs.declared.ids.DevId.{DevId}
-use Rattle.run_machine.specs.Requests.{Request, Reply, TakeBio, TakeVec, TakeSlip, GiveBio, GiveVec, GiveSlip, Punt, Pop, Push, Complete, Link, Drop, Done, Resize, NextRound, LookRound, LookLeft, Rest, Missed, LinkedTo, DroppedTo, OutIs, LeftOver, Nothing, NoTicket}
+use Rattle.run_machine.specs.Requests.{Request, Reply, TakeBio, TakeVec, TakeSlip, GiveBio, GiveVec, GiveSlip, Punt, Pop, Push, Complete, Link, Drop, Done, Resize, NextRound, LookRound, LookLeft, Rest, Missed, LinkedTo, DroppedTo, OutIs, LeftOver, Nothing}
 use Rattle.run_machine.specs.declared.event.TaskId.{TaskId}
 use Rattle.run_machine.specs.Events.{id_of, what_of, resize_of}
 use Rattle.run_machine.specs.Laws.{Object, OfNone, object_of}
