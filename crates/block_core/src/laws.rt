@@ -64,7 +64,7 @@ pub fn rounds_go_by_their_numbers()
 {}
 
 /// Where each mirror of two members or more has a rescuer, no task of any run waits for a bio of a set while it has one of that set in its own
-/// lists, and bios wait for rescuers only where there are some.
+/// lists. It tries for one without waiting, or punts, only where the set has a rescuer, and bios wait for rescuers only where there is one.
 pub fn none_waits_for_itself()
     ensures { NoTaskWaitsForItself }
 {}
@@ -223,8 +223,8 @@ pub fn ended_runs_leave_the_same()
 {}
 
 /// What a text means of which no line is refused is a scenario that can be run: all that the laws ask of one holds, but that mirrors have
-/// rescuers, which the check of declarations says by itself. Its bound is 8 E + 2 G + Z of the scenario, and the bound of each such scenario is
-/// below 2^24.
+/// rescuers, which the check of declarations says by itself. The E, G and Z that were counted as it was read make its bound, 8 E + 2 G + Z, and
+/// the bound of each such scenario is below 2^24.
 pub fn accepted_texts_are_runnable()
     ensures runnable { AcceptedTextsAreRunnable }
     ensures few { StepsFitIn24Bits }

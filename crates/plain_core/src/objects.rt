@@ -73,7 +73,8 @@ impl Model for Objects {
 }
 
 impl Objects {
-    /// Objects of these parts, which must have a place for all that the routes' stack has.
+    /// Objects of these parts. They must have a place for each pool and device of the routes' stack, disks of its sizes, and within their
+    /// devices the bios that wait for rescuers.
     pub fn new(
         routes: &Routes,
         pools: Vec<Pool>,

@@ -103,7 +103,7 @@ impl Load {
 }
 
 impl Carried {
-    /// Nothing.
+    /// What a completer carries that has nothing in hand.
     pub fn empty() -> Carried
         ensures { result ≡ Empty }
     {

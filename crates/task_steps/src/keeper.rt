@@ -140,7 +140,8 @@ impl Keeper {
         self.duties.get(self.next..).unwrap_or(&[])
     }
 
-    /// A step of the keeper: it looks at the number of unfinished writes, and does what is next where none is left of the rounds so far.
+    /// A step of the keeper. With nothing left to do it has ended. Else it looks at the number of unfinished writes, does what is next where
+    /// none is left of the rounds so far, and waits where one is. Where that is refused it breaks off, and answers so from then on.
     pub fn step<O: Objects>(&mut self, objects: &mut O) -> Step
         requires ready { HoldsTask O.Objects objects.old (Keeping' self.old) }
         ensures does { KeeperDoes O.Objects self.old objects.old self.new objects.new result }

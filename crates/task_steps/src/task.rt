@@ -82,7 +82,7 @@ impl Task {
         &self.routes
     }
 
-    /// What it does.
+    /// Which of the four it is, with all of its state.
     pub fn kind(&self) -> &Kind
         ensures { task_of result.now ≡ self.now.state }
     {

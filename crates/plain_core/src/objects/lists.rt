@@ -153,7 +153,8 @@ impl Lists {
         self.list0.push_back(part).unwrap();
     }
 
-    /// The bio to serve next when the driver of a device has returned, if one waits (`__submit_bio_noacct`, `block/blk-core.c`).
+    /// The bio to serve next when the driver of a device has returned, if one waits (`__submit_bio_noacct`, `block/blk-core.c`). The others
+    /// wait in list 1 then, in their order, and list 0 is empty.
     pub fn next(&mut self, served: DevId) -> Option<PlainBioElement>
         requires { ListsHaveCapacity 0 self.old }
         ensures list0 { self.new.list0.items ≡ [] }

@@ -122,7 +122,7 @@ impl Hand {
         Hand { pool: self.pool }
     }
 
-    /// The element with this bio and this pad in it, and with no segments.
+    /// What was taken, with this bio and this pad in it. It has no segments, since nothing that a pool hands out has.
     pub fn with(&self, bio: Bio, pad: Pad) -> PlainBioElement
         ensures { result ≡ record self.now { bio = bio; pad = pad } }
     {

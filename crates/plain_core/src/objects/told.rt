@@ -98,7 +98,7 @@ fn is_for(how: How, other: How) -> bool
     }
 }
 
-/// At which place of the writer's book a node was opened for this.
+/// The place of this writer's book at which the event tells that a node was opened for this, if it tells of such a one.
 pub fn linked_of(what: &What, writer: u32, how: How) -> Option<u32>
     ensures { IsReadAs (told.Link writer how) what.now result }
 {
@@ -118,7 +118,7 @@ pub fn linked_of(what: &What, writer: u32, how: How) -> Option<u32>
     }
 }
 
-/// What was left of the node at this place of the writer's book, when it was told of an end.
+/// What was left of the node at this place of the writer's book when it was told of this end, if the event tells of such a one.
 pub fn dropped_of(what: &What, writer: u32, place: u32, ending: Status) -> Option<End>
     ensures { IsReadAs (told.Drop writer place ending) what.now result }
 {
