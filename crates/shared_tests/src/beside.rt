@@ -1,8 +1,10 @@
 //! Two completers, each on a thread of its own, at its desk or by its seats, whose choosers wait for each other.
 ghost use Rattle.std.specs.Prelude.{◌≡◌, IfSome};
+ghost use Rattle.shared_objects.specs.Rans.{ran_key};
 ghost use Rattle.shared_objects.specs.Shared.{SharedHolds};
 
 use crate::opened::{TWO_DISKS, shared_of};
+use crate::turns;
 use shared_objects::{Locks, Ran, Shared};
 use std::alloc::AllocGlobal;
 use std::hint::spin_loop;
@@ -66,14 +68,27 @@ pub(crate) fn take_next(shared: &mut Shared) -> Option<Ran>
     shared.take_task()
 }
 
-// Whether a task comes to its end by steps of its own.
-fn ends(rt: &impl Wait, locks: &Locks, ran: Ran) -> bool
+// A task behind one step, at its desk or by its seats.
+fn stepped(rt: &impl Wait, locks: &Locks, ran: Ran, desk: bool) -> Ran
+    requires { ran.home ≡ locks.now }
+    ensures { ran_key result ≡ ran_key ran }
+{
+    if desk {
+        return turns::step_at_desk(rt, locks, ran);
+    }
+    let mut ran = ran;
+    ran.step(rt, locks, &mut Oldest);
+    ran
+}
+
+// Whether a task comes to its end by steps of its own, at its desk or by its seats.
+fn ends(rt: &impl Wait, locks: &Locks, ran: Ran, desk: bool) -> bool
     requires { ran.home ≡ locks.now }
 {
     let mut ran = ran;
     'stepping: for _ in 0..STEPS {
-        let step = ran.step(rt, locks, &mut Oldest);
-        if matches!(step, Step::Ended) {
+        ran = stepped(rt, locks, ran, desk);
+        if ran.stopped() {
             return true;
         }
     }
@@ -154,13 +169,13 @@ fn complete_beside<R: Threads + Wait + Sync>(
     is_one && is_other && flags.missed.load(Ordering::SeqCst) == 0
 }
 
-/// Whether the next task comes to its end. It is nothing where there is none.
-pub(crate) fn end_next(rt: &impl Wait, shared: &mut Shared) -> Option<bool>
+/// Whether the next task comes to its end, at its desk or by its seats. It is nothing where there is none.
+pub(crate) fn end_next(rt: &impl Wait, shared: &mut Shared, desk: bool) -> Option<bool>
     requires { SharedHolds shared.old }
     ensures { SharedHolds shared.new }
 {
     let ran = take_next(shared)?;
-    Some(ends(rt, shared.locks(), ran))
+    Some(ends(rt, shared.locks(), ran, desk))
 }
 
 // Whether the next two tasks complete a bio each beside each other.
@@ -177,7 +192,7 @@ fn complete_next<R: Threads + Wait + Sync>(
 }
 
 // Whether two writers come to their ends, one after the other, and then two completers complete a bio each beside each
-// other. It is nothing where there are fewer tasks.
+// other, all at their desks or all by their seats. It is nothing where there are fewer tasks.
 fn write_and_complete<R: Threads + Wait + Sync>(
     rt: &R,
     shared: Shared,
@@ -186,8 +201,8 @@ fn write_and_complete<R: Threads + Wait + Sync>(
     requires { SharedHolds shared }
 {
     let mut shared = shared;
-    let is_one = end_next(rt, &mut shared)?;
-    let is_other = end_next(rt, &mut shared)?;
+    let is_one = end_next(rt, &mut shared, flags.desk)?;
+    let is_other = end_next(rt, &mut shared, flags.desk)?;
     let are_both = complete_next(rt, &mut shared, flags)?;
     Some(is_one && is_other && are_both)
 }

@@ -53,13 +53,13 @@ fn step_at_desk(rt: &impl Wait, locks: &Locks, ran: Ran) -> Step
     step
 }
 
-// Which bio the third task completes first, at its desk, once two writers have ended.
+// Which bio the third task completes first, at its desk, once two writers have ended at theirs.
 fn chosen_at_desk(rt: &impl Wait, shared: Shared) -> Option<u64>
     requires { SharedHolds shared }
 {
     let mut shared = shared;
-    let is_one = end_next(rt, &mut shared)?;
-    let is_other = end_next(rt, &mut shared)?;
+    let is_one = end_next(rt, &mut shared, true)?;
+    let is_other = end_next(rt, &mut shared, true)?;
     let completer = take_next(&mut shared)?;
     let step = step_at_desk(rt, shared.locks(), completer);
     if is_one && is_other {

@@ -25,8 +25,8 @@ fn take_all(alloc: Global, shared: &mut Shared) -> Result<VecDeque<Ran>, AllocEr
     Ok(out)
 }
 
-// Steps a task once, at its desk.
-fn step_at_desk<R: Wait>(rt: &R, locks: &Locks, ran: Ran) -> Ran
+/// Steps a task once, at its desk.
+pub(crate) fn step_at_desk<R: Wait>(rt: &R, locks: &Locks, ran: Ran) -> Ran
     requires { ran.home ≡ locks.now }
     ensures { ran_key result ≡ ran_key ran }
 {

@@ -3,4 +3,4 @@ use Rattle.shared_objects.specs.Rans.{RanKey}
 use Rattle.shared_tests.proofs.beside.ends.Goals as goal
 
 pub stepping-preserved : goal.stepping-preserved
-stepping-preserved g c = ap (λ (key : RanKey). key.home) c.step-step.ensures.key ∙ c.stepping.invariant
+stepping-preserved g c = ap (λ (key : RanKey). key.home) c.stepped-ran.ensures ∙ c.stepping.invariant
