@@ -2,12 +2,12 @@
 use Rattle.std.specs.Prelude.{◌≡◌, ℕ, ◌+◌, ◌-◌, ◌^◌, ◌≤◌, min, Result, MatchResult, OnOk, OnErr}
 
 -- a count and one more, which stays at the largest number of 64 bits
-abbrev pub saturating_next : ℕ → ℕ
-saturating_next count = min (count + 1) (2 ^ 64 - 1)
+abbrev pub risen : ℕ → ℕ
+risen count = min (count + 1) (2 ^ 64 - 1)
 
 -- the count rose, or it stands at its last number
 abbrev pub Rose : ℕ → ℕ → Type 0
-Rose before now = saturating_next before ≤ now
+Rose before now = risen before ≤ now
 
 -- the count has not fallen; it rose where there was an error, and stayed where there was none
 pub record HasCause {T E : Type 0} (before now : ℕ) (result : Result T E) : Type 0 where
@@ -17,4 +17,4 @@ pub record HasCause {T E : Type 0} (before now : ℕ) (result : Result T E) : Ty
 
 -- the count rose by one at an error, and else it stayed
 abbrev pub Counts : {T E : Type 0} → ℕ → ℕ → Result T E → Type 0
-Counts before now result = MatchResult result (λ _. now ≡ before) (λ _. now ≡ saturating_next before)
+Counts before now result = MatchResult result (λ _. now ≡ before) (λ _. now ≡ risen before)

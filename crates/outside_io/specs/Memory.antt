@@ -1,6 +1,6 @@
 -- What a call of a source or a sink in memory does. A source in memory is seen as the bytes that it has left.
 use Rattle.std.specs.Prelude.{◌≡◌, ℕ, ◌-◌, ◌<◌, ◌≤◌, min, List, ◌++◌, length, take, drop, Result, Ok, Err}
-use Rattle.outside_io.specs.Causes.{saturating_next}
+use Rattle.outside_io.specs.Causes.{risen}
 
 -- a sink in memory: the bytes held, how many it has room for in all, and how often it has failed
 pub record MemSinkState : Type 0 where
@@ -19,4 +19,4 @@ abbrev pub PutsIntoMemory : {E : Type 0} → (old new : MemSinkState) (piece : L
 PutsIntoMemory old new piece (Ok n) =
     (length old.held < old.room) × (n ≡ min (length piece) (old.room - length old.held))
     × (new ≡ record old { held = old.held ++ take n piece })
-PutsIntoMemory old new piece (Err _) = (old.room ≤ length old.held) × (new ≡ record old { faults = saturating_next old.faults })
+PutsIntoMemory old new piece (Err _) = (old.room ≤ length old.held) × (new ≡ record old { faults = risen old.faults })

@@ -1,7 +1,7 @@
 //! A source and a sink in memory.
 ghost use Rattle.std.specs.Prelude.{◌≡◌, ℕ, ◌<◌, ◌≤◌, List, [], ◌++◌, Some, min, length, take, drop, IfOk, OnErr};
 ghost use Rattle.std.specs.Io.KnownBytes.{Appends, Consumes, IsAtEnd, Keeps};
-ghost use Rattle.outside_io.specs.Causes.{HasCause, saturating_next};
+ghost use Rattle.outside_io.specs.Causes.{HasCause, risen};
 ghost use Rattle.outside_io.specs.Memory.{PutsIntoMemory, TakesFromMemory};
 
 use crate::{Failed, Sink, Source};
@@ -120,7 +120,7 @@ impl MemSink {
 
     // Counts one more fault.
     pub(crate) fn fail(&mut self) -> Failed
-        ensures state { self.new ≡ record self.old { faults = saturating_next self.old.faults } }
+        ensures state { self.new ≡ record self.old { faults = risen self.old.faults } }
         ensures later { self.old.faults ≤ self.new.faults }
     {
         Failed::counted(&mut self.faults)

@@ -1,7 +1,7 @@
 //! Where bytes come from.
 ghost use Rattle.std.specs.Prelude.{◌≡◌, ℕ, ◌<◌, ◌≤◌, List, Option, length, take, IfOk, OnErr};
 ghost use Rattle.std.specs.Io.KnownBytes.{Consumes, IsAtEnd, Keeps};
-ghost use Rattle.outside_io.specs.Causes.{HasCause, saturating_next};
+ghost use Rattle.outside_io.specs.Causes.{HasCause, risen};
 
 use thiserror::Error;
 
@@ -14,7 +14,7 @@ impl Failed {
     // A fault, which is counted. A count rises at a failure and at nothing else, so that no body can fail, try again and answer as if nothing had
     // been. It stands at 2^64 - 1 once it is there, and "the count rose" holds then too: min (before + 1) (2^64 - 1) <= now.
     pub(crate) fn counted(faults: &mut u64) -> Failed
-        ensures rises { faults.new ≡ saturating_next faults.old }
+        ensures rises { faults.new ≡ risen faults.old }
         ensures later { faults.old ≤ faults.new }
     {
         *faults = faults.saturating_add(1);
