@@ -28,7 +28,7 @@ numbers : (is : ℕ → Bool) (n : ℕ) (devices : List Device)
     → filter is (range_with_len n (length devices)) ≡ map (λ (dev : DevId). dev.0) (disks_from n devices)
 numbers is n devices each =
     let found = filter is (range_with_len n (length devices)) in
-    sym (ap (map (λ (dev : DevId). dev.0)) (disks_found is n devices each) ∙ map-map (λ (dev : DevId). dev.0) at found ∙ map-id found)
+    sym (ap (map (λ (dev : DevId). dev.0)) (disks_found is n devices each) ∙ map-map (λ (dev : DevId). dev.0) device_at found ∙ map-id found)
 
 -- what is found under the numbers of entries that rise
 abbrev first : List ℕ → ℕ
