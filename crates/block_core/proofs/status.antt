@@ -9,6 +9,6 @@ pub mod EndsDecided
 pub mod ValuesKept
 pub mod NodeBios
 pub mod PartsWeigh
-pub mod Valued
+pub mod MarkedValues
 pub mod Statuses
 pub mod KeptEnds

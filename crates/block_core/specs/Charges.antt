@@ -175,7 +175,8 @@ charged price was_master scene s =
 abbrev pub spent_charges : (Paid → ℕ) → Scene → State → ℕ
 spent_charges price scene s = sum_at (λ place task. task_spent price task) scene.tasks s.task
 
--- the charges of a state that are still open: all of them, without what is spent
+-- the charges of a state that are still open: all of them, without what is spent. In a state that a run reaches no more is spent than is charged
+-- (`NoMoreIsSpent` in `Paying`), so the difference cuts nothing off there
 abbrev pub open_charges : (Paid → ℕ) → (ℕ → Bool) → Scene → State → ℕ
 open_charges price was_master scene s = charged price was_master scene s - spent_charges price scene s
 

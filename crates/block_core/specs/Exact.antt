@@ -10,7 +10,7 @@ use Rattle.run_machine.specs.declared.event.Event.{Event}
 use Rattle.run_machine.specs.declared.event.Got.TheVariants as got
 use Rattle.run_machine.specs.declared.event.What.{What}
 use Rattle.run_machine.specs.declared.event.What.TheVariants as what
-use Rattle.run_machine.specs.Opened.{Scenario, start, duties}
+use Rattle.run_machine.specs.Opened.{Scenario, duties}
 use Rattle.run_machine.specs.Runs.{HasEnded}
 use Rattle.run_machine.specs.Tasks.{Duty, Resizes, Starts}
 use Rattle.block_core.specs.Scenarios.{InEveryRun}

@@ -7,7 +7,7 @@ use Rattle.layout_model.specs.Need.{needed}
 use Rattle.bio_records.specs.declared.bio.Bio.{Bio}
 use Rattle.run_machine.specs.Scene.{Setup, Scene, tree_at}
 use Rattle.run_machine.specs.Tasks.{Todo}
-use Rattle.run_machine.specs.Opened.{scene, start}
+use Rattle.run_machine.specs.Opened.{scene}
 use Rattle.run_machine.specs.Runs.{State}
 use Rattle.block_core.specs.Weights.{Weight, Spot, Lined, Rescued, Pending, Brought, total_weight, one_if_same, legs_left, no_weight}
 use Rattle.block_core.specs.Scenarios.{InEveryRun}

@@ -2,7 +2,7 @@
 use Rattle.std.proofs.Common.{◌≡◌, ◌≤◌, ℕ, inl, inr, Bool, true, false, not, cond, List, [], ◌∷◌, All, Option, Some, None, refl, sym, ◌∙◌, ap, subst, arith}
 use Rattle.std.specs.Option.{is_some}
 use Rattle.std.specs.Prelude.{Contains}
-use Rattle.std.proofs.lemmas.Bool.{true≢false}
+use Rattle.std.proofs.lemmas.Bool.{true≢false, true_from_ne_false}
 use Rattle.std.proofs.lemmas.List.Elements.{All-nil, All-cons, All-head, All-tail, Contains-append_right}
 use Rattle.seat_lock.specs.History.{Leads}
 use Rattle.run_machine.specs.declared.event.What.{What}
@@ -36,6 +36,33 @@ carried_rise last low end (c ∷ cs) under rises all =
     by_two (Some what) (Some n) t above up more = subst Rises (sym t) (omega (arith, under, above), more n n (omega arith) up)
     by_two None (Some n) t above up more = subst Rises (sym t) (tt, more n low (omega (arith, under, above)) up)
     by_two what None t above up more = subst Rises (sym (t ∙ carried_none what)) (tt, more last low under up)
+
+-- what is known of a thing's looks and steps alone: a thing is marked by a call that found no ticket
+module _ {O : Type 0} (serves : Service O) (looks : Service (ThingState O)) (chooses : O → Reply → Option ℕ → Type 0)
+    (keeps : (old new : ThingState O) (asked : Request) (reply : Reply) → looks old asked reply new → is_spent reply ≡ false → new.spent ≡ old.spent) where
+  -- the look that marked the thing was told so
+  marked : (old new : ThingState O) (asked : Request) (reply : Reply) → looks old asked reply new → old.spent ≡ false → new.spent ≡ true → is_spent reply ≡ true
+  marked old new asked reply looked had none =
+      true_from_ne_false (is_spent reply) (λ is. true≢false (sym none ∙ keeps old new asked reply looked is ∙ had))
+
+  pub marks : (old new : ThingState O) (history : List Call) → Leads (ThingAnswers serves looks chooses) old history new → old.spent ≡ false → new.spent ≡ true
+      → (call : Call) × Contains history call × FoundNone call
+  marks old new [] leads had none = absurd (true≢false (sym none ∙ ap (λ (thing : ThingState O). thing.spent) (sym leads) ∙ had))
+  marks old new (call ∷ calls) leads had none =
+      by_ticket call.told.drawn refl leads.1.step leads.0.spent refl (λ still. marks leads.0 new calls leads.2 still none)
+    where
+      Found : List Call → Type 0
+      Found list = (x : Call) × Contains list x × FoundNone x
+
+      further : Found calls → Found (call ∷ calls)
+      further (x, there, found) = (x, Contains-append_right (call ∷ []) calls x there, found)
+
+      by_ticket : (ticket : Option ℕ) → call.told.drawn ≡ ticket → StepOf serves looks old call.asked call.told.reply ticket leads.0 → (b : Bool)
+          → leads.0.spent ≡ b → (leads.0.spent ≡ false → Found calls) → Found (call ∷ calls)
+      by_ticket ticket t step false is rest = further (rest is)
+      by_ticket (Some n) t step true is rest = absurd (true≢false (sym is ∙ step.4))
+      by_ticket None t step true is rest =
+          (call, (0, omega arith, refl), (marked old leads.0 call.asked call.told.reply step.0 had is, leads.1.drew ∙ ap not had, t))
 
 module _ {O : Type 0} (serves : Service O) (looks : Service (ThingState O))
     (chooses : O → Reply → Option ℕ → Type 0)
@@ -140,32 +167,5 @@ module _ {O : Type 0} (serves : Service O) (looks : Service (ThingState O))
         let bare = uncarried (what_of call.asked call.told.reply) call.told.drawn call.told.ticket l.1.ticket here.0 in
         (ap (λ b. cond b (call ∷ drawn_in rest) (drawn_in rest)) here.0 ∙ after.0, ap (λ b. cond b (call ∷ ticketed_in rest) (ticketed_in rest)) bare ∙ after.1, after.2)
 
-    -- the look that marked the thing was told so
-    marked : (old new : ThingState O) (asked : Request) (reply : Reply) → looks old asked reply new → old.spent ≡ false → new.spent ≡ true → is_spent reply ≡ true
-    marked old new asked reply looks had none = by_test (is_spent reply) refl
-      where
-        by_test : (b : Bool) → is_spent reply ≡ b → b ≡ true
-        by_test true is = refl
-        by_test false is = absurd (true≢false (sym none ∙ keeps old new asked reply looks is ∙ had))
-
-    marks : (old new : ThingState O) (history : List Call) → Leads (ThingAnswers serves looks chooses) old history new → old.spent ≡ false → new.spent ≡ true
-        → (call : Call) × Contains history call × FoundNone call
-    marks old new [] leads had none = absurd (true≢false (sym none ∙ ap (λ (thing : ThingState O). thing.spent) (sym leads) ∙ had))
-    marks old new (call ∷ calls) leads had none =
-        by_ticket call.told.drawn refl leads.1.step leads.0.spent refl (λ still. marks leads.0 new calls leads.2 still none)
-      where
-        Found : List Call → Type 0
-        Found list = (x : Call) × Contains list x × FoundNone x
-
-        further : Found calls → Found (call ∷ calls)
-        further (x, there, found) = (x, Contains-append_right (call ∷ []) calls x there, found)
-
-        by_ticket : (ticket : Option ℕ) → call.told.drawn ≡ ticket → StepOf serves looks old call.asked call.told.reply ticket leads.0 → (b : Bool)
-            → leads.0.spent ≡ b → (leads.0.spent ≡ false → Found calls) → Found (call ∷ calls)
-        by_ticket ticket t step false is rest = further (rest is)
-        by_ticket (Some n) t step true is rest = absurd (true≢false (sym is ∙ step.4))
-        by_ticket None t step true is rest =
-            (call, (0, omega arith, refl), (marked old leads.0 call.asked call.told.reply step.0 had is, leads.1.drew ∙ ap not had, t))
-
     pub stays_spent : StaysSpent serves looks chooses
-    stays_spent = record { found = found; stays = λ old new history l h. none_drawn old new history h l; follows = follows; marks = marks }
+    stays_spent = record { found = found; stays = λ old new history l h. none_drawn old new history h l; follows = follows; marks = marks serves looks chooses keeps }

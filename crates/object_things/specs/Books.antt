@@ -9,7 +9,7 @@ use Rattle.task_steps.specs.declared.objects.Unmade.TheVariants as unmade
 use Rattle.run_machine.specs.Events.{drop_of, link_of}
 use Rattle.run_machine.specs.Requests.{Request, Reply, Opening, Link, Drop, LinkedTo, DroppedTo, NoTicket}
 use Rattle.run_machine.specs.Objects.{OpensNode}
-use Rattle.run_machine.specs.Laws.{OfBook, object_of}
+use Rattle.run_machine.specs.Laws.{OfBook}
 use Rattle.task_steps.specs.Stage.{RequestFits, Owes}
 use Rattle.task_steps.specs.Views.{opening_of, linked_reply, dropped_reply, unmade_part, IsAskAlone, LinkedAlone, DroppedAlone}
 use Rattle.object_things.specs.declared.stamp.Asking.{Asking}
@@ -18,7 +18,7 @@ use Rattle.object_things.specs.declared.book.BookAsk.{BookAsk}
 use Rattle.object_things.specs.declared.book.BookAsk.TheVariants as ask
 use Rattle.object_things.specs.declared.book.BookSaid.{BookSaid}
 use Rattle.object_things.specs.declared.book.BookSaid.TheVariants as said
-use Rattle.object_things.specs.Stamps.{Stamped, MarkState, mark_of, Told, ThingState, ThingAnswers, ChoosesNone, PassBy, FindsNone, stage_in, is_spent, StampState, thing_state, carried}
+use Rattle.object_things.specs.Stamps.{Stamped, MarkState, mark_of, Told, ThingState, ThingAnswers, ChoosesNone, PassByReply, FindsNone, stage_in, StampState, thing_state, carried, told_by, AskingFits}
 
 abbrev pub book_asked : BookAsk → Request
 book_asked (ask.Link writer asked) = Link writer (opening_of asked)
@@ -29,7 +29,7 @@ book_replied (said.Linked result) = linked_reply result
 book_replied (said.Dropped result) = dropped_reply result
 
 abbrev pub book_told : Replied BookSaid → Told
-book_told replied = record { reply = book_replied replied.said; note = replied.note; drew = replied.drew; drawn = replied.drawn.value; chosen = replied.chosen.value; ticket = replied.ticket }
+book_told = told_by book_replied
 
 -- what is served by the book of a writer
 abbrev pub BookServes : BookState → Request → Reply → BookState → Type 0
@@ -62,7 +62,7 @@ BookAskAlone (ask.Link writer asked) = IsAskAlone asked
 BookAskAlone (ask.Drop writer node status part) = IsAlonePart part
 
 abbrev pub BookFits : MarkState → Asking BookAsk → Type 0
-BookFits mark asking = (asking.pass.clock ≡ mark.common.clock) × (object_of (book_asked asking.ask) ≡ mark.name) × RequestFits (stage_in mark.common) (book_asked asking.ask) × BookAskAlone asking.ask
+BookFits mark asking = AskingFits book_asked mark asking (RequestFits (stage_in mark.common) (book_asked asking.ask) × BookAskAlone asking.ask)
 
 -- beside what is owed by the stage, bios that come back are in no list, and where there was no ticket all that was handed over comes back
 abbrev pub BookSays : BookAsk → BookSaid → Type 0
@@ -71,7 +71,7 @@ BookSays (ask.Drop writer node status part) (said.Dropped result) = DroppedAlone
 BookSays asked reply = ⊥
 
 pub record BookOwes (mark : MarkState) (asking : Asking BookAsk) (replied : Replied BookSaid) : Type 0 where
-  pub pass : PassBy asking.pass replied.note (is_spent (book_replied replied.said)) replied.drew replied.drawn.value replied.pass
+  pub pass : PassByReply book_replied asking.pass replied
   pub owed : Owes (stage_in mark.common) (book_asked asking.ask) (book_replied replied.said)
   pub says : BookSays asking.ask replied.said
 

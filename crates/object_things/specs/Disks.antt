@@ -10,7 +10,7 @@ use Rattle.model_disks.specs.declared.disk.Done.{Done as DoneBio}
 use Rattle.task_steps.specs.declared.objects.Unmade.{Unmade}
 use Rattle.task_steps.specs.declared.objects.Unmade.TheVariants as unmade
 use Rattle.run_machine.specs.Requests.{Request, Reply, Push, Complete, Did, Completed, LeftOver, Nothing, NoTicket}
-use Rattle.run_machine.specs.Laws.{OfDisk, object_of}
+use Rattle.run_machine.specs.Laws.{OfDisk}
 use Rattle.task_steps.specs.Stage.{Stage, RequestFits, Owes}
 use Rattle.task_steps.specs.Views.{did, completed_reply, CompletedAlone}
 use Rattle.object_things.specs.declared.stamp.Asking.{Asking}
@@ -19,7 +19,7 @@ use Rattle.object_things.specs.declared.disk.DiskAsk.{DiskAsk}
 use Rattle.object_things.specs.declared.disk.DiskAsk.TheVariants as ask
 use Rattle.object_things.specs.declared.disk.DiskSaid.{DiskSaid}
 use Rattle.object_things.specs.declared.disk.DiskSaid.TheVariants as said
-use Rattle.object_things.specs.Stamps.{Stamped, MarkState, mark_of, Told, ThingState, ThingAnswers, PassBy, FindsNone, OnlyLooks, stage_in, is_spent, StampState, or_unmade, thing_state}
+use Rattle.object_things.specs.Stamps.{Stamped, MarkState, mark_of, Told, ThingState, ThingAnswers, PassByReply, FindsNone, OnlyLooks, stage_in, StampState, or_unmade, thing_state, told_by, AskingFits}
 
 -- a look at a disk asks to complete, too: it is told how many bios wait, and nothing is completed
 abbrev pub disk_asked : DiskAsk → Request
@@ -38,7 +38,7 @@ disk_replied (said.Waiting count) = LeftOver count
 disk_replied (said.Completed result) = completed_reply (or_unmade result)
 
 abbrev pub disk_told : Replied DiskSaid → Told
-disk_told replied = record { reply = disk_replied replied.said; note = replied.note; drew = replied.drew; drawn = replied.drawn.value; chosen = replied.chosen.value; ticket = replied.ticket }
+disk_told = told_by disk_replied
 
 abbrev pub DiskServes : DiskState → Request → Reply → DiskState → Type 0
 DiskServes old (Push bio) Did new = (bio.bio.dev.0 ≡ old.dev.0) × (new ≡ pushed bio old)
@@ -72,7 +72,7 @@ DiskAskAlone (ask.Look disk) = Unit {0}
 DiskAskAlone (ask.Complete disk index) = Unit {0}
 
 abbrev pub DiskFits : MarkState → Asking DiskAsk → Type 0
-DiskFits mark asking = (asking.pass.clock ≡ mark.common.clock) × (object_of (disk_asked asking.ask) ≡ mark.name) × RequestFits (stage_in mark.common) (disk_asked asking.ask) × DiskAskAlone asking.ask
+DiskFits mark asking = AskingFits disk_asked mark asking (RequestFits (stage_in mark.common) (disk_asked asking.ask) × DiskAskAlone asking.ask)
 
 -- the index of what was completed is at most the one that was asked for: fewer may wait by then, and nothing here tells how many
 abbrev pub IsUpTo : ℕ → Result (Option (ℕ × DoneBio)) Unmade → Type 0
@@ -95,7 +95,7 @@ KeepsChoice (ask.Complete disk chosen) (Completed index bio status) kept = kept 
 KeepsChoice asked reply kept = Unit {0}
 
 pub record DiskOwes (mark : MarkState) (asking : Asking DiskAsk) (replied : Replied DiskSaid) : Type 0 where
-  pub pass : PassBy asking.pass replied.note (is_spent (disk_replied replied.said)) replied.drew replied.drawn.value replied.pass
+  pub pass : PassByReply disk_replied asking.pass replied
   pub says : DiskSays (stage_in mark.common) asking.ask replied.said
   pub choice : KeepsChoice asking.ask (disk_replied replied.said) replied.chosen.value
 

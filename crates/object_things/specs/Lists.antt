@@ -6,7 +6,7 @@ use Rattle.bio_records.specs.Items.{Item}
 use Rattle.task_steps.specs.declared.objects.Unmade.{Unmade}
 use Rattle.task_steps.specs.declared.objects.Unmade.TheVariants as unmade
 use Rattle.run_machine.specs.Requests.{Request, Reply, Punt, Pop, Did, Popped, Nothing, NoTicket}
-use Rattle.run_machine.specs.Laws.{OfRescuer, object_of}
+use Rattle.run_machine.specs.Laws.{OfRescuer}
 use Rattle.task_steps.specs.Stage.{RequestFits, Owes}
 use Rattle.task_steps.specs.Views.{did, popped_reply, PoppedAlone}
 use Rattle.object_things.specs.declared.stamp.Asking.{Asking}
@@ -15,7 +15,7 @@ use Rattle.object_things.specs.declared.list.ListAsk.{ListAsk}
 use Rattle.object_things.specs.declared.list.ListAsk.TheVariants as ask
 use Rattle.object_things.specs.declared.list.ListSaid.{ListSaid}
 use Rattle.object_things.specs.declared.list.ListSaid.TheVariants as said
-use Rattle.object_things.specs.Stamps.{Stamped, MarkState, mark_of, Told, ThingState, ThingAnswers, ChoosesNone, PassBy, FindsNone, OnlyLooks, stage_in, is_spent, StampState, or_unmade, thing_state}
+use Rattle.object_things.specs.Stamps.{Stamped, MarkState, mark_of, Told, ThingState, ThingAnswers, ChoosesNone, PassByReply, FindsNone, OnlyLooks, stage_in, StampState, or_unmade, thing_state, told_by, AskingFits}
 
 abbrev pub list_asked : ListAsk → Request
 list_asked (ask.Punt dev moved) = Punt dev moved
@@ -31,7 +31,7 @@ list_replied (said.Punted result) = did (punt_or_unmade result)
 list_replied (said.Popped result) = popped_reply (or_unmade result)
 
 abbrev pub list_told : Replied ListSaid → Told
-list_told replied = record { reply = list_replied replied.said; note = replied.note; drew = replied.drew; drawn = replied.drawn.value; chosen = replied.chosen.value; ticket = replied.ticket }
+list_told = told_by list_replied
 
 abbrev pub ListServes : Rescue → Request → Reply → Rescue → Type 0
 ListServes old (Punt dev moved) Did new = (dev.0 ≡ old.dev.0) × (new ≡ record old { bios = old.bios ++ moved })
@@ -53,7 +53,7 @@ abbrev pub ListReplies : Rescue → StampState → Request → Replied ListSaid 
 ListReplies old stamp asked replied new after = ListAnswers (thing_state old stamp) asked (list_told replied) (thing_state new after)
 
 abbrev pub ListFits : MarkState → Asking ListAsk → Type 0
-ListFits mark asking = (asking.pass.clock ≡ mark.common.clock) × (object_of (list_asked asking.ask) ≡ mark.name) × RequestFits (stage_in mark.common) (list_asked asking.ask)
+ListFits mark asking = AskingFits list_asked mark asking (RequestFits (stage_in mark.common) (list_asked asking.ask))
 
 abbrev pub ListSays : ListAsk → ListSaid → Type 0
 ListSays (ask.Punt dev moved) (said.Punted result) = IfErr (punt_or_unmade result) (λ back. back ≡ unmade.List moved)
@@ -61,7 +61,7 @@ ListSays (ask.Pop dev) (said.Popped result) = PoppedAlone (or_unmade result) × 
 ListSays asked reply = ⊥
 
 pub record ListOwes (mark : MarkState) (asking : Asking ListAsk) (replied : Replied ListSaid) : Type 0 where
-  pub pass : PassBy asking.pass replied.note (is_spent (list_replied replied.said)) replied.drew replied.drawn.value replied.pass
+  pub pass : PassByReply list_replied asking.pass replied
   pub owed : Owes (stage_in mark.common) (list_asked asking.ask) (list_replied replied.said)
   pub says : ListSays asking.ask replied.said
 

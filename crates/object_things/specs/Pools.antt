@@ -17,7 +17,7 @@ use Rattle.task_steps.specs.declared.objects.Unmade.{Unmade}
 use Rattle.task_steps.specs.declared.objects.Unmade.TheVariants as unmade
 use Rattle.run_machine.specs.Requests.{Request, Reply, TakeBio, TakeVec, TakeSlip, GiveBio, GiveVec, GiveSlip, Resize, HadBio, HadVec, HadSlip, Missed, Did, OutIs, NoTicket}
 use Rattle.run_machine.specs.Objects.{clear_bio, clear_vector, clear_slip}
-use Rattle.run_machine.specs.Laws.{Object, OfPool, object_of}
+use Rattle.run_machine.specs.Laws.{Object, OfPool}
 use Rattle.task_core.specs.Resizing.{ResizesIfHome}
 use Rattle.task_steps.specs.Stage.{Stage}
 use Rattle.task_steps.specs.Views.{resized_reply}
@@ -27,7 +27,7 @@ use Rattle.object_things.specs.declared.pool.PoolAsk.{PoolAsk}
 use Rattle.object_things.specs.declared.pool.PoolAsk.TheVariants as ask
 use Rattle.object_things.specs.declared.pool.PoolSaid.{PoolSaid}
 use Rattle.object_things.specs.declared.pool.PoolSaid.TheVariants as said
-use Rattle.object_things.specs.Stamps.{Stamped, MarkState, mark_of, Told, ThingState, ThingAnswers, ChoosesNone, PassBy, FindsNone, stage_in, is_spent, StampState, or_unmade, thing_state}
+use Rattle.object_things.specs.Stamps.{Stamped, MarkState, mark_of, Told, ThingState, ThingAnswers, ChoosesNone, PassByReply, FindsNone, stage_in, StampState, or_unmade, thing_state, told_by, AskingFits}
 
 -- a pool of the stage: its elements are of the ledger that the stage has for its number, and its reserve may be as large as the stage says there
 pub record IsPoolOf (stage : Stage) (pool : LedgerPool) : Type 0 where
@@ -75,7 +75,7 @@ module _ {P : Type 0} where
   pool_replied (said.Resized result) = resized_reply (or_unmade result)
 
   abbrev pub pool_told : Replied (PoolSaid P) → Told
-  pool_told replied = record { reply = pool_replied replied.said; note = replied.note; drew = replied.drew; drawn = replied.drawn.value; chosen = replied.chosen.value; ticket = replied.ticket }
+  pool_told = told_by pool_replied
 
 -- an element was had
 abbrev pub HasOne : LedgerPool → Got → LedgerPool → Type 0
@@ -156,7 +156,7 @@ module _ {P : Type 0} where
   PoolAskFits stage (ask.Resize pool min) = (1 ≤ min) × (min ≤ stage.most (pool_number pool))
 
   abbrev pub PoolFits : MarkState → Asking (PoolAsk P) → Type 0
-  PoolFits mark asking = (asking.pass.clock ≡ mark.common.clock) × (object_of (pool_asked asking.ask) ≡ mark.name) × PoolAskFits (stage_in mark.common) asking.ask
+  PoolFits mark asking = AskingFits pool_asked mark asking (PoolAskFits (stage_in mark.common) asking.ask)
 
   -- an element as the pool of this ledger hands it out
   abbrev pub TookFrom : (P → Type 0) → LedgerId → Result (Taken P) Unmade → Type 0
@@ -172,7 +172,7 @@ module _ {P : Type 0} where
   PoolSays is_clear ledger asked reply = ⊥
 
   pub record PoolOwes (is_clear : P → Type 0) (mark : MarkState) (asking : Asking (PoolAsk P)) (replied : Replied (PoolSaid P)) : Type 0 where
-    pub pass : PassBy asking.pass replied.note (is_spent (pool_replied replied.said)) replied.drew replied.drawn.value replied.pass
+    pub pass : PassByReply pool_replied asking.pass replied
     pub says : PoolSays is_clear ((stage_in mark.common).ledger (object_pool_number mark.name)) asking.ask replied.said
 
 abbrev pub pool_mark : Stamped LedgerPool → MarkState

@@ -8,13 +8,14 @@ use Rattle.run_machine.specs.Events.{what_of}
 use Rattle.run_machine.specs.Requests.{Request, Reply}
 use Rattle.run_machine.specs.Requests as requests
 use Rattle.run_machine.specs.Objects.{TallyState}
-use Rattle.run_machine.specs.Laws.{Object}
+use Rattle.run_machine.specs.Laws.{Object, object_of}
 use Rattle.task_steps.specs.Service.{Service}
 use Rattle.task_steps.specs.Stage.{Stage}
 use Rattle.task_steps.specs.declared.objects.Unmade.{Unmade}
 use Rattle.task_steps.specs.declared.objects.Unmade.TheVariants as unmade
 use Rattle.task_core.specs.declared.plain.Plain.{Plain}
 use Rattle.task_core.specs.Plains.{stage_of, tally_of}
+use Rattle.object_things.specs.declared.stamp.Asking.{Asking}
 use Rattle.object_things.specs.declared.stamp.NoTicket.{NoTicket}
 use Rattle.object_things.specs.declared.stamp.Replied.{Replied}
 
@@ -65,7 +66,8 @@ is_spent reply = false
 -- what becomes of a pass in a call: it draws a ticket, meets the note, or finds no ticket
 abbrev pub PassBy : PassState → ℕ → Bool → Bool → Option ℕ → PassState → Type 0
 PassBy pass note spent drew (Some n) after = (max pass.seen note < n) × (pass.known < n) × (after ≡ drawn_with pass (max pass.seen note) n)
-PassBy pass note true drew None after = (after ≡ record pass { known = after.known }) × (pass.known ≤ after.known) × (drew ≡ true → IsOver pass note after)
+PassBy pass note true drew None after =
+    (after ≡ record pass { known = after.known }) × (pass.known ≤ after.known) × (drew ≡ true → IsOver pass note after)
 PassBy pass note false drew None after = after ≡ record pass { seen = max pass.seen note }
 
 -- and so it is in a call that gave this reply, as the requests have it
@@ -108,6 +110,21 @@ pub record Told : Type 0 where
   pub chosen : Option ℕ
   pub ticket : Option ℕ
 
+-- the same of what came back of a call, as the requests have it
+abbrev pub told_by : {S : Type 0} → (S → Reply) → Replied S → Told
+told_by reply_of replied = record {
+  reply = reply_of replied.said;
+  note = replied.note;
+  drew = replied.drew;
+  drawn = replied.drawn.value;
+  chosen = replied.chosen.value;
+  ticket = replied.ticket;
+}
+
+-- a call with a pass of the clock, that asks the object of the mark, and what else is to hold of it
+abbrev pub AskingFits : {Q : Type 0} → (Q → Request) → MarkState → Asking Q → Type 0 → Type 0
+AskingFits asked_of mark asking more = (asking.pass.clock ≡ mark.common.clock) × (object_of (asked_of asking.ask) ≡ mark.name) × more
+
 -- what the machine sees of a thing
 pub record ThingState (O : Type 0) : Type 0 where
   pub object : O
@@ -119,7 +136,8 @@ thing_state object stamp = record { object = object; note = stamp.note; spent = 
 
 module _ {O : Type 0} (serves : Service O) (looks : Service (ThingState O)) where
   abbrev pub StepOf : ThingState O → Request → Reply → Option ℕ → ThingState O → Type 0
-  StepOf old asked reply (Some n) new = serves old.object asked reply new.object × (old.spent ≡ false) × (old.note < n) × (new.note ≡ n) × (new.spent ≡ false)
+  StepOf old asked reply (Some n) new =
+      serves old.object asked reply new.object × (old.spent ≡ false) × (old.note < n) × (new.note ≡ n) × (new.spent ≡ false)
   StepOf old asked reply None new = looks old asked reply new × (new.note ≡ old.note)
 
   module _ (chooses : O → Reply → Option ℕ → Type 0) where

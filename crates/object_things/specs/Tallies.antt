@@ -5,7 +5,7 @@ use Rattle.run_machine.specs.Requests.{Request, Reply, Done, NextRound, LookRoun
 use Rattle.run_machine.specs.Objects.{TallyState, done_one}
 use Rattle.task_core.specs.ObjectsOf.{IsTallyOf}
 use Rattle.task_core.specs.Plains.{Advances}
-use Rattle.run_machine.specs.Laws.{OfTally, object_of}
+use Rattle.run_machine.specs.Laws.{OfTally}
 use Rattle.task_steps.specs.Stage.{RequestFits, Owes}
 use Rattle.task_steps.specs.Views.{did}
 use Rattle.object_things.specs.declared.stamp.Asking.{Asking}
@@ -14,7 +14,7 @@ use Rattle.object_things.specs.declared.tally.TallyAsk.{TallyAsk}
 use Rattle.object_things.specs.declared.tally.TallyAsk.TheVariants as ask
 use Rattle.object_things.specs.declared.tally.TallySaid.{TallySaid}
 use Rattle.object_things.specs.declared.tally.TallySaid.TheVariants as said
-use Rattle.object_things.specs.Stamps.{Stamped, MarkState, mark_of, Told, ThingState, ThingAnswers, ChoosesNone, PassBy, FindsNone, stage_in, OnlyLooks, is_spent, StampState, or_unmade, thing_state, CommonState, opened_tally}
+use Rattle.object_things.specs.Stamps.{Stamped, MarkState, mark_of, Told, ThingState, ThingAnswers, ChoosesNone, PassByReply, FindsNone, stage_in, OnlyLooks, StampState, or_unmade, thing_state, CommonState, opened_tally, told_by, AskingFits}
 
 -- the numbers of the rounds behind the present one are as they were opened
 pub record IsLater (opened tally : TallyState) : Type 0 where
@@ -38,7 +38,7 @@ tally_replied (said.Round round) = Present round
 tally_replied (said.Left count) = LeftOver count
 
 abbrev pub tally_told : Replied TallySaid → Told
-tally_told replied = record { reply = tally_replied replied.said; note = replied.note; drew = replied.drew; drawn = replied.drawn.value; chosen = replied.chosen.value; ticket = replied.ticket }
+tally_told = told_by tally_replied
 
 abbrev pub TallyServes : TallyState → Request → Reply → TallyState → Type 0
 TallyServes old (Done write status) Did new = new ≡ done_one write status old
@@ -60,7 +60,7 @@ abbrev pub TallyReplies : TallyState → StampState → Request → Replied Tall
 TallyReplies old stamp asked replied new after = TallyAnswers (thing_state old stamp) asked (tally_told replied) (thing_state new after)
 
 abbrev pub TallyFits : MarkState → Asking TallyAsk → Type 0
-TallyFits mark asking = (asking.pass.clock ≡ mark.common.clock) × (object_of (tally_asked asking.ask) ≡ mark.name) × RequestFits (stage_in mark.common) (tally_asked asking.ask)
+TallyFits mark asking = AskingFits tally_asked mark asking (RequestFits (stage_in mark.common) (tally_asked asking.ask))
 
 abbrev pub TallySays : TallyAsk → TallySaid → Type 0
 TallySays (ask.Done write status) (said.Did result) = IfErr (or_unmade result) (λ back. back ≡ unmade.Nothing)
@@ -70,7 +70,7 @@ TallySays ask.Left (said.Left count) = Unit {0}
 TallySays asked reply = ⊥
 
 pub record TallyOwes (mark : MarkState) (asking : Asking TallyAsk) (replied : Replied TallySaid) : Type 0 where
-  pub pass : PassBy asking.pass replied.note (is_spent (tally_replied replied.said)) replied.drew replied.drawn.value replied.pass
+  pub pass : PassByReply tally_replied asking.pass replied
   pub owed : Owes (stage_in mark.common) (tally_asked asking.ask) (tally_replied replied.said)
   pub says : TallySays asking.ask replied.said
 

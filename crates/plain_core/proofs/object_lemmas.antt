@@ -5,5 +5,5 @@ pub mod Updated
 pub mod Booked
 pub mod Vacancies
 pub mod Served
-pub mod Taken
+pub mod PoolAttempts
 pub mod Home

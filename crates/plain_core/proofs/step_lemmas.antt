@@ -2,6 +2,6 @@ pub mod Steps
 pub mod Tasks
 pub mod Cores
 pub mod Needed
-pub mod Freed
+pub mod AnsweredByNeed
 pub mod FirstFree
 pub mod Keepers

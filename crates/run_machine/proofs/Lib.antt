@@ -2,6 +2,7 @@ pub mod TreeNumbers
 pub mod Beginnings
 pub mod Turns
 pub mod Texts
+pub mod TextRuns
 pub mod Able
 pub mod Blocked
 pub mod Frames

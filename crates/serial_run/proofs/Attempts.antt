@@ -97,11 +97,13 @@ module _ (plain now : Plain) (tasks : List TaskOf) (stream after : Lcg) where
   picks_chosen own event chosen = by_what event.what chosen
     where
       by_what : (w : What) → Chosen Chooses (PlainPicks plain) now own stream (Stepped (record event { what = w })) after → PicksByWord (run_state plain tasks) w stream after
+      -- a completion picks, of as many as the disk has waiting
       by_what (what.Complete disk index status) (pending, (place, chooses, picks)) = (
         picks.1 ∙ chooses.0 ∙ ap (λ n. word stream % min n 64) picks.0
             ∙ ap (λ n. word stream % n) (least_of (length ((objects_of plain).disk disk.0).pending) (2 ^ 64 - 1) (omega arith)),
         chooses.1,
       )
+      -- nothing else picks
       by_what (what.Take pool got) same = same
       by_what (what.Try pool got) same = same
       by_what (what.Give pool) same = same
@@ -116,9 +118,12 @@ module _ (plain now : Plain) (tasks : List TaskOf) (stream after : Lcg) where
 
   picks : (task : TaskState) (event : Event) → (IsNoCompleter task → is_complete event.what ≡ false)
       → ChosenBy task Chooses (PlainPicks plain) now stream (Stepped event) after → PicksByWord (run_state plain tasks) event.what stream after
+  -- writers and rescuers complete nothing
   picks (Writer number todo taken submission) event none chosen = picks_none (run_state plain tasks) event.what stream after (none tt) chosen
   picks (Rescuer dev submission) event none chosen = picks_none (run_state plain tasks) event.what stream after (none tt) chosen
+  -- a completer may
   picks (Completer disk carried) event none chosen = picks_chosen disk event chosen
+  -- the keeper completes nothing
   picks (Keeper keeping) event none chosen = picks_none (run_state plain tasks) event.what stream after (none tt) chosen
 
   -- nobody takes a bio between two looks of one thread
@@ -127,8 +132,10 @@ module _ (plain now : Plain) (tasks : List TaskOf) (stream after : Lcg) where
   stayed own (inr (between, (pending, (place, chooses, none)))) = absurd none
 
   stays_still : (task : TaskState) (step : Step) → IsStill step → ChosenBy task Chooses (PlainPicks plain) now stream step after → after ≡ stream
+  -- writers and rescuers take no word
   stays_still (Writer number todo taken submission) step still chosen = chosen
   stays_still (Rescuer dev submission) step still chosen = chosen
+  -- a completer takes one with an event alone
   stays_still (Completer disk carried) step still chosen = by_step step still chosen
     where
       by_step : (step : Step) → IsStill step → Chosen Chooses (PlainPicks plain) now disk stream step after → after ≡ stream
@@ -137,6 +144,7 @@ module _ (plain now : Plain) (tasks : List TaskOf) (stream after : Lcg) where
       by_step Waiting still chosen = stayed disk chosen
       by_step Ended still chosen = stayed disk chosen
       by_step (Broken breach) still chosen = absurd still
+  -- the keeper takes none
   stays_still (Keeper keeping) step still chosen = chosen
 
 -- a step of the task at a place

@@ -82,9 +82,21 @@ pub record RanState : Type 0 where
   pub stopped : Bool
   pub noted : Option Noted
 
+-- the same of its parts
+abbrev pub ran_from : TaskOf → TaskSeats → TaskOf → Locks → ℕ → Bool → Option Noted → RanState
+ran_from task seats first home events stopped noted = record {
+  task = task;
+  seats = seats;
+  first = first;
+  home = home;
+  events = events;
+  stopped = stopped;
+  noted = noted;
+}
+
 -- it has made no step yet
 abbrev pub unstepped : TaskOf → TaskSeats → TaskOf → Locks → Option Noted → RanState
-unstepped task seats first home noted = record { task = task; seats = seats; first = first; home = home; events = 0; stopped = false; noted = noted }
+unstepped task seats first home noted = ran_from task seats first home 0 false noted
 
 -- what is known of it beside the task and its seats, which may stand at a desk meanwhile
 pub record ProgressState : Type 0 where
@@ -100,7 +112,7 @@ progress_of ran = record { first = ran.first; home = ran.home; events = ran.even
 -- the task with its seats, put together again
 abbrev pub ran_of : TaskOf → TaskSeats → ProgressState → RanState
 ran_of task seats progress =
-    record { task = task; seats = seats; first = progress.first; home = progress.home; events = progress.events; stopped = progress.stopped; noted = progress.noted }
+    ran_from task seats progress.first progress.home progress.events progress.stopped progress.noted
 
 -- it was told of a step, behind which the pass had seen this
 abbrev pub StepsProgress : Step → ℕ → ProgressState → ProgressState → Type 0

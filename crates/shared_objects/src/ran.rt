@@ -56,13 +56,13 @@ impl Drop for Ran {
 }
 
 impl Model for Ran {
-    ghost use Rattle.shared_objects.specs.Rans.{RanState, RanHolds};
+    ghost use Rattle.shared_objects.specs.Rans.{RanState, RanHolds, ran_from};
 
     ghost Value = { RanState };
 
-    ghost view = { λ r. record { task = r.task; seats = r.seats; first = r.first.value; home = r.home.value; events = r.events; stopped = r.stopped; noted = r.noted } };
+    ghost view = { λ r. ran_from r.task r.seats r.first.value r.home.value r.events r.stopped r.noted };
 
-    ghost invariant = { λ r. RanHolds (record { task = r.task; seats = r.seats; first = r.first.value; home = r.home.value; events = r.events; stopped = r.stopped; noted = r.noted }) };
+    ghost invariant = { λ r. RanHolds (ran_from r.task r.seats r.first.value r.home.value r.events r.stopped r.noted) };
 }
 
 impl Ran {

@@ -89,7 +89,8 @@ fn ends(rt: &impl Wait, locks: &Locks, ran: Ran, desk: bool) -> bool
     'stepping: for _ in 0..STEPS {
         ran = stepped(rt, locks, ran, desk);
         if ran.stopped() {
-            return true;
+            // One that has ended says so at each further step, and one that broke off does not.
+            return matches!(ran.step(rt, locks, &mut Oldest), Step::Ended);
         }
     }
     false

@@ -10,5 +10,5 @@ mod NameExamples
 pub mod renaming
 pub mod TextLines
 pub mod ScenarioLines
-pub mod Traced
+pub mod ReplayedToEnd
 pub mod ReportLines

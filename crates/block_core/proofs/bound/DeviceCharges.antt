@@ -9,10 +9,7 @@ use Rattle.stack_base.specs.declared.stack.Kind.{Kind}
 use Rattle.stack_base.specs.Stack.{IsStack}
 use Rattle.stack_base.specs.Tree.{Tree, Leaf, Split, Mirrored, tree, sizes_at}
 use Rattle.layout_model.proofs.RangeSums.{sum_next, sum_of_two}
-use Rattle.layout_model.proofs.Over.{can_cut}
-use Rattle.stack_base.proofs.KindCuts.{kind_cuts}
-use Rattle.stack_base.specs.Cutting.{piece_end, IsCut}
-use Rattle.stack_base.specs.Mapping.{slot, head}
+use Rattle.stack_base.specs.Mapping.{slot}
 use Rattle.block_core.proofs.bound.RunCharges.{charge_disk, charge_piece, charge_more, charge_legs}
 use Rattle.bio_records.specs.declared.bio.Bio.{Bio}
 use Rattle.bio_records.specs.declared.bio.Pad.{Pad}
@@ -25,7 +22,7 @@ use Rattle.block_core.specs.Charges.{run_charge, bio_run_charge, leg_charge}
 use Rattle.block_core.specs.Payers.{Record, PieceBio, Fragment, Paid, cost}
 use Rattle.block_core.proofs.moves.Moves.{piece}
 use Rattle.run_machine.proofs.TreeNumbers.{number_of_tree}
-use Rattle.block_core.proofs.moves.Geometry.{IsThere, IsWhole, falls, goes, members_at, of_each_shape}
+use Rattle.block_core.proofs.moves.Geometry.{IsThere, IsWhole, falls, goes, members_at, of_each_shape, heads_cut}
 use Rattle.block_core.proofs.moves.LegTrees.{GoesDown, legs_go_down}
 use Rattle.block_core.proofs.sound.Orders.{AskFits}
 use Rattle.stack_base.specs.Tree.{Cuts, shape_of}
@@ -94,17 +91,11 @@ module _ (price : Paid → ℕ) (stack : Stack) (good : IsStack stack) (places :
       by_tree (Leaf number sectors) goes lt = absurd (omega arith)
       by_tree (Split number kind sizes members) goes lt = absurd (omega arith)
 
-  -- the heads of a device that cuts
-  is_cut_of : (number : ℕ) (device : Device) → slice_get stack.devices.items number ≡ Some device → shape_of device.kind ≡ Cuts
-      → IsCut (head device.kind (sizes_at stack device)) (piece_end device.kind (sizes_at stack device)) (slot device.kind (sizes_at stack device))
-  is_cut_of number device found cuts_it =
-      kind_cuts device.kind (sizes_at stack device) (can_cut device.kind (length device.members.items) (good.each number device found).shape cuts_it)
-
   whole_run : IsWhole stack good places (bio_run_charge price setup)
   whole_run bio device found cuts_it to whole =
       let range = bio.range in
       let members = members_at stack bio.dev.0 device in
-      let piece = charge_piece price bio.dev.0 device.kind (sizes_at stack device) members range.start range.len (first_length device.kind (sizes_at stack device) range) (is_cut_of bio.dev.0 device found cuts_it) refl whole in
+      let piece = charge_piece price bio.dev.0 device.kind (sizes_at stack device) members range.start range.len (first_length device.kind (sizes_at stack device) range) (heads_cut stack good bio.dev.0 device found cuts_it) refl whole in
       let at : ℕ = (slot device.kind (sizes_at stack device) range.start).at in
       ap (λ t. run_charge price t at range.len) (sym to.is) ∙ sym piece ∙ ap (λ t. run_charge price t range.start range.len) (sym (cuts_is stack good bio.dev.0 device found cuts_it))
 
@@ -137,7 +128,7 @@ module _ (price : Paid → ℕ) (stack : Stack) (good : IsStack stack) (places :
           let at : ℕ = (slot device.kind sizes range.start).at in
           let child : run_charge price (tree stack (tree_number (members (slot device.kind sizes range.start).member))) at n ≡ run_charge price (members (slot device.kind sizes range.start).member) at n =
           ap (λ t. run_charge price t at n) same in
-          let both = charge_more price bio.bio.dev.0 device.kind sizes members range.start range.len n (is_cut_of bio.bio.dev.0 device found e) refl fewer in
+          let both = charge_more price bio.bio.dev.0 device.kind sizes members range.start range.len n (heads_cut stack good bio.bio.dev.0 device found e) refl fewer in
           omega (arith, child, both)
 
   pub priced : Priced price setup

@@ -2,7 +2,7 @@
 use Rattle.std.proofs.Common.{◌≡◌, ◌+◌, ◌*◌, ◌<◌, ◌≤◌, if◌then◌else◌, ℕ, Bool, true, false, List, [], ◌∷◌, filter, Option, None, Some, inl, inr, refl, ap, subst, arith}
 use Rattle.std.proofs.lemmas.List.Sums.{sum_by-cons, sum_by-append, sum_by_push}
 use Rattle.stack_base.specs.PoolId.{pool_number}
-use Rattle.stack_base.specs.Tree.{Tree, Leaf, Split, Mirrored}
+use Rattle.stack_base.specs.Tree.{Split}
 use Rattle.stack_base.specs.declared.ids.SetId.TheVariants.{Of}
 use Rattle.stack_base.proofs.ListLemmas.{Each}
 use Rattle.mempool_core.specs.Move.{PoolMove, after_move, misses, gives, resizes}
@@ -38,7 +38,7 @@ use Rattle.block_core.proofs.bound.DeviceCharges.{Priced, leaf_charge, mirror_ch
 use Rattle.block_core.proofs.moves.Deltas.{delta}
 use Rattle.block_core.proofs.sound.TaskSubmissions.{submission_fits}
 use Rattle.block_core.proofs.sound.Orders.{waiting_placed}
-use Rattle.block_core.proofs.sound.OrdersKept.{placed_at}
+use Rattle.block_core.proofs.sound.OrdersKept.{placed_at, record_own}
 use Rattle.block_core.proofs.moves.Landings.{IsLanding, settled_there, goes_there, all_there, none_there, cut_there, leg_there}
 use Rattle.block_core.proofs.sound.SumParts.{cut_weight}
 use Rattle.std.proofs.Math.Nat.{mul-le-mul_left, mul-add}
@@ -265,13 +265,8 @@ module _ (price : Paid → ℕ) (was_master : ℕ → Bool) (scene : Scene) (s :
         (t.0 price).1,
         copies_charge price was_master scene.setup p (limit_of x) lists bio.bio key 0 (none_there scene.setup (limit_of x) lists d.0) (all_there scene.setup (limit_of x) lists.list1 d.1.1),
         mirror_charge price (tree_at scene.setup bio.bio.dev) bio.bio.range bio.bio.dev.0 slip d.3 is.some,
-        ap (λ payer. price (paid.IsGiven payer)) (is_record slip.share.no bio.bio.dev.0 (by_tree (tree_at scene.setup bio.bio.dev) d.3) (omega (arith, known, few))),
+        ap (λ payer. price (paid.IsGiven payer)) (is_record slip.share.no bio.bio.dev.0 (record_own (tree_at scene.setup bio.bio.dev) bio.bio.range bio.bio.dev.0 slip d.3) (omega (arith, known, few))),
       )
-    where
-      by_tree : (t : Tree) → AskFits t bio.bio.range bio.bio.dev.0 (ToMaster slip) → slip.share.no ≡ 2 * bio.bio.dev.0 + 1
-      by_tree (Leaf number sectors) a = absurd a
-      by_tree (Split number kind sizes members) a = absurd a
-      by_tree (Mirrored number sizes members) a = a
   -- links of legs
   lowers (moves.Legged place x bio lists master leg hand key node) c =
       let d = placed_at scene.setup s a place x (Copies bio master leg (Links hand)) lists c.1 c.2 in

@@ -12,20 +12,21 @@ use Rattle.bio_books.specs.Books.{Node, VectorItem, SlipItem, node_at, parent_of
 use Rattle.bio_books.specs.Drops.{Closed}
 use Rattle.model_disks.specs.Disks.{DiskState}
 use Rattle.run_machine.specs.Scene.{Scene}
-use Rattle.run_machine.specs.Submissions.{Want, Takes, WantsPunt, Links, Driving, ToPush, ToCut, ToRecord, ToMaster, Doing, Rests, Drives, Copies, Breaks, Submission}
-use Rattle.run_machine.specs.Tasks.{Todo, Gathered, NoBio, HasBio, HasBoth, Carried, Empty, Brings, Carries, Fails, TaskState, Writer, Rescuer, Completer, Keeper}
+use Rattle.run_machine.specs.Submissions.{Doing, Rests, Drives, Copies, Breaks, Submission}
+use Rattle.run_machine.specs.Tasks.{Todo, Gathered, Carried, Empty, Brings, Carries, Fails, TaskState, Writer, Rescuer, Completer, Keeper}
 use Rattle.run_machine.specs.Runs.{State}
 use Rattle.block_core.specs.EachBio.{DoingHas, SubmissionHas, CarriedHas, TaskHas, EachBio, DoingCopies, TaskCopies, EachCopied}
 use Rattle.block_core.specs.OfOneWrite.{AreOfOneWrite}
 use Rattle.block_core.specs.Roles.{named, masters, children, legs_to_make, WaitsForParts, IsUnderOpen, HasRoles}
 use Rattle.block_core.specs.Touches.{is_master}
-use Rattle.block_core.specs.Weights.{Weight, Spot, Lined, Rescued, Pending, Brought, total_weight, one_if_same, weigh_option, want_weight, ask_weight, doing_weight, submission_weight, gathered_weight, carried_weight, task_weight, book_weight, under, legs_left}
+use Rattle.block_core.specs.Weights.{Weight, Spot, Lined, Rescued, Pending, Brought, total_weight, one_if_same, weigh_option, doing_weight, submission_weight, carried_weight, task_weight, book_weight, under, legs_left}
 use Rattle.block_core.proofs.moves.References.{references, awaited_ends}
 use Rattle.block_core.proofs.moves.Sums.{same_or_not, one-other}
 use Rattle.block_core.proofs.sound.Splitting.{total_sum}
 use Rattle.block_core.proofs.sound.StoodFor.{refs_are}
 use Rattle.block_core.proofs.sound.Strays.{parent_strays, strays, NoneStrays}
 use Rattle.block_core.proofs.stuck.Idle.{sum_none}
+use Rattle.block_core.proofs.moves.SubmissionWeights.{want_nil, ask_nil, taken_nil}
 
 -- no part weighs anything: of bios at work of which this is so, of copied ones of which that is so, and of all others
 record WeighsNothing (scene : Scene) (s : State) (P : Item Pad → Type 0) (C : Bio → ℕ → Type 0) (w : Weight) : Type 0 where
@@ -40,17 +41,6 @@ record WeighsNothing (scene : Scene) (s : State) (P : Item Pad → Type 0) (C : 
       → w.closed place writer closed ≡ 0
 
 module _ (scene : Scene) (s : State) (P : Item Pad → Type 0) (C : Bio → ℕ → Type 0) (w : Weight) (nil : WeighsNothing scene s P C w) where
-  want_nil : (want : Want) → want_weight w want ≡ 0
-  want_nil (Takes waits) = refl
-  want_nil WantsPunt = refl
-  want_nil (Links hand) = nil.hand hand
-
-  ask_nil : (ask : Driving) → ask_weight w ask ≡ 0
-  ask_nil ToPush = refl
-  ask_nil (ToCut want) = want_nil want
-  ask_nil ToRecord = refl
-  ask_nil (ToMaster slip) = nil.slip slip
-
   list_nil : (spot : Spot) (items : List (Item Pad)) → All P items → sum_by (w.bio spot) items ≡ 0
   list_nil spot [] all = refl
   list_nil spot (item ∷ items) all =
@@ -58,8 +48,8 @@ module _ (scene : Scene) (s : State) (P : Item Pad → Type 0) (C : Bio → ℕ 
 
   doing_nil : (limit : ℕ) (doing : Doing) → DoingHas P doing → DoingCopies C doing → doing_weight w limit doing ≡ 0
   doing_nil limit Rests has copied = refl
-  doing_nil limit (Drives bio ask) has copied = omega (arith, nil.bio (Lined limit) bio has, ask_nil ask)
-  doing_nil limit (Copies bio master leg want) has copied = omega (arith, nil.copy bio master leg copied, want_nil want)
+  doing_nil limit (Drives bio ask) has copied = omega (arith, nil.bio (Lined limit) bio has, ask_nil w nil.hand nil.slip ask)
+  doing_nil limit (Copies bio master leg want) has copied = omega (arith, nil.copy bio master leg copied, want_nil w nil.hand want)
   doing_nil limit (Breaks breach kept) has copied = refl
 
   submission_nil : (limit : ℕ) (submission : Submission) → SubmissionHas P submission → DoingCopies C submission.doing → submission_weight w limit submission ≡ 0
@@ -71,11 +61,6 @@ module _ (scene : Scene) (s : State) (P : Item Pad → Type 0) (C : Bio → ℕ 
         list_nil (Lined limit) submission.lists.list1 has.2,
       )
 
-  taken_nil : (taken : Gathered) → gathered_weight w taken ≡ 0
-  taken_nil NoBio = refl
-  taken_nil (HasBio bio) = nil.hand bio
-  taken_nil (HasBoth bio vector) = omega (arith, nil.hand bio, nil.vector vector)
-
   carried_nil : (place : ℕ) (disk : DevId) (carried : Carried) → place < scene.tasks → s.task place ≡ Completer disk carried → CarriedHas P carried → carried_weight w place carried ≡ 0
   carried_nil place disk Empty lt is has = refl
   carried_nil place disk (Brings bio status) lt is has = nil.bio Brought bio has
@@ -84,7 +69,7 @@ module _ (scene : Scene) (s : State) (P : Item Pad → Type 0) (C : Bio → ℕ 
 
   task_nil : (place : ℕ) (x : TaskState) → place < scene.tasks → s.task place ≡ x → TaskHas P x → TaskCopies C x → task_weight w place x ≡ 0
   task_nil place (Writer number todos taken submission) lt is has copied =
-      omega (arith, nil.todo number todos taken, taken_nil taken, submission_nil 32 submission has copied)
+      omega (arith, nil.todo number todos taken, taken_nil w nil.hand nil.vector taken, submission_nil 32 submission has copied)
   task_nil place (Rescuer dev submission) lt is has copied = submission_nil dev.0 submission has copied
   task_nil place (Completer disk carried) lt is has copied = carried_nil place disk carried lt is has
   task_nil place (Keeper keeping) lt is has copied = refl

@@ -1,5 +1,5 @@
 -- In every run all open nodes and all bios are of writes of the present round.
-use Rattle.std.proofs.Common.{◌≡◌, ◌*◌, ◌<◌, ◌⊎◌, ℕ, List, None, Some, inl, inr, ◌∙◌, ap, arith}
+use Rattle.std.proofs.Common.{◌≡◌, ◌<◌, ◌⊎◌, ℕ, List, None, Some, inl, inr, arith}
 use Rattle.bio_books.specs.Books.{Node, node_at, parent_of}
 use Rattle.bio_books.specs.Drops.{Closed}
 use Rattle.stack_base.specs.declared.ids.DevId.{DevId}
@@ -8,12 +8,10 @@ use Rattle.run_machine.specs.Scene.{Scene}
 use Rattle.run_machine.specs.Tasks.{Completer, Carries}
 use Rattle.run_machine.specs.Opened.{scene, start, setup_in}
 use Rattle.run_machine.specs.Runs.{State}
-use Rattle.block_core.specs.Weights.{one_if_same}
-use Rattle.block_core.specs.Rounds.{round_of, is_of_round, tops, tops_left, unfinished_of, begun_of}
+use Rattle.block_core.specs.Rounds.{round_of, is_of_round, unfinished_of, begun_of}
 use Rattle.block_core.specs.Present.{IsOfPresent, WorkIsPresent}
-use Rattle.block_core.proofs.moves.Sums.{one-same}
 use Rattle.block_core.proofs.sound.Invariant.{LedgersAreNumbered, Invariant}
-use Rattle.block_core.proofs.sound.EventStages.{top_is}
+use Rattle.block_core.proofs.sound.EventStages.{top_worth, carried_worth}
 use Rattle.block_core.proofs.sound.Rounds.{Tallied}
 use Rattle.block_core.proofs.start.TallyAtStart.{keeper_place, start_tallied}
 use Rattle.block_core.proofs.stuck.Idle.{node_part}
@@ -32,13 +30,10 @@ top_present rounds keeper scene s i t writer key node at is = by_order (in_order
     r : ℕ
     r = round_of rounds node.write
 
-    worth : tops node.role * one_if_same r r ≡ 1
-    worth = ap (λ n. n * one_if_same r r) (top_is node.role is) ∙ ap (λ n. 1 * n) (one-same r)
-
     by_order : (r < s.objects.tally.round) ⊎ (r ≡ s.objects.tally.round) ⊎ (s.objects.tally.round < r) → r ≡ s.objects.tally.round
-    by_order (inl lt) = absurd (omega (arith, worth, t.left r, t.tally.past r lt, node_part scene s i (unfinished_of (is_of_round rounds r)) writer key node at))
+    by_order (inl lt) = absurd (omega (arith, top_worth node.role is r, t.left r, t.tally.past r lt, node_part scene s i (unfinished_of (is_of_round rounds r)) writer key node at))
     by_order (inr (inl same)) = same
-    by_order (inr (inr gt)) = absurd (omega (arith, worth, t.later r gt, node_part scene s i (begun_of (is_of_round rounds r)) writer key node at))
+    by_order (inr (inr gt)) = absurd (omega (arith, top_worth node.role is r, t.later r gt, node_part scene s i (begun_of (is_of_round rounds r)) writer key node at))
 
 -- so is that of one that is carried
 carried_present : (rounds : List ℕ) (keeper : ℕ) (scene : Scene) (s : State) → Tallied rounds keeper scene s → (place : ℕ) (disk : DevId) (writer : ℕ) (closed : Closed)
@@ -48,14 +43,11 @@ carried_present rounds keeper scene s t place disk writer closed here is top = b
     r : ℕ
     r = round_of rounds closed.write
 
-    worth : tops_left closed.parent * one_if_same r r ≡ 1
-    worth = ap (λ parent. tops_left parent * one_if_same r r) top ∙ ap (λ n. 1 * n) (one-same r)
-
     by_order : (r < s.objects.tally.round) ⊎ (r ≡ s.objects.tally.round) ⊎ (s.objects.tally.round < r) → r ≡ s.objects.tally.round
     by_order (inl lt) =
-        absurd (omega (arith, worth, t.left r, t.tally.past r lt, task_part scene (unfinished_of (is_of_round rounds r)) s place (Completer disk (Carries writer closed)) here is))
+        absurd (omega (arith, carried_worth closed.parent top r, t.left r, t.tally.past r lt, task_part scene (unfinished_of (is_of_round rounds r)) s place (Completer disk (Carries writer closed)) here is))
     by_order (inr (inl same)) = same
-    by_order (inr (inr gt)) = absurd (omega (arith, worth, t.later r gt, task_part scene (begun_of (is_of_round rounds r)) s place (Completer disk (Carries writer closed)) here is))
+    by_order (inr (inr gt)) = absurd (omega (arith, carried_worth closed.parent top r, t.later r gt, task_part scene (begun_of (is_of_round rounds r)) s place (Completer disk (Carries writer closed)) here is))
 
 pub work_is_present : WorkIsPresent
 work_is_present s ledger events state good naming run =

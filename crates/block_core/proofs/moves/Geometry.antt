@@ -5,7 +5,8 @@ use Rattle.stack_base.specs.declared.ids.DevId.{DevId}
 use Rattle.stack_base.specs.declared.ids.Range.{Range}
 use Rattle.stack_base.specs.declared.ids.SetId.TheVariants.{Of}
 use Rattle.stack_base.specs.declared.stack.Kind.{Kind}
-use Rattle.stack_base.specs.Mapping.{slot}
+use Rattle.stack_base.specs.Cutting.{piece_end, IsCut as HeadsCut}
+use Rattle.stack_base.specs.Mapping.{slot, head}
 use Rattle.stack_base.specs.Tree.{Tree, Leaf, Split, Mirrored, size}
 use Rattle.bio_records.specs.declared.bio.Bio.{Bio}
 use Rattle.bio_records.specs.declared.bio.Pad.{Pad}
@@ -68,6 +69,13 @@ first_piece stack device range = record {
   len = first_length device.kind (sizes_at stack device) range;
 }
 
+-- a device that cuts does so at its heads
+pub heads_cut : (stack : Stack) → IsStack stack → (number : ℕ) (device : Device) → slice_get stack.devices.items number ≡ Some device → shape_of device.kind ≡ Cuts
+    → HeadsCut (head device.kind (sizes_at stack device)) (piece_end device.kind (sizes_at stack device)) (slot device.kind (sizes_at stack device))
+heads_cut stack good number device found cuts =
+    let shape_is : HasShape device.kind (length device.members.items) = (good.each number device found).shape in
+    kind_cuts device.kind (sizes_at stack device) (can_cut device.kind (length device.members.items) shape_is cuts)
+
 -- where it goes
 pub record Goes (stack : Stack) (number : ℕ) (device : Device) (range : Range) : Type 0 where
   pub dev : DevId
@@ -78,9 +86,7 @@ pub goes : (stack : Stack) → IsStack stack → (number : ℕ) (device : Device
     → (range : Range) → 1 ≤ range.len → range.start + range.len ≤ size (tree stack number) → Goes stack number device range
 goes stack good number device found cuts range some within =
     let first = first_piece stack device range in
-    let shape_is : HasShape device.kind (length device.members.items) = (good.each number device found).shape in
-    let cut = kind_cuts device.kind (sizes_at stack device) (can_cut device.kind (length device.members.items) shape_is cuts) in
-    let is = is_piece device.kind (sizes_at stack device) range.start range.len first cut some refl refl in
+    let is = is_piece device.kind (sizes_at stack device) range.start range.len first (heads_cut stack good number device found cuts) some refl refl in
     let there = member_there stack good number device found cuts range.start range.len first is within in
     let m : DevId = get_or device.members.items first.member (record { 0 = 0 }) in
     let at : slice_get device.members.items first.member ≡ Some m = slice_get-get_or device.members.items first.member (record { 0 = 0 }) there in

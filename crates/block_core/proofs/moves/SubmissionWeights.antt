@@ -14,10 +14,11 @@ use Rattle.bio_records.specs.Items.{Item}
 use Rattle.bio_records.specs.Sorting.{is_lower, is_for_device, is_of, is_of_other}
 use Rattle.bio_lists.specs.Submission.{order}
 use Rattle.bio_lists.specs.Punt.{punted, unpunted}
+use Rattle.bio_books.specs.Books.{VectorItem, SlipItem}
 use Rattle.run_machine.specs.Scene.{Setup, tree_at}
-use Rattle.run_machine.specs.Submissions.{Want, ToPush, ToCut, ToRecord, ToMaster, Doing, Rests, Drives, Copies, Breaks, Submission, settled, goes_on, asks_at, first_length, mapped, landed}
-use Rattle.run_machine.specs.Tasks.{TaskState, Writer, Rescuer, Completer, Keeper}
-use Rattle.block_core.specs.Weights.{Weight, Lined, want_weight, doing_weight, task_weight, submission_weight}
+use Rattle.run_machine.specs.Submissions.{Want, ToPush, ToCut, ToRecord, ToMaster, Doing, Rests, Drives, Copies, Breaks, Submission, settled, goes_on, asks_at, first_length, mapped, landed, Takes, WantsPunt, Links, Driving}
+use Rattle.run_machine.specs.Tasks.{TaskState, Writer, Rescuer, Completer, Keeper, Gathered, NoBio, HasBio, HasBoth}
+use Rattle.block_core.specs.Weights.{Weight, Lined, want_weight, doing_weight, task_weight, submission_weight, ask_weight, gathered_weight}
 use Rattle.block_core.proofs.moves.Moves.{limit_of, with_submission, HasSubmission, Wants, with_want}
 
 -- what mapping leaves as it is, landing does too
@@ -91,3 +92,21 @@ punted_weight g dev lists =
     let p : Item Pad → Bool = is_of (Of dev) in
     let q : Item Pad → Bool = is_of_other (Of dev) in
     omega (arith, sum_by-append g (filter p lists.list0) (filter p lists.list1), sum_by-filter_both p q (λ x. refl) g lists.list0, sum_by-filter_both p q (λ x. refl) g lists.list1)
+
+-- where nothing that is in hand weighs, nothing that is wanted does, nothing that is asked, and nothing that a writer has taken
+module _ (w : Weight) (hand_nil : (item : Item Pad) → w.hand item ≡ 0) where
+  pub want_nil : (want : Want) → want_weight w want ≡ 0
+  want_nil (Takes waits) = refl
+  want_nil WantsPunt = refl
+  want_nil (Links hand) = hand_nil hand
+
+  pub ask_nil : ((slip : SlipItem) → w.slip slip ≡ 0) → (ask : Driving) → ask_weight w ask ≡ 0
+  ask_nil slip_nil ToPush = refl
+  ask_nil slip_nil (ToCut want) = want_nil want
+  ask_nil slip_nil ToRecord = refl
+  ask_nil slip_nil (ToMaster slip) = slip_nil slip
+
+  pub taken_nil : ((vector : VectorItem) → w.vector vector ≡ 0) → (taken : Gathered) → gathered_weight w taken ≡ 0
+  taken_nil vector_nil NoBio = refl
+  taken_nil vector_nil (HasBio bio) = hand_nil bio
+  taken_nil vector_nil (HasBoth bio vector) = omega (arith, hand_nil bio, vector_nil vector)

@@ -16,10 +16,11 @@ use Rattle.run_machine.specs.Submissions.{Takes, WantsPunt, Links, ToPush, ToCut
 use Rattle.run_machine.specs.Tasks.{Todo, Gathered, NoBio, HasBio, HasBoth, Carried, Empty, Brings, Carries, Fails}
 use Rattle.run_machine.specs.Objects.{clear_bio, clear_vector}
 use Rattle.run_machine.specs.Runs.{State}
-use Rattle.block_core.specs.Weights.{Weight, total_weight, doing_weight, submission_weight, carried_weight}
+use Rattle.block_core.specs.Weights.{Weight, total_weight, doing_weight, submission_weight, carried_weight, one_if_same}
 use Rattle.block_core.proofs.moves.Moves.{Move, Can, after, limit_of, gathered_of, filled_of, cut_lists, TellsNode}
 use Rattle.block_core.proofs.moves.Moves as moves
 use Rattle.block_core.proofs.moves.Deltas.{delta}
+use Rattle.block_core.proofs.moves.Sums.{one-same}
 use Rattle.bio_books.specs.declared.node.Role.TheVariants as role
 use Rattle.block_core.specs.Rounds.{tops, tops_left, by_stage}
 
@@ -49,6 +50,13 @@ same_top (role.Leg parent) = refl
 
 pub top_is : (r : Role) → parent_of r ≡ None → tops r ≡ 1
 top_is r is = sym (same_top r) ∙ ap tops_left is
+
+-- a top node is worth one where its write's round is counted, and so is one that is carried
+pub top_worth : (r : Role) → parent_of r ≡ None → (round : ℕ) → tops r * one_if_same round round ≡ 1
+top_worth r is round = ap (λ n. n * one_if_same round round) (top_is r is) ∙ ap (λ n. 1 * n) (one-same round)
+
+pub carried_worth : (parent : Option ℕ) → parent ≡ None → (round : ℕ) → tops_left parent * one_if_same round round ≡ 1
+carried_worth parent is round = ap (λ parent. tops_left parent * one_if_same round round) is ∙ ap (λ n. 1 * n) (one-same round)
 
 pub zeros : (items : List (Item Pad)) → sum_by (λ item. 0) items ≡ 0
 zeros [] = refl

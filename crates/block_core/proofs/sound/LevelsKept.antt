@@ -23,7 +23,7 @@ use Rattle.block_core.proofs.sound.Invariant.{TaskIsSound, Invariant}
 use Rattle.block_core.proofs.sound.TaskSubmissions.{submission_fits}
 use Rattle.block_core.proofs.sound.Orders.{AskFits, HandHome, TaskPlaced, Placed, DeviceGeometry}
 use Rattle.std.specs.Prelude.{min}
-use Rattle.block_core.proofs.sound.OrdersKept.{placed_at}
+use Rattle.block_core.proofs.sound.OrdersKept.{placed_at, record_own}
 use Rattle.block_core.proofs.moves.Deltas.{other_place, delta}
 use Rattle.block_core.proofs.sound.SumParts.{copies_weight, unless, unless_none, cut_weight, submission_part}
 use Rattle.block_core.proofs.moves.Totals.{part_of}
@@ -201,7 +201,7 @@ module _ (scene : Scene) (s : State) (g : DeviceGeometry scene.setup) (i : Invar
       let d = placed_at scene.setup s p place x (Drives bio (ToMaster slip)) lists c.1 c.2 in
       let known = d.1.0.0.device in
       let few = g.few in
-      let own : slip.share.no ≡ 2 * dev + 1 = by_tree (tree_at scene.setup bio.bio.dev) d.3 in
+      let own : slip.share.no ≡ 2 * dev + 1 = record_own (tree_at scene.setup bio.bio.dev) bio.bio.range bio.bio.dev.0 slip d.3 in
       let part = submission_part scene (off_levels level) s place x (Drives bio (ToMaster slip)) lists c.0 c.1 c.2 in
       let parent : new bio.bio.writer bio.bio.node ≡ level bio.bio.writer bio.bio.node =
       mark_other level bio.bio.writer key (2 * dev + 1) bio.bio.writer bio.bio.node (inr (other_place (s.objects.book bio.bio.writer) key bio.bio.node node c.5 c.4)) in
@@ -222,11 +222,6 @@ module _ (scene : Scene) (s : State) (g : DeviceGeometry scene.setup) (i : Invar
         holds,
         keeps,
       ))
-    where
-      by_tree : (t : Tree) → AskFits t bio.bio.range bio.bio.dev.0 (ToMaster slip) → slip.share.no ≡ 2 * bio.bio.dev.0 + 1
-      by_tree (Leaf number sectors) a = absurd a
-      by_tree (Split number kind sizes members) a = absurd a
-      by_tree (Mirrored number sizes members) a = a
   -- links of legs
   stays_leveled (moves.Legged place x bio lists master leg hand key node) c =
       let dev = bio.dev.0 in

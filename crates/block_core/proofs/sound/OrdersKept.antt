@@ -1,6 +1,7 @@
 -- Events keep the submissions of tasks and the rescue lists in order.
 use Rattle.std.proofs.Common.{◌≡◌, ◌+◌, ◌*◌, ◌++◌, ℕ, true, false, List, [], ◌∷◌, filter, Option, None, Some, sym, ◌∙◌, ap, subst, arith}
 use Rattle.stack_base.specs.declared.ids.DevId.{DevId}
+use Rattle.stack_base.specs.declared.ids.Range.{Range}
 use Rattle.stack_base.specs.PoolId.{pool_number}
 use Rattle.stack_base.specs.Tree.{Tree, Leaf, Split, Mirrored}
 use Rattle.stack_base.specs.declared.ids.SetId.TheVariants.{Of}
@@ -13,7 +14,7 @@ use Rattle.bio_records.specs.Sorting.{is_of}
 use Rattle.bio_lists.specs.Submission.{submitted}
 use Rattle.bio_lists.specs.Punt.{punted, unpunted}
 use Rattle.bioset_pools.specs.Sets.{bios_of}
-use Rattle.bio_books.specs.Books.{VectorItem}
+use Rattle.bio_books.specs.Books.{VectorItem, SlipItem}
 use Rattle.run_machine.specs.Maps.{upd}
 use Rattle.run_machine.specs.Scene.{Setup, Scene, tree_at}
 use Rattle.run_machine.specs.Submissions.{Takes, WantsPunt, Links, ToPush, ToCut, ToRecord, ToMaster, Doing, Rests, Drives, Copies, Breaks, Submission, rests, leg_at}
@@ -37,6 +38,12 @@ submission_placed setup (Keeper keeping) doing lists t h = absurd h
 pub placed_at : (setup : Setup) (s : State) → Placed setup s → (place : ℕ) (x : TaskState) (doing : Doing) (lists : TaskLists) → s.task place ≡ x → HasSubmission x doing lists
     → DoingPlaced setup (limit_of x) doing lists
 placed_at setup s p place x doing lists is h = submission_placed setup x doing lists (subst (TaskPlaced setup) is (p.tasks place)) h
+
+-- what is had for a mirror's record is of the mirror's own pool
+pub record_own : (t : Tree) (range : Range) (dev : ℕ) (slip : SlipItem) → AskFits t range dev (ToMaster slip) → slip.share.no ≡ 2 * dev + 1
+record_own (Leaf number sectors) range dev slip fits = absurd fits
+record_own (Split number kind sizes members) range dev slip fits = absurd fits
+record_own (Mirrored number sizes members) range dev slip fits = fits
 
 relined : (setup : Setup) (x : TaskState) (new : Submission) → TaskPlaced setup x → SubmissionPlaced setup (limit_of x) new → TaskPlaced setup (with_submission x new)
 relined setup (Writer number todo taken submission) new t n = (t.0, n, t.2)

@@ -1,5 +1,5 @@
 -- What each task has stays in order.
-use Rattle.std.proofs.Common.{◌≡◌, ◌+◌, ◌*◌, ◌≤◌, ◌==◌, if◌then◌else◌, ℕ, Bool, true, false, List, [], ◌∷◌, inl, inr, refl, sym, ◌∙◌, ap, subst, arith}
+use Rattle.std.proofs.Common.{◌≡◌, ◌⊎◌, ◌+◌, ◌*◌, ◌≤◌, ◌==◌, if◌then◌else◌, ℕ, Bool, true, false, List, [], ◌∷◌, inl, inr, refl, sym, ◌∙◌, ap, subst, arith}
 use Rattle.stack_base.specs.declared.ids.DevId.{DevId}
 use Rattle.stack_base.specs.Tree.{Tree, Leaf, Split, Mirrored}
 use Rattle.stack_base.specs.declared.ids.SetId.TheVariants.{Of}
@@ -68,6 +68,12 @@ module _ (setup : Setup) where
 abbrev pub IsBusy : Doing → Type 0
 IsBusy Rests = ⊥
 IsBusy doing = Unit {0}
+
+pub rests_or_busy : (doing : Doing) → (doing ≡ Rests) ⊎ IsBusy doing
+rests_or_busy Rests = inl refl
+rests_or_busy (Drives bio ask) = inr tt
+rests_or_busy (Copies bio master leg want) = inr tt
+rests_or_busy (Breaks breach kept) = inr tt
 
 pub wants_busy : (doing : Doing) (dev : DevId) (want : Want) → Wants doing dev want → IsBusy doing
 wants_busy (Drives bio (ToCut has)) dev want h = tt

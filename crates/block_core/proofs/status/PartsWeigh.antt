@@ -12,14 +12,15 @@ use Rattle.bio_books.specs.Books.{Node, VectorItem, SlipItem, node_at}
 use Rattle.bio_books.specs.Drops.{Closed}
 use Rattle.model_disks.specs.Disks.{DiskState}
 use Rattle.run_machine.specs.Scene.{Scene}
-use Rattle.run_machine.specs.Submissions.{Want, Takes, WantsPunt, Links, Driving, ToPush, ToCut, ToRecord, ToMaster, Doing, Rests, Drives, Copies, Breaks, Submission}
-use Rattle.run_machine.specs.Tasks.{Todo, Gathered, NoBio, HasBio, HasBoth, Carried, Empty, Brings, Carries, Fails, TaskState, Writer, Rescuer, Completer, Keeper}
+use Rattle.run_machine.specs.Submissions.{Want, Doing, Rests, Drives, Copies, Breaks, Submission}
+use Rattle.run_machine.specs.Tasks.{Todo, Gathered, Carried, Empty, Brings, Carries, Fails, TaskState, Writer, Rescuer, Completer, Keeper}
 use Rattle.run_machine.specs.Runs.{State}
-use Rattle.block_core.specs.Weights.{Weight, Spot, Lined, Rescued, Pending, Brought, sum_at, weigh_option, doing_weight, submission_weight, gathered_weight, want_weight, ask_weight, task_weight, book_weight, total_weight}
+use Rattle.block_core.specs.Weights.{Weight, Spot, Lined, Rescued, Pending, Brought, sum_at, weigh_option, doing_weight, submission_weight, want_weight, ask_weight, task_weight, book_weight, total_weight}
 use Rattle.block_core.specs.AtWork.{DoingHolds, SubmissionHolds, CarriedHolds, SubmissionOf, IsBrought, IsInDisk, IsAtWork}
 use Rattle.block_core.proofs.images.PlannedOnce.{term_in}
 use Rattle.block_core.proofs.moves.Totals.{part_of, task_part}
 use Rattle.block_core.proofs.stuck.NothingWaits.{some_place}
+use Rattle.block_core.proofs.moves.SubmissionWeights.{want_nil, ask_nil, taken_nil}
 
 pub some_in : {X : Type 0} (f : X → ℕ) (xs : List X) → 1 ≤ sum_by f xs → (x : X) × Contains xs x × (1 ≤ f x)
 some_in f [] h = absurd (omega (arith, h))
@@ -140,22 +141,6 @@ module _ (scene : Scene) (s : State) (w : Weight) where
     pub slip : (slip : SlipItem) → w.slip slip ≡ 0
 
   module _ (o : IsOfWork) where
-    no_want : (want : Want) → want_weight w want ≡ 0
-    no_want (Takes waits) = refl
-    no_want WantsPunt = refl
-    no_want (Links hand) = o.hand hand
-
-    no_ask : (ask : Driving) → ask_weight w ask ≡ 0
-    no_ask ToPush = refl
-    no_ask (ToCut want) = no_want want
-    no_ask ToRecord = refl
-    no_ask (ToMaster slip) = o.slip slip
-
-    no_taken : (taken : Gathered) → gathered_weight w taken ≡ 0
-    no_taken NoBio = refl
-    no_taken (HasBio bio) = o.hand bio
-    no_taken (HasBoth bio vector) = omega (arith, o.hand bio, o.vector vector)
-
     submission_weighs : (place : ℕ) (submission : Submission) (limit : ℕ) → place < scene.tasks → SubmissionOf (s.task place) submission → 1 ≤ submission_weight w limit submission → Weighs
     submission_weighs place submission limit lt is some = by_doing submission.doing refl some
       where
@@ -176,19 +161,19 @@ module _ (scene : Scene) (s : State) (w : Weight) where
         by_doing (Drives bio ask) q some =
             let e : doing_weight w limit submission.doing ≡ w.bio (Lined limit) bio + ask_weight w ask = ap (doing_weight w limit) q in
             elim (zero_or (w.bio (Lined limit) bio)) [
-              | inl none ↦ by_lists (omega (arith, some, e, none, no_ask ask))
+              | inl none ↦ by_lists (omega (arith, some, e, none, ask_nil w o.hand o.slip ask))
               | inr more ↦ inl (bio, Lined limit, inl (place, submission, lt, is, inl (subst (DoingHolds bio) (sym q) refl)), more)
             ]
         by_doing (Copies bio master leg want) q some =
             let e : doing_weight w limit submission.doing ≡ w.copy bio master leg + want_weight w want = ap (doing_weight w limit) q in
             elim (zero_or (w.copy bio master leg)) [
-              | inl none ↦ by_lists (omega (arith, some, e, none, no_want want))
+              | inl none ↦ by_lists (omega (arith, some, e, none, want_nil w o.hand want))
               | inr more ↦ inr (inl (place, submission, bio, master, leg, want, lt, is, q, more))
             ]
 
     task_weighs : (place : ℕ) (x : TaskState) → place < scene.tasks → s.task place ≡ x → 1 ≤ task_weight w place x → Weighs
     task_weighs place (Writer number todo taken submission) lt is some =
-        submission_weighs place submission 32 lt (subst (λ t. SubmissionOf t submission) (sym is) refl) (omega (arith, some, o.todo number todo taken, no_taken taken))
+        submission_weighs place submission 32 lt (subst (λ t. SubmissionOf t submission) (sym is) refl) (omega (arith, some, o.todo number todo taken, taken_nil w o.hand o.vector taken))
     task_weighs place (Rescuer dev submission) lt is some = submission_weighs place submission dev.0 lt (subst (λ t. SubmissionOf t submission) (sym is) refl) some
     task_weighs place (Completer disk Empty) lt is some = absurd (omega (arith, some))
     task_weighs place (Completer disk (Brings bio status)) lt is some = inl (bio, Brought, inr (inl (place, disk, Brings bio status, lt, is, refl)), some)

@@ -9,16 +9,13 @@ use Rattle.stack_base.specs.declared.ids.Status.TheVariants as status
 use Rattle.stack_base.specs.declared.stack.Device.{Device}
 use Rattle.stack_base.specs.declared.stack.Stack.{Stack}
 use Rattle.stack_base.specs.declared.stack.Kind.{Kind}
-use Rattle.stack_base.specs.Stack.{IsStack, HasShape}
+use Rattle.stack_base.specs.Stack.{IsStack}
 use Rattle.stack_base.specs.Fault.{status_eq}
-use Rattle.stack_base.specs.Cutting.{piece_end, IsCut}
-use Rattle.stack_base.specs.Mapping.{slot, head}
+use Rattle.stack_base.specs.Mapping.{slot}
 use Rattle.stack_base.specs.Tree.{Tree, Leaf, Split, Mirrored, Cuts, shape_of, tree, sizes_at}
-use Rattle.stack_base.proofs.KindCuts.{kind_cuts}
 use Rattle.layout_model.specs.declared.fragment.Fragment.{Fragment}
 use Rattle.layout_model.specs.May.{may_end, each_may_end, some_may_end}
 use Rattle.layout_model.specs.Plan.{Plan, Plans, OneFragment, Pieces, Legs, none, also, plans_of, plan}
-use Rattle.layout_model.proofs.Over.{can_cut}
 use Rattle.layout_model.proofs.ByShape.{cuts_is}
 use Rattle.layout_model.proofs.Planned.{piece_plans, pieces_are, piece_plans_first, piece_plans_one, legs_are, whole_is}
 use Rattle.layout_model.proofs.MayLemmas.{ok_is_alone}
@@ -34,7 +31,7 @@ use Rattle.block_core.proofs.moves.Sums.{same_or_not}
 use Rattle.block_core.proofs.status.Marks.{yes, may, bio_may, leg_may}
 use Rattle.block_core.proofs.moves.Moves.{piece}
 use Rattle.run_machine.proofs.TreeNumbers.{number_of_tree}
-use Rattle.block_core.proofs.moves.Geometry.{IsThere, IsWhole, falls, goes, members_at, of_each_shape}
+use Rattle.block_core.proofs.moves.Geometry.{IsThere, IsWhole, falls, goes, members_at, of_each_shape, heads_cut}
 use Rattle.block_core.proofs.moves.LegTrees.{GoesDown, legs_go_down}
 use Rattle.block_core.proofs.sound.Orders.{AskFits}
 use Rattle.block_core.proofs.images.FragmentCounts.{IsCounted, place_on}
@@ -171,13 +168,6 @@ module _ (stack : Stack) (good : IsStack stack) (places : ℕ → ℕ) (ends : F
   abbrev run_can : Tree → Bio → ℕ → ℕ → ℕ → Status → ℕ
   run_can t bio offset start len end = may ends (plan t bio.write offset start len) end
 
-  -- a device that cuts cuts at its next ends
-  cut_at_ends : (number : ℕ) (device : Device) → slice_get stack.devices.items number ≡ Some device → shape_of device.kind ≡ Cuts
-      → IsCut (head device.kind (sizes_at stack device)) (piece_end device.kind (sizes_at stack device)) (slot device.kind (sizes_at stack device))
-  cut_at_ends number device found cuts =
-      let shape_is : HasShape device.kind (length device.members.items) = (good.each number device found).shape in
-      kind_cuts device.kind (sizes_at stack device) (can_cut device.kind (length device.members.items) shape_is cuts)
-
   whole_run : (end : Status) → IsWhole stack good places (λ bio. bio_may setup ends bio end)
   whole_run end bio device found cuts to whole =
       let sizes = sizes_at stack device in
@@ -188,7 +178,7 @@ module _ (stack : Stack) (good : IsStack stack) (places : ℕ → ℕ) (ends : F
       let o : ℕ = offset_of bio in
       let first : Plan = plan (members (slot device.kind sizes bio.range.start).member) bio.write o (slot device.kind sizes bio.range.start).at n in
       let plans : piece_plans device.kind sizes members bio.write o bio.range.start bio.range.len ≡ also first none =
-      piece_plans_one device.kind sizes members bio.write o bio.range.start bio.range.len n (cut_at_ends bio.dev.0 device found cuts) (omega (arith, some, whole)) refl whole in
+      piece_plans_one device.kind sizes members bio.write o bio.range.start bio.range.len n (heads_cut stack good bio.dev.0 device found cuts) (omega (arith, some, whole)) refl whole in
       let a : bio_may setup ends bio end ≡ may ends (Pieces bio.dev.0 (also first none)) end =
       ap (λ t. run_can t bio o bio.range.start bio.range.len end) (cuts_is stack good bio.dev.0 device found cuts)
       ∙ ap (λ p. may ends p end) (pieces_are bio.dev.0 device.kind sizes members bio.write o bio.range.start bio.range.len)
@@ -239,7 +229,7 @@ module _ (stack : Stack) (good : IsStack stack) (places : ℕ → ℕ) (ends : F
           let whole_is : plan (tree stack number) bio.bio.write o range.start range.len ≡ Pieces number (also first others) =
           ap (λ t. plan t bio.bio.write o range.start range.len) cuts
           ∙ pieces_are number device.kind sizes members bio.bio.write o range.start range.len
-          ∙ ap (Pieces number) (piece_plans_first device.kind sizes members bio.bio.write o range.start range.len n (cut_at_ends number device found e) (omega (arith, some)) refl) in
+          ∙ ap (Pieces number) (piece_plans_first device.kind sizes members bio.bio.write o range.start range.len n (heads_cut stack good number device found e) (omega (arith, some)) refl) in
           let child_is : plan (tree stack (tree_number m)) bio.bio.write o at n ≡ first =
           ap (λ k. plan (tree stack k) bio.bio.write o at n) dev ∙ ap (λ t. plan t bio.bio.write o at n) (sym to.is) in
           let rest_is : plan (tree stack number) bio.bio.write (offset_of rest) (range.start + n) (range.len - n) ≡ Pieces number others =

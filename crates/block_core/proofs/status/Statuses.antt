@@ -66,7 +66,7 @@ use Rattle.block_core.proofs.status.ValuesKept.{stays_marked}
 use Rattle.block_core.proofs.status.ToldEnds.{HasEnding}
 use Rattle.block_core.proofs.status.MarksBehind.{marks_by}
 use Rattle.block_core.proofs.status.NodeBios.{AreOfBios, stays_of_bios}
-use Rattle.block_core.proofs.status.Valued.{may_given, are_valued}
+use Rattle.block_core.proofs.status.MarkedValues.{may_given, are_valued}
 
 -- a task with a submission brings nothing
 submission_ending : (s : Scenario) (x : TaskState) (doing : Doing) (lists : TaskLists) (submission : Submission) → HasSubmission x doing lists → HasEnding (fault_of s.stack) (with_submission x submission)

@@ -20,7 +20,7 @@ use Rattle.block_core.proofs.moves.Moves.{with_pool, with_book}
 use Rattle.block_core.proofs.moves.Totals.{task_part}
 use Rattle.block_core.proofs.moves.Sums.{upd-same, one-same, below_or}
 use Rattle.block_core.proofs.sound.Invariant.{DoingFits, SubmissionFits, TaskIsSound, Invariant}
-use Rattle.block_core.proofs.sound.TaskSubmissions.{IsBusy}
+use Rattle.block_core.proofs.sound.TaskSubmissions.{IsBusy, rests_or_busy}
 use Rattle.block_core.proofs.sound.Orders.{TaskPlaced, Placed}
 use Rattle.std.specs.Prelude.{nat_le, sum_by}
 use Rattle.std.proofs.lemmas.List.Sums.{sum_by-cons}
@@ -101,16 +101,7 @@ module _ (scene : Scene) (s : State) (n : Needs scene.setup) (k : Invariant scen
           inl (free_of scene s place here (Rescuer dev rests) at (requests.Popped bio) _ tt refl refl (record s.objects { rescue = upd s.objects.rescue dev.0 bios })
           (is ∙ ap (λ l. bio ∷ l) (sym same), ap (λ l. record s.objects { rescue = upd s.objects.rescue dev.0 l }) (sym same)))
 
-  -- a submission that is busy, and one that rests
-  submission_or_rests : (submission : Submission) → ((submission.doing ≡ Rests) ⊎ IsBusy submission.doing)
-  submission_or_rests submission = by_doing submission.doing
-    where
-      by_doing : (doing : Doing) → (doing ≡ Rests) ⊎ IsBusy doing
-      by_doing Rests = inl refl
-      by_doing (Drives bio ask) = inr tt
-      by_doing (Copies bio master leg want) = inr tt
-      by_doing (Breaks breach kept) = inr tt
-
+  -- a submission that rests, and one that is busy
   at_rest : (submission : Submission) → submission.doing ≡ Rests → SubmissionFits setup submission → submission ≡ rests
   at_rest submission is fits =
       let none : submission.lists ≡ no_lists = subst (λ (d : Doing). DoingFits setup d submission.lists) is fits in
@@ -137,14 +128,14 @@ module _ (scene : Scene) (s : State) (n : Needs scene.setup) (k : Invariant scen
   task_free ids keeper posted place here = by_task (s.task place) refl (k.tasks place) (p.tasks place) (posted.tasks place)
     where
       by_task : (x : TaskState) → s.task place ≡ x → TaskIsSound scene x → TaskPlaced setup x → AtPost ids keeper scene s.objects.tally place x → HasFree scene s ⊎ IsStill s x
-      by_task (Writer number todo taken submission) at fits t post = by_submission (submission_or_rests submission)
+      by_task (Writer number todo taken submission) at fits t post = by_submission (rests_or_busy submission.doing)
         where
           by_submission : (submission.doing ≡ Rests) ⊎ IsBusy submission.doing → HasFree scene s ⊎ StillWriter s todo taken submission.doing
           by_submission (inl is) =
               or_map (subst (StillWriter s todo taken) (sym is)) (writer_free place here number todo taken (at ∙ ap (Writer number todo taken) (at_rest submission is fits.1)) fits.0 post.1.1)
           by_submission (inr busy) =
               or_map (busy_writer todo taken submission.doing busy) (submission_free scene s n k r numbers place here (Writer number todo taken submission) at submission.doing submission.lists refl busy fits.1 t.1)
-      by_task (Rescuer dev submission) at fits t post = by_submission (submission_or_rests submission)
+      by_task (Rescuer dev submission) at fits t post = by_submission (rests_or_busy submission.doing)
         where
           by_submission : (submission.doing ≡ Rests) ⊎ IsBusy submission.doing → HasFree scene s ⊎ StillRescuer s dev.0 submission.doing
           by_submission (inl is) = or_map (subst (StillRescuer s dev.0) (sym is)) (pop_free place here dev (at ∙ ap (Rescuer dev) (at_rest submission is fits.1)))

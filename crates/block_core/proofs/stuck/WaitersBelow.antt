@@ -17,7 +17,7 @@ use Rattle.block_core.specs.Weights.{Weight, Pending, Rescued, Lined, total_weig
 use Rattle.block_core.proofs.moves.References.{references, awaited_ends}
 use Rattle.block_core.proofs.moves.Sums.{apart}
 use Rattle.block_core.proofs.sound.Invariant.{DoingFits, SubmissionFits, TaskIsSound, Invariant}
-use Rattle.block_core.proofs.sound.TaskSubmissions.{IsBusy}
+use Rattle.block_core.proofs.sound.TaskSubmissions.{IsBusy, rests_or_busy}
 use Rattle.block_core.proofs.sound.Orders.{IsOwn, DoingPlaced, TaskPlaced, Placed, DeviceGeometry}
 use Rattle.std.specs.Prelude.{min}
 use Rattle.stack_base.proofs.NumberLemmas.{zero_or}
@@ -57,12 +57,6 @@ module _ (scene : Scene) (s : State) (level : ℕ → ℕ → ℕ) (known : Wait
   still_rescuer s dev (Drives bio ask) busy still = still
   still_rescuer s dev (Copies bio master leg want) busy still = still
   still_rescuer s dev (Breaks breach kept) busy still = still
-
-  rests_or_busy : (doing : Doing) → (doing ≡ Rests) ⊎ IsBusy doing
-  rests_or_busy Rests = inl refl
-  rests_or_busy (Drives bio ask) = inr tt
-  rests_or_busy (Copies bio master leg want) = inr tt
-  rests_or_busy (Breaks breach kept) = inr tt
 
   -- at rest the lists are empty
   rests_zero : (u : Weight) (limit : ℕ) (submission : Submission) → submission.doing ≡ Rests → SubmissionFits setup submission → submission_weight u limit submission ≡ 0

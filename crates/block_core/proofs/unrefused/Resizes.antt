@@ -13,8 +13,8 @@ use Rattle.run_machine.specs.Tasks.{Writer, Completer, Keeper, Keeps, Resizes, D
 use Rattle.run_machine.specs.Runs.{State, IsLet}
 use Rattle.block_core.specs.Weights.{total_weight, one_if_same}
 use Rattle.block_core.proofs.sound.OffLevels.{AreLeveled, off_levels, parent_off}
-use Rattle.block_core.proofs.sound.EventStages.{top_is}
-use Rattle.block_core.specs.Rounds.{round_of, is_of_round, tops, tops_left, unfinished_of, begun_of}
+use Rattle.block_core.proofs.sound.EventStages.{top_worth, carried_worth}
+use Rattle.block_core.specs.Rounds.{round_of, is_of_round, tops_left, unfinished_of, begun_of}
 use Rattle.block_core.proofs.moves.Sums.{one-same}
 use Rattle.block_core.proofs.sound.Invariant.{Invariant}
 use Rattle.block_core.proofs.moves.Totals.{task_part}
@@ -44,20 +44,17 @@ module _ (rounds : List ℕ) (keeper : ℕ) (scene : Scene) (s : State) (i : Inv
 
   no_top : (writer key : ℕ) (node : Node) → writer < scene.books → node_at (s.objects.book writer) key ≡ Some node → parent_of node.role ≡ None → ⊥
   no_top writer key node some at is = elim (over r) [
-    | inl none ↦ omega (arith, worth, none, node_part scene s i (unfinished_of (is_of_round rounds r)) writer key node at)
-    | inr none ↦ omega (arith, worth, none, node_part scene s i (begun_of (is_of_round rounds r)) writer key node at)
+    | inl none ↦ omega (arith, top_worth node.role is r, none, node_part scene s i (unfinished_of (is_of_round rounds r)) writer key node at)
+    | inr none ↦ omega (arith, top_worth node.role is r, none, node_part scene s i (begun_of (is_of_round rounds r)) writer key node at)
   ]
     where
       r : ℕ
       r = round_of rounds node.write
 
-      worth : tops node.role * one_if_same r r ≡ 1
-      worth = ap (λ n. n * one_if_same r r) (top_is node.role is) ∙ ap (λ n. 1 * n) (one-same r)
-
   no_carried : (place : ℕ) (disk : DevId) (writer : ℕ) (closed : Closed) → place < scene.tasks → s.task place ≡ Completer disk (Carries writer closed) → closed.parent ≡ None → ⊥
   no_carried place disk writer closed here is top = elim (over r) [
-    | inl none ↦ omega (arith, worth, none, task_part scene (unfinished_of (is_of_round rounds r)) s place (Completer disk (Carries writer closed)) here is)
-    | inr none ↦ omega (arith, worth, none, task_part scene (begun_of (is_of_round rounds r)) s place (Completer disk (Carries writer closed)) here is)
+    | inl none ↦ omega (arith, carried_worth closed.parent top r, none, task_part scene (unfinished_of (is_of_round rounds r)) s place (Completer disk (Carries writer closed)) here is)
+    | inr none ↦ omega (arith, carried_worth closed.parent top r, none, task_part scene (begun_of (is_of_round rounds r)) s place (Completer disk (Carries writer closed)) here is)
   ]
     where
       r : ℕ

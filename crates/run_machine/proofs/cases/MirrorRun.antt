@@ -1,6 +1,6 @@
 -- A mirror of two, with one bio and one record in reserve and no ordinary memory: 25 events, in one of which a bio is punted, after which the state
 -- has ended.
-use Rattle.std.proofs.Common.{◌≡◌, ◌+◌, ◌==◌, ◌++◌, ℕ, inl, List, [], ◌∷◌, length, slice_index_or, codes, Option, None, Some, refl, arith, false, true}
+use Rattle.std.proofs.Common.{◌≡◌, ◌==◌, ◌++◌, ℕ, inl, List, [], ◌∷◌, codes, Option, None, Some, refl, arith, false, true}
 use Rattle.std.specs.Global.{Global}
 use Rattle.elem_ledger.specs.Ledger.{LedgerId}
 use Rattle.stack_base.specs.declared.ids.DevId.{DevId}
@@ -37,13 +37,13 @@ use Rattle.run_machine.specs.Requests.{HadBio, HadSlip, Missed as missed, Linked
 use Rattle.run_machine.specs.Submissions.{rests, leg_at}
 use Rattle.run_machine.specs.Tasks.{TaskState, Writer, Rescuer, Completer, NoBio, Empty, filled_short}
 use Rattle.run_machine.specs.Objects.{clear_bio, clear_slip, done_one}
-use Rattle.run_machine.specs.Opened.{no_task}
-use Rattle.run_machine.specs.Opened as texts
 use Rattle.run_machine.specs.Runs.{State, IsRun, HasEnded}
 pub use Rattle.run_machine.proofs.cases.OneDisk.{a}
 pub use Rattle.run_machine.proofs.cases.OneMirror.{b, m, mirror, setup, write, todo, reserve, scripts, objects, stack, scenario, setup_is, objects_are}
-use Rattle.run_machine.proofs.Beginnings.{state_by, runs_as}
-use Rattle.run_machine.proofs.Texts.{SaysScenario, says_of}
+use Rattle.run_machine.proofs.Beginnings.{state_by}
+use Rattle.run_machine.proofs.Texts.{says_of}
+use Rattle.run_machine.proofs.TextRuns.{IsRunOfText, run_of_text}
+use Rattle.run_machine.proofs.cases.OneMirror.{tally, is_of_scenario}
 use Rattle.run_machine.proofs.Turns.{Turn, follow, AreTurns, turns_run, takes, rescues, on_disk, in_book, all_home}
 
 abbrev pub tasks : List TaskState
@@ -251,19 +251,8 @@ text = codes "disk a 8\ndisk b 8\nmirror m a b reserve=1 records=1\nmemory none\
 
 -- the text says this scenario with a rescuer, and the run begins in the state in which its runs are opened
 module _ (memory : Global) where
-  tasks_are : tasks ≡ texts.opened_tasks (scenario memory true)
-  unfolding tree_below over_shape
-  tasks_are = refl
-
-  start_is : start ≡ texts.start (scenario memory true)
-  start_is = λ k. record { objects = objects_are memory true k; task = λ place. slice_index_or (tasks_are k) place no_task }
-
-  scene_is : (some : LedgerId) → scene some ≡ texts.scene (scenario memory true) (ledger some)
-  scene_is some = λ k. record { setup = setup_is memory true k; tasks = length (tasks_are k); books = 8; writes = 1; ledger = ledger some }
-
-  text_runs : (some : LedgerId) → IsRun (texts.scene (scenario memory true) (ledger some)) (texts.start (scenario memory true)) (events some) (follow (setup true) start (turns some))
-  text_runs some = runs_as _ _ _ _ (events some) (follow (setup true) start (turns some)) (scene_is some) start_is (mirror_runs some)
-
-  says : SaysScenario text (scenario memory true)
-  unfolding refusal without_empty_end first_found command_of is_name number_of meaning pool_at over_shape size_of smallest needed begins
-  says = says_of text (scenario memory true) refl (refl, (refl, (refl, tt))) refl
+  is_of_text : IsRunOfText text (scenario memory true) ledger events (λ some. follow (setup true) start (turns some))
+  unfolding refusal without_empty_end first_found command_of is_name number_of meaning pool_at tree_below over_shape size_of smallest needed begins
+  is_of_text =
+      run_of_text (setup true) reserve tally tasks text (scenario memory true) (is_of_scenario memory true) refl
+      (says_of text (scenario memory true) refl (refl, (refl, (refl, tt))) refl) ledger events (λ some. follow (setup true) start (turns some)) mirror_runs

@@ -22,7 +22,6 @@ use Rattle.run_machine.specs.Opened as texts
 use Rattle.run_machine.proofs.Beginnings.{IsOfScenario, objects_by, reserves_are, first_places}
 use Rattle.run_machine.proofs.Beginnings as begins
 use Rattle.run_machine.proofs.Texts.{device, disk as disk_of, stack_of}
-use Rattle.run_machine.proofs.cases.OneDisk.{a}
 
 abbrev pub b : DevId
 b = device_at 1
@@ -118,7 +117,7 @@ module _ (memory : Global) where
     records_are (suc (suc zero)) = refl
     records_are (suc (suc (suc n))) = refl
 
-    is_of_scenario : IsOfScenario (setup rescuer) reserve tally (scenario rescuer)
+    pub is_of_scenario : IsOfScenario (setup rescuer) reserve tally (scenario rescuer)
     is_of_scenario = record {
       count_is = refl;
       tree_is = tree_is;

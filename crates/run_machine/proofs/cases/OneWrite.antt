@@ -39,21 +39,15 @@ use Rattle.run_machine.specs.Submissions.{rests}
 use Rattle.run_machine.specs.Tasks.{Todo, TaskState, Writer, Completer, NoBio, Empty, filled_short}
 use Rattle.run_machine.specs.Objects.{clear_bio, done_one, TallyState}
 use Rattle.run_machine.specs.Opened.{Scenario}
-use Rattle.run_machine.specs.Opened as texts
 use Rattle.run_machine.specs.Runs.{State, IsRun, HasEnded}
-use Rattle.run_machine.proofs.Beginnings.{IsOfScenario, objects_by, state_by, first_places}
-use Rattle.run_machine.proofs.Beginnings as begins
-use Rattle.run_machine.proofs.Texts.{SaysScenario, says_of}
-use Rattle.run_machine.proofs.cases.OneDisk.{tree_of, rescuer_of, reserve, stack, tree_is, rescuer_is, bads_are, reserve_is, a}
+use Rattle.run_machine.proofs.Beginnings.{objects_by, state_by, first_places}
+use Rattle.run_machine.proofs.Texts.{says_of}
+use Rattle.run_machine.proofs.cases.OneDisk.{setup_over, reserve, stack, is_of_scenario, a}
+use Rattle.run_machine.proofs.TextRuns.{IsRunOfText, run_of_text}
 use Rattle.run_machine.proofs.Turns.{Turn, follow, AreTurns, turns_run, takes, on_disk, in_book, all_home}
 
 abbrev pub setup : Setup
-setup = record {
-  count = 1;
-  tree = tree_of 64;
-  rescuer = rescuer_of;
-  places = λ writer. if 0 == writer then 1 else 0;
-}
+setup = setup_over 64 (λ writer. if 0 == writer then 1 else 0)
 
 abbrev write : Write
 write = record { task = 0; dev = a; start = 0; count = 1; tag = 0 }
@@ -165,25 +159,9 @@ module _ (memory : Global) where
   unfolding tree_below over_shape needed elements_begun
   one_node = refl
 
-  tasks_are : tasks ≡ texts.opened_tasks scenario
-  unfolding tree_below over_shape
-  tasks_are = refl
-
-  is_of_text : IsOfScenario setup reserve tally scenario
-  is_of_text = record {
-    count_is = refl;
-    tree_is = tree_is memory 64;
-    rescuer_is = rescuer_is memory 64;
-    places_are = first_places (stack memory 64) todo 1 one_node;
-    reserve_is = reserve_is memory 64;
-    bads_are = bads_are memory 64;
-    tally_is = refl;
-  }
-
-  text_runs : (some : LedgerId) → IsRun (texts.scene scenario (ledger some)) (texts.start scenario) (events some) (follow setup start (turns some))
-  text_runs some =
-      begins.text_runs setup reserve tally scenario is_of_text tasks tasks_are (ledger some) (events some) (follow setup start (turns some)) (one_write_runs some)
-
-  says : SaysScenario text scenario
-  unfolding refusal without_empty_end first_found command_of is_name number_of meaning pool_at over_shape needed elements_begun
-  says = says_of text scenario refl (refl, tt) refl
+  is_of_text : IsRunOfText text scenario ledger events (λ some. follow setup start (turns some))
+  unfolding refusal without_empty_end first_found command_of is_name number_of meaning pool_at tree_below over_shape needed elements_begun
+  is_of_text =
+      run_of_text setup reserve tally tasks text scenario
+      (is_of_scenario memory 64 scripts (write ∷ []) (0 ∷ []) [] setup.places (first_places (stack memory 64) todo 1 one_node) tally refl)
+      refl (says_of text scenario refl (refl, tt) refl) ledger events (λ some. follow setup start (turns some)) one_write_runs

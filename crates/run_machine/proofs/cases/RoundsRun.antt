@@ -41,19 +41,15 @@ use Rattle.run_machine.specs.Objects.{clear_bio, done_one, TallyState}
 use Rattle.run_machine.specs.Opened.{Scenario, places_of}
 use Rattle.run_machine.specs.Opened as texts
 use Rattle.run_machine.specs.Runs.{State, IsRun, HasEnded}
-use Rattle.run_machine.proofs.Beginnings.{IsOfScenario, objects_by, state_by, runs_as}
+use Rattle.run_machine.proofs.Beginnings.{IsOfScenario, objects_by, state_by}
 use Rattle.run_machine.proofs.Beginnings as begins
-use Rattle.run_machine.proofs.Texts.{SaysScenario, says_of}
-use Rattle.run_machine.proofs.cases.OneDisk.{tree_of, rescuer_of, reserve, stack, tree_is, rescuer_is, bads_are, reserve_is, a}
+use Rattle.run_machine.proofs.Texts.{says_of}
+use Rattle.run_machine.proofs.cases.OneDisk.{setup_over, reserve, stack, is_of_scenario, a}
+use Rattle.run_machine.proofs.TextRuns.{IsRunOfText, run_of_text}
 use Rattle.run_machine.proofs.Turns.{Turn, follow, AreTurns, turns_run, takes, on_disk, in_book, all_home}
 
 abbrev pub setup : Setup
-setup = record {
-  count = 1;
-  tree = tree_of 8;
-  rescuer = rescuer_of;
-  places = λ writer. (if 0 == writer then 1 else 0) + (if 1 == writer then 1 else 0);
-}
+setup = setup_over 8 (λ writer. (if 0 == writer then 1 else 0) + (if 1 == writer then 1 else 0))
 
 abbrev pub write : ℕ → Write
 write number = record { task = number; dev = a; start = number; count = 2; tag = 1000 * number }
@@ -239,26 +235,17 @@ module _ (memory : Global) where
   unfolding tree_below over_shape
   tasks_are = refl
 
-  is_of_text : IsOfScenario setup reserve tally scenario
-  is_of_text = record {
-    count_is = refl;
-    tree_is = tree_is memory 8;
-    rescuer_is = rescuer_is memory 8;
-    places_are = places_are;
-    reserve_is = reserve_is memory 8;
-    bads_are = bads_are memory 8;
-    tally_is = refl;
-  }
+  is_as_written : IsOfScenario setup reserve tally scenario
+  is_as_written = is_of_scenario memory 8 scripts scenario.writes scenario.rounds scenario.changes setup.places places_are tally refl
 
   pub start_is : start ≡ texts.start scenario
-  start_is = begins.start_is setup reserve tally scenario is_of_text tasks tasks_are
+  start_is = begins.start_is setup reserve tally scenario is_as_written tasks tasks_are
 
   pub scene_is : (some : LedgerId) → scene some ≡ texts.scene scenario (ledger some)
-  scene_is some = begins.scene_is setup reserve tally scenario is_of_text tasks tasks_are (ledger some)
+  scene_is some = begins.scene_is setup reserve tally scenario is_as_written tasks tasks_are (ledger some)
 
-  text_runs : (some : LedgerId) → IsRun (texts.scene scenario (ledger some)) (texts.start scenario) (events some) (follow setup start (turns some))
-  text_runs some = runs_as _ _ _ _ (events some) (follow setup start (turns some)) (scene_is some) start_is (rounds_run some)
-
-  says : SaysScenario text scenario
+  is_of_text : IsRunOfText text scenario ledger events (λ some. follow setup start (turns some))
   unfolding refusal without_empty_end first_found command_of is_name number_of meaning pool_at over_shape needed elements_begun
-  says = says_of text scenario refl (refl, tt) refl
+  is_of_text =
+      run_of_text setup reserve tally tasks text scenario is_as_written tasks_are (says_of text scenario refl (refl, tt) refl)
+      ledger events (λ some. follow setup start (turns some)) rounds_run

@@ -51,8 +51,8 @@ use Rattle.run_machine.specs.Opened.{Scenario, device_at, reserve_of}
 use Rattle.run_machine.specs.Opened as texts
 use Rattle.run_machine.specs.Runs.{State, IsRun, HasEnded}
 use Rattle.run_machine.proofs.Beginnings.{IsOfScenario, objects_by, state_by, reserves_are, first_places}
-use Rattle.run_machine.proofs.Beginnings as begins
-use Rattle.run_machine.proofs.Texts.{device, disk as disk_of, stack_of, SaysScenario, says_of}
+use Rattle.run_machine.proofs.Texts.{device, disk as disk_of, stack_of, says_of}
+use Rattle.run_machine.proofs.TextRuns.{IsRunOfText, run_of_text}
 use Rattle.run_machine.proofs.Turns.{Turn, follow, AreTurns, turns_run, takes, on_disk, in_book, all_home}
 
 -- disks 0 and 1 of eight sectors, device 2 that lets at most two sectors pass to disk 0, and device 3 with device 2 and then disk 1
@@ -329,12 +329,8 @@ module _ (memory : Global) where
   records_are (suc (suc (suc zero))) = refl
   records_are (suc (suc (suc (suc n)))) = refl
 
-  tasks_are : tasks ≡ texts.opened_tasks scenario
-  unfolding tree_below over_shape
-  tasks_are = refl
-
-  is_of_text : IsOfScenario setup reserve tally scenario
-  is_of_text = record {
+  is_as_written : IsOfScenario setup reserve tally scenario
+  is_as_written = record {
     count_is = refl;
     tree_is = tree_is;
     rescuer_is = rescuer_is;
@@ -344,10 +340,8 @@ module _ (memory : Global) where
     tally_is = refl;
   }
 
-  text_runs : (some : LedgerId) → IsRun (texts.scene scenario (ledger some)) (texts.start scenario) (events some) (follow setup start (turns some))
-  text_runs some =
-      begins.text_runs setup reserve tally scenario is_of_text tasks tasks_are (ledger some) (events some) (follow setup start (turns some)) (split_runs some)
-
-  says : SaysScenario text scenario
-  unfolding refusal without_empty_end first_found command_of is_name number_of meaning pool_at over_shape size_of smallest needed elements_begun head slot among piece_end next_member
-  says = says_of text scenario refl (refl, (refl, (refl, (refl, tt)))) refl
+  is_of_text : IsRunOfText text scenario ledger events (λ some. follow setup start (turns some))
+  unfolding refusal without_empty_end first_found command_of is_name number_of meaning pool_at tree_below over_shape size_of smallest needed elements_begun head slot among piece_end next_member
+  is_of_text =
+      run_of_text setup reserve tally tasks text scenario is_as_written refl
+      (says_of text scenario refl (refl, (refl, (refl, (refl, tt)))) refl) ledger events (λ some. follow setup start (turns some)) split_runs

@@ -1,8 +1,7 @@
 -- Calls that found no ticket.
-use Rattle.std.proofs.Common.{◌≡◌, not, ℕ, Bool, true, false, List, [], ◌∷◌, Option, None, Some, refl, sym, ◌∙◌, ap}
+use Rattle.std.proofs.Common.{◌≡◌, true, false, List, refl, sym, ◌∙◌}
 use Rattle.std.specs.Prelude.{Contains}
-use Rattle.std.proofs.lemmas.Bool.{true≢false}
-use Rattle.std.proofs.lemmas.List.Elements.{Contains-append_right}
+use Rattle.std.proofs.lemmas.Bool.{true≢false, true_from_ne_false}
 use Rattle.bio_books.specs.Books.{BookState}
 use Rattle.bio_records.specs.Rescue.{Rescue}
 use Rattle.model_disks.specs.Disks.{DiskState}
@@ -16,12 +15,12 @@ use Rattle.object_things.specs.Disks.{DiskLooks}
 use Rattle.object_things.specs.Histories.{Call, FoundNone}
 use Rattle.object_things.specs.Lists.{ListLooks}
 use Rattle.object_things.specs.Pools.{PoolLooks}
-use Rattle.object_things.specs.Stamps.{ThingState, StepOf, is_spent}
+use Rattle.object_things.specs.Stamps.{ThingState, is_spent}
 use Rattle.object_things.specs.Tallies.{TallyLooks}
+use Rattle.object_things.proofs.Rising.{marks}
 use Rattle.object_things.proofs.Spent.{book_unserved, book_keeps, disk_unserved, disk_keeps, list_unserved, list_keeps, pool_unserved, pool_keeps, tally_unserved, tally_keeps}
-use Rattle.shared_objects.specs.Kinds.{ThingAt, serves_at, looks_at, answers_at}
+use Rattle.shared_objects.specs.Kinds.{ThingAt, serves_at, looks_at, chooses_at, answers_at}
 use Rattle.shared_objects.specs.Logs.{is_stop}
-use Rattle.shared_objects.proofs.tickets.CallOwners.{first_there}
 
 -- a look that is not told that there was no ticket leaves the object marked or unmarked
 look_keeps : (name : Object) (old new : ThingState (ThingAt name)) (asked : Request) (reply : Reply) → looks_at name old asked reply new → is_spent reply ≡ false → new.spent ≡ old.spent
@@ -31,15 +30,6 @@ look_keeps (OfDisk dev) old new asked reply looks not_none = disk_keeps old new 
 look_keeps (OfBook writer) old new asked reply looks not_none = book_keeps old new asked reply looks not_none
 look_keeps OfTally old new asked reply looks not_none = tally_keeps old new asked reply looks not_none
 look_keeps OfNone old new asked reply looks not_none = absurd looks
-
--- an object that had tickets has none after a look: then it said so
-pub looks_spent : (name : Object) (old new : ThingState (ThingAt name)) (asked : Request) (reply : Reply) → looks_at name old asked reply new → old.spent ≡ false → new.spent ≡ true
-    → is_spent reply ≡ true
-looks_spent name old new asked reply looks had none = by_test (is_spent reply) refl
-  where
-    by_test : (b : Bool) → is_spent reply ≡ b → b ≡ true
-    by_test true is = refl
-    by_test false is = absurd (true≢false (sym none ∙ look_keeps name old new asked reply looks is ∙ had))
 
 -- nothing that was served said so
 pub none_served : {X : Type 0} (name : Object) (old new : ThingAt name) (asked : Request) → serves_at name old asked NoTicket new → X
@@ -53,22 +43,7 @@ none_served OfNone old new asked serves = absurd serves
 -- where an object has no more tickets, a call found none
 pub found_none : (name : Object) (old new : ThingState (ThingAt name)) (calls : List Call) → Leads (answers_at name) old calls new → old.spent ≡ false → new.spent ≡ true
     → (call : Call) × Contains calls call × FoundNone call
-found_none name old new [] leads had none = absurd (true≢false (sym none ∙ ap (λ (thing : ThingState (ThingAt name)). thing.spent) (sym leads) ∙ had))
-found_none name old new (call ∷ calls) leads had none =
-    by_ticket call.told.drawn refl leads.1.step leads.0.spent refl (λ still. found_none name leads.0 new calls leads.2 still none)
-  where
-    Found : List Call → Type 0
-    Found list = (x : Call) × Contains list x × FoundNone x
-
-    further : Found calls → Found (call ∷ calls)
-    further (x, there, found) = (x, Contains-append_right (call ∷ []) calls x there, found)
-
-    by_ticket : (ticket : Option ℕ) → call.told.drawn ≡ ticket → StepOf (serves_at name) (looks_at name) old call.asked call.told.reply ticket leads.0 → (b : Bool) → leads.0.spent ≡ b
-        → (leads.0.spent ≡ false → Found calls) → Found (call ∷ calls)
-    by_ticket ticket t step false is rest = further (rest is)
-    by_ticket (Some n) t step true is rest = absurd (true≢false (sym is ∙ step.4))
-    by_ticket None t step true is rest =
-        (call, first_there call calls, (looks_spent name old leads.0 call.asked call.told.reply step.0 had is, leads.1.drew ∙ ap not had, t))
+found_none name = marks (serves_at name) (looks_at name) (chooses_at name) (look_keeps name)
 
 -- a look after which a task has no ticket is all that stops it
 pool_goes : (old new : ThingState LedgerPool) (asked : Request) (reply : Reply) → PoolLooks old asked reply new → is_spent reply ≡ false → is_stop asked reply ≡ false
@@ -121,8 +96,5 @@ look_goes OfTally old new asked reply looks not_none = tally_goes old new asked 
 look_goes OfNone old new asked reply looks not_none = absurd looks
 
 pub stop_spent : (name : Object) (old new : ThingState (ThingAt name)) (asked : Request) (reply : Reply) → looks_at name old asked reply new → is_stop asked reply ≡ true → is_spent reply ≡ true
-stop_spent name old new asked reply looks stop = by_test (is_spent reply) refl
-  where
-    by_test : (b : Bool) → is_spent reply ≡ b → b ≡ true
-    by_test true is = refl
-    by_test false is = absurd (true≢false (sym stop ∙ look_goes name old new asked reply looks is))
+stop_spent name old new asked reply looks stop =
+    true_from_ne_false (is_spent reply) (λ is. true≢false (sym stop ∙ look_goes name old new asked reply looks is))

@@ -1,6 +1,5 @@
 -- What is noted along entries with tickets: of one task, and of all.
 use Rattle.std.proofs.Common.{◌≡◌, ◌⊎◌, ◌<◌, ◌≤◌, ◌++◌, ◌==◌, cond, if◌then◌else◌, ℕ, Bool, true, false, List, [], ◌∷◌, Option, None, Some, filter, map, inl, inr, refl, sym, ◌∙◌, ap, subst, arith}
-use Rattle.std.specs.Option.{is_some}
 use Rattle.std.specs.Prelude.{All, Contains}
 use Rattle.std.proofs.lemmas.Bool.{true≢false, eq-eqb, eqb-true, eqb-false}
 use Rattle.std.proofs.lemmas.List.Elements.{All-cons, All-head, All-nil, All-tail, Contains-append_left, Contains-append_right, Contains-append_cases}
@@ -19,6 +18,7 @@ use Rattle.object_things.specs.Histories.{Call, or_last}
 use Rattle.shared_objects.specs.Logs.{is_event, is_stop, LogLeads}
 use Rattle.shared_objects.specs.Noting.{noted_as, notes_of}
 use Rattle.shared_objects.proofs.logs.CallsLead.{kinds, stop_kind}
+use Rattle.shared_objects.proofs.logs.StepNotes.{no_what}
 use Rattle.shared_objects.proofs.steps.GlanceStays.{event_struck}
 use Rattle.run_merge.specs.Entries.{Entry, entries_in}
 use Rattle.run_merge.specs.Merging.{Ticketed, without_tickets}
@@ -212,10 +212,6 @@ module _ (setup : Setup) where
     where
       others : AskSome calls
       others = All-tail (λ (c : Call). object_of c.asked ≡ OfNone → ⊥) call calls some
-
-      no_what : (what : Option What) → is_some what ≡ false → what ≡ None
-      no_what None none = refl
-      no_what (Some what) none = absurd (true≢false none)
 
       by_event : (told : Bool) → is_told call ≡ told → notes_of setup (answered setup first call.told.reply) calls ≡ own_notes setup (answered setup first call.told.reply) (ticketed_events calls)
           → noted_as (or_last 0 call.told.drawn) first (what_of (request setup first) call.told.reply) ++ notes_of setup (answered setup first call.told.reply) calls

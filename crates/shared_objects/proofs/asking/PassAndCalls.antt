@@ -8,7 +8,7 @@ use Rattle.run_machine.specs.Laws.{Object, object_of}
 use Rattle.run_machine.specs.Requests.{Request, Reply}
 use Rattle.object_things.specs.declared.stamp.Asking.{Asking}
 use Rattle.object_things.specs.declared.stamp.Replied.{Replied}
-use Rattle.object_things.specs.Stamps.{Told, PassBy, is_spent}
+use Rattle.object_things.specs.Stamps.{Told, PassBy, PassByReply, is_spent, told_by}
 use Rattle.shared_objects.specs.Calling.{FitsWith, HasAsked}
 use Rattle.shared_objects.specs.Calls.{CallsAt, with_call}
 use Rattle.shared_objects.specs.Desks.{HasCalled, PassOn}
@@ -45,14 +45,6 @@ pub record SeatCalls {T : Type 0} (task : ℕ) (old new : Known T Request Told) 
   pub calls : own new ≡ own old ++ record { by = task + 1; asked = asked; told = told } ∷ []
   pub pass : PassOn before told.note (is_spent told.reply) told.drew told.drawn after
 
--- what a history keeps of a reply
-abbrev pub told_by : {S : Type 0} → (S → Reply) → Replied S → Told
-told_by reply_of replied = record { reply = reply_of replied.said; note = replied.note; drew = replied.drew; drawn = replied.drawn.value; chosen = replied.chosen.value; ticket = replied.ticket }
-
--- what is owed of the pass
-abbrev pub PassesBy : {S Q : Type 0} → (S → Reply) → Asking Q → Replied S → Type 0
-PassesBy reply_of asking replied = PassBy asking.pass replied.note (is_spent (reply_of replied.said)) replied.drew replied.drawn.value replied.pass
-
 module _ {Q S T : Type 0} (asked_of : Q → Request) (reply_of : S → Reply) {owes : Asking Q → Replied S → Type 0} {old new : Known T Request Told}
     {before after : Option PassState} {ask : Q} {said : S}
     (made : HasAsked (λ (asking : Asking Q). asked_of asking.ask) (told_by reply_of) owes old before ask said new after) where
@@ -60,7 +52,7 @@ module _ {Q S T : Type 0} (asked_of : Q → Request) (reply_of : S → Reply) {o
   asking = record { pass = made.pass; ask = ask }
 
   -- where the pass is owed, the task has made a call
-  abbrev pub seat_calls : (task : ℕ) → IsNumbered task old → (owes asking made.replied → PassesBy reply_of asking made.replied)
+  abbrev pub seat_calls : (task : ℕ) → IsNumbered task old → (owes asking made.replied → PassByReply reply_of asking.pass made.replied)
       → SeatCalls task old new before (asked_of ask) (reply_of said) after
   seat_calls task is passes =
       let told : Told = told_by reply_of made.replied in

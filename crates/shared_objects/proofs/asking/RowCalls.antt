@@ -9,12 +9,12 @@ use Rattle.run_machine.specs.Requests.{Request, Reply}
 use Rattle.object_things.specs.declared.stamp.Asking.{Asking}
 use Rattle.object_things.specs.declared.stamp.Replied.{Replied}
 use Rattle.object_things.specs.Histories.{Call}
-use Rattle.object_things.specs.Stamps.{CommonState, MarkState, Told}
+use Rattle.object_things.specs.Stamps.{CommonState, MarkState, PassByReply, Told, told_by}
 use Rattle.shared_objects.specs.Calling.{AreSeatedAt, FitsWith, HasAskedAt}
 use Rattle.shared_objects.specs.Calls.{CallsAt, with_call}
 use Rattle.shared_objects.specs.Desks.{HasCalled}
 use Rattle.shared_objects.specs.Holding.{AreLocked, AreSeatsOf, IsPassOf, IsSeatOf, calls_in}
-use Rattle.shared_objects.proofs.asking.PassAndCalls.{SeatCalls, PassesBy, fits_with, has_called, home_again, numbered_stays, owed_of, seat_calls, told_by}
+use Rattle.shared_objects.proofs.asking.PassAndCalls.{SeatCalls, fits_with, has_called, home_again, numbered_stays, owed_of, seat_calls}
 use Rattle.shared_objects.proofs.asking.RowSeats.{named_at, seat_of, seated_at, calls_now, seats_now}
 
 abbrev pub mark_as : CommonState → Object → MarkState
@@ -47,7 +47,7 @@ module _ {K T : Type 0} {key : K → ℕ} {mark : T → MarkState} {name : ℕ �
     pub seat_is_of : IsSeatOf task made.lock.1 made.seat.1
     seat_is_of = seat_of locked seated n i is place made.lock made.lock_is made.seat made.seat_is
 
-    module _ (passes : (m : MarkState) (asking : Asking Q) (replied : Replied S) → owes m asking replied → PassesBy reply_of asking replied) where
+    module _ (passes : (m : MarkState) (asking : Asking Q) (replied : Replied S) → owes m asking replied → PassByReply reply_of asking.pass replied) where
       abbrev pub row_call : SeatCalls task made.seat.1.known made.now.known before (asked_of ask) (reply_of said) after
       row_call =
           seat_calls asked_of reply_of made.made task seat_is_of.numbered

@@ -16,7 +16,7 @@ use Rattle.shared_objects.specs.Desks.{DeskState, DeskServes, HasCalled, PassOn}
 use Rattle.shared_objects.specs.Holding.{DeskHolds, desk_of, stage_at}
 use Rattle.shared_objects.specs.Logs.{seen_by}
 use Rattle.shared_objects.specs.Noting.{IsBlank, NotesStep}
-use Rattle.shared_objects.specs.Rans.{IsNewDesk, IsOtherPass, ProgressState, RanHolds, RanKey, RanState, StepsKeepTasks, events_after, ran_key, ran_of, stopped_after, unstepped, TurnsWith}
+use Rattle.shared_objects.specs.Rans.{IsNewDesk, IsOtherPass, ProgressState, RanHolds, RanKey, RanState, StepsKeepTasks, events_after, ran_key, ran_of, stopped_after, unstepped, TurnsWith, ran_from}
 use Rattle.shared_objects.specs.declared.locks.Locks.{Locks}
 use Rattle.shared_objects.specs.declared.noted.Noted.{Noted}
 use Rattle.shared_objects.specs.declared.seats.TaskSeats.{TaskSeats}
@@ -85,7 +85,7 @@ serves_keep old asked reply new it = call_keeps old (struck asked) reply new it
 -- A task with its seats after a step, at a desk of the locks that they are of.
 abbrev stepped_to : RanState → TaskOf → TaskSeats → Step → Option Noted → RanState
 stepped_to ran task seats step noted =
-    record { task = task; seats = seats; first = ran.first; home = ran.home; events = events_after step ran.events; stopped = stopped_after step ran.stopped; noted = noted }
+    ran_from task seats ran.first ran.home (events_after step ran.events) (stopped_after step ran.stopped) noted
 
 module _ (ran : RanState) (holds : RanHolds ran) (task : TaskOf) (seats : TaskSeats) (step : Step)
     (turns : TurnsWith ran.home ran.task ran.seats task seats step) where
@@ -124,11 +124,11 @@ module _ (ran : RanState) (holds : RanHolds ran) (task : TaskOf) (step : Step) (
 
   pub calls_keep : DeskHolds left seats → task.routing ≡ ran.task.routing → (events : ℕ) (stopped : Bool) (noted : Option Noted)
       → events ≡ events_after step ran.events → stopped ≡ stopped_after step ran.stopped → NotesStep step (seen_by seats.pass) ran.noted noted
-      → RanHolds (record { task = task; seats = seats; first = ran.first; home = ran.home; events = events; stopped = stopped; noted = noted })
+      → RanHolds (ran_from task seats ran.first ran.home events stopped noted)
   calls_keep desk same events stopped noted events_is stopped_is goes =
       let kept = subst (λ l. DeskHolds l seats) (stays ∙ at_home) desk in
-      subst (λ e. RanHolds (record { task = task; seats = seats; first = ran.first; home = ran.home; events = e; stopped = stopped; noted = noted })) (sym events_is)
-      (subst (λ s. RanHolds (record { task = task; seats = seats; first = ran.first; home = ran.home; events = events_after step ran.events; stopped = s; noted = noted })) (sym stopped_is)
+      subst (λ e. RanHolds (ran_from task seats ran.first ran.home e stopped noted)) (sym events_is)
+      (subst (λ s. RanHolds (ran_from task seats ran.first ran.home (events_after step ran.events) s noted)) (sym stopped_is)
       (step_holds ran holds task seats step turns_home_with kept same noted goes))
 
 -- the same of a task that stood at a desk, and is put together again

@@ -30,6 +30,11 @@ all_right : {X : Type 0} (P : X → Type 0) (xs ys : List X) → All P (xs ++ ys
 all_right P [] ys all = all
 all_right P (x ∷ xs) ys all = all_right P xs ys (All-tail P x (xs ++ ys) all)
 
+-- where a call tells of nothing, it is no event
+pub no_what : (what : Option What) → is_some what ≡ false → what ≡ None
+no_what None none = refl
+no_what (Some what) none = absurd (cc none)
+
 -- an event drew a ticket
 abbrev pub HasTicket : Call → Type 0
 HasTicket call = is_event call.asked call.told.reply ≡ true → is_some call.told.drawn ≡ true
@@ -51,10 +56,6 @@ module _ (setup : Setup) where
   abbrev next_notes : TaskState → Call → List Call → Bool → List (ℕ × Event)
   next_notes task call calls glance =
       if glance then notes_of setup task calls else note_of setup task call ++ notes_of setup (answered setup task call.told.reply) calls
-
-  no_what : (what : Option What) → is_some what ≡ false → what ≡ None
-  no_what None none = refl
-  no_what (Some what) none = absurd (cc none)
 
   glances_note : (before calls : List Call) (task last : TaskState) → All (λ (c : Call). is_glance c.asked c.told.reply ≡ true) calls → notes_of setup task calls ≡ []
   glances_note before [] task last all = refl

@@ -102,14 +102,15 @@ impl<'a, R: Wait> Caller<'a, R> {
 }
 
 impl<'a, R: Wait> Objects for Caller<'a, R> {
-    ghost use Rattle.shared_objects.specs.Desks.{DeskFinds, DeskPicks, DeskServes};
+    ghost use Rattle.shared_objects.specs.Callers.{CallerServes};
+    ghost use Rattle.shared_objects.specs.Desks.{DeskFinds, DeskPicks};
     ghost use Rattle.shared_objects.specs.Holding.{DeskHolds, desk_of, stage_at};
 
     ghost stage = { λ caller. stage_at caller.locks.now };
 
     ghost holds = { λ caller. DeskHolds caller.locks.now caller.seats.now };
 
-    ghost serves = { λ old request reply new. DeskServes (desk_of old.seats.now) request reply (desk_of new.seats.now) × (new.locks.now ≡ old.locks.now) × (new.seats.ghost_name ≡ old.seats.ghost_name) };
+    ghost serves = { CallerServes };
 
     ghost picks = { λ old new. DeskPicks (desk_of old.seats.now) (desk_of new.seats.now) };
 

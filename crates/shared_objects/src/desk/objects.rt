@@ -1,5 +1,4 @@
 //! A desk as the objects of its task: each call is one by the seats that it has.
-ghost use Rattle.std.specs.Prelude.{◌≡◌};
 
 use crate::caller::Caller;
 use crate::desk::Desk;
@@ -12,14 +11,15 @@ use std::sync::Wait;
 use task_steps::{Ask, Chooser, Objects, Unmade};
 
 impl<'a, R: Wait> Objects for Desk<'a, R> {
-    ghost use Rattle.shared_objects.specs.Desks.{DeskFinds, DeskPicks, DeskServes};
+    ghost use Rattle.shared_objects.specs.Callers.{OwnDeskServes};
+    ghost use Rattle.shared_objects.specs.Desks.{DeskFinds, DeskPicks};
     ghost use Rattle.shared_objects.specs.Holding.{DeskHolds, desk_of, stage_at};
 
     ghost stage = { λ desk. stage_at desk.locks.now };
 
     ghost holds = { λ desk. DeskHolds desk.locks.now desk.seats };
 
-    ghost serves = { λ old request reply new. DeskServes (desk_of old.seats) request reply (desk_of new.seats) × (new.locks.now ≡ old.locks.now) };
+    ghost serves = { OwnDeskServes };
 
     ghost picks = { λ old new. DeskPicks (desk_of old.seats) (desk_of new.seats) };
 

@@ -1,5 +1,5 @@
-use Rattle.trace_replay.proofs.Traced as traced
+use Rattle.trace_replay.proofs.ReplayedToEnd as to_end
 use Rattle.trace_replay.proofs.laws.reported_runs_replay.Goals as goal
 
 pub returns : goal.returns
-returns c = traced.reported_runs_replay c.traces_replay.ensures c.reports_tell_no_event.ensures
+returns c = to_end.reported_runs_replay c.traces_replay.ensures c.reports_tell_no_event.ensures

@@ -2,7 +2,7 @@ use Rattle.task_steps.specs.Routed.{routing_setup}
 use Rattle.run_machine.specs.Tasks.{request}
 use Rattle.plain_core.specs.steps.Free.{CanFree, TaskIsLet}
 use Rattle.plain_core.specs.steps.Views.{task_of_plain}
-use Rattle.plain_core.proofs.step_lemmas.Freed.{tells_free}
+use Rattle.plain_core.proofs.step_lemmas.AnsweredByNeed.{tells_free}
 use Rattle.plain_core.proofs.step_lemmas.Needed.{tells_both}
 use Rattle.plain_core.proofs.steps.free.task_is_free.Goals as goal
 

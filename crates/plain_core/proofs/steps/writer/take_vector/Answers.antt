@@ -1,5 +1,5 @@
 use Rattle.std.proofs.Common.{inl, inr, ap, ◌∙◌, Ok}
-use Rattle.plain_core.proofs.object_lemmas.Taken.{vec_had, vec_missed, vec_refused}
+use Rattle.plain_core.proofs.object_lemmas.PoolAttempts.{vec_had, vec_missed, vec_refused}
 use Rattle.plain_core.proofs.steps.writer.take_vector.Goals as goal
 
 pub returns-in-Err : goal.returns-in-Err

@@ -1,5 +1,5 @@
 use Rattle.std.proofs.Common.{inl, inr, ap, ◌∙◌, Ok}
-use Rattle.plain_core.proofs.object_lemmas.Taken.{part_had, part_missed, part_refused}
+use Rattle.plain_core.proofs.object_lemmas.PoolAttempts.{part_had, part_missed, part_refused}
 use Rattle.plain_core.proofs.steps.submission.take.take_part.Goals as goal
 
 pub returns-in-Err : goal.returns-in-Err

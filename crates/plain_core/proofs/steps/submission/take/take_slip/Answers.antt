@@ -1,5 +1,5 @@
 use Rattle.std.proofs.Common.{inl, inr, ap, ◌∙◌, Ok}
-use Rattle.plain_core.proofs.object_lemmas.Taken.{slip_had, slip_missed, slip_refused}
+use Rattle.plain_core.proofs.object_lemmas.PoolAttempts.{slip_had, slip_missed, slip_refused}
 use Rattle.plain_core.proofs.steps.submission.take.take_slip.Goals as goal
 
 pub returns-in-Err : goal.returns-in-Err
