@@ -2,7 +2,7 @@
 use Rattle.std.proofs.Common.{◌≡◌, ◌^◌, ℕ, zero, suc, ◌+◌, ◌-◌, ◌*◌, ◌/◌, ◌%◌, ◌<◌, ◌≤◌, List, [], ◌∷◌, length, get_or, drop, sum, inl, inr, refl, ap, ◌∙◌, sym, subst, arith}
 use Rattle.std.proofs.lemmas.Bool.{cases_lt}
 use Rattle.std.specs.List.{sum_by}
-use Rattle.std.proofs.lemmas.List.{drop_more, drop_all}
+use Rattle.std.proofs.lemmas.List.{drop_more}
 use Rattle.std.proofs.lemmas.List.Sums.{sum_by-cons, get_or-le-sum_by}
 use Rattle.std.proofs.lemmas.Nat.{div_below}
 use Rattle.std.proofs.Math.Nat.{mul_comm}
@@ -10,6 +10,7 @@ use Rattle.stack_base.specs.declared.stack.Kind.TheVariants.{Zoned}
 use Rattle.stack_base.specs.Mapping.{Slot, Zone, size_of, slot, whole_chunks, zones, zones_from, levels, in_zone, in_zones}
 use Rattle.stack_base.proofs.Inside.{zoned_inside}
 use Rattle.stack_base.proofs.Zones.{in_zones-in, in_zones-behind}
+use Rattle.zoned_map.specs.Members.{Members, IsZoned}
 use Rattle.zoned_map.proofs.Places.{zones_whole}
 
 abbrev chunks_of : List Zone → ℕ
@@ -93,3 +94,27 @@ is_found chunk sizes start left place zs zone pos lt fits are is within this her
       place = chunk_is;
       small = subst (λ (to : Slot). to.at * chunk + start % chunk < 2 ^ 32) chunk_is (place_small chunk sizes start pos lt fits);
     }
+
+-- the place in it is a small number by any number that is how many members it has
+pub small_by : {chunk : ℕ} {sizes : List ℕ} {start left : ℕ} {zone : Zone} → IsFound chunk sizes start left zone → {members : ℕ} → members ≡ length zone.members
+    → (zone.base + left / members) * chunk + start % chunk < 2 ^ 32
+small_by {chunk} {sizes} {start} {left} {zone} found is = subst (λ n. (zone.base + left / n) * chunk + start % chunk < 2 ^ 32) (sym is) found.small
+
+-- a zoned device that is asked for the piece of a run within it
+module _ {chunk : ℕ} {sizes : List ℕ} {sectors : ℕ} {kept : List Zone} {view : Members} (start : ℕ) {len : ℕ} (is : IsZoned chunk sizes sectors kept)
+    (view_is : record { chunk = chunk; sizes = sizes } ≡ view) (some : 1 ≤ len) (within : start + len ≤ size_of (Zoned view.chunk) view.sizes) where
+  begins : start < size_of (Zoned chunk) sizes
+  begins = omega (arith, some, within, ap (λ (v : Members). size_of (Zoned v.chunk) v.sizes) view_is)
+
+  -- looks for the run's first chunk from its first zone on
+  pub first_zone : {zs : List Zone} → zs ≡ kept → IsChunkFrom zs (start / chunk) 0 (start / chunk)
+  first_zone are =
+      subst (λ (zs : List Zone). IsChunkFrom zs (start / chunk) 0 (start / chunk)) (sym (are ∙ is.zones)) (left_first chunk sizes start is.shape.0 begins)
+
+  -- and finds it in the zone at this place, where that has more chunks than stand before it there
+  pub found_in : {zs : List Zone} {left place : ℕ} {zone seen : Zone} → zs ≡ kept → IsChunkFrom zs (start / chunk) place left → place < length zs
+      → zone ≡ get_or zs place zone → seen ≡ zone → left < seen.chunks → IsFound chunk sizes start left seen
+  found_in {zs} {left} {place} {zone} {seen} are from there zone_is seen_is here =
+      subst (IsFound chunk sizes start left) (sym seen_is)
+      (is_found chunk sizes start left place zs zone is.shape.0 begins is.small (are ∙ is.zones) from there zone_is
+      (omega (arith, ap (λ (z : Zone). z.chunks) seen_is, here)))

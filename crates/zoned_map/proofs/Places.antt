@@ -11,7 +11,7 @@ use Rattle.stack_base.specs.Mapping.{Slot, size_of, slot, whole_chunks, Zone, zo
 use Rattle.stack_base.proofs.WholeChunks.{whole_chunks_le, chunk_count_le}
 use Rattle.stack_base.proofs.Passing.{passing, passing-yes, passing-no, passing_there}
 use Rattle.stack_base.proofs.Zones.{IsEnumeration, before, chunk_rank, sum_from, next_before, total_ends, none_before, levels_enumerate, total_sum, chunk_forward, chunk_back}
-use Rattle.zoned_map.specs.Members.{IsPlace, IsSectorOf}
+use Rattle.zoned_map.specs.Members.{Members, IsPlace, IsSectorOf, IsZoned}
 use Rattle.zoned_map.specs.Numbers as spec
 use Rattle.zoned_map.proofs.Ranges.{total_range}
 
@@ -133,3 +133,22 @@ counts_small chunk sizes small = omega (arith, small, sum-map (λ (size : ℕ). 
 pub sector_small : (chunk : ℕ) (sizes : List ℕ) (m at s : ℕ) → IsPlace chunk sizes m at s → sum sizes < 2 ^ 32 → s < 2 ^ 32
 unfolding size_of
 sector_small chunk sizes m at s is small = omega (arith, is.0, whole_chunks_le chunk sizes)
+
+-- a zoned device that is asked for the sector that one of a member of its is, by counts of chunks that are its members' own
+module _ {chunk : ℕ} {sizes : List ℕ} {sectors : ℕ} {kept : List Zone} {view : Members} {m : ℕ} (is : IsZoned chunk sizes sectors kept)
+    (view_is : record { chunk = chunk; sizes = sizes } ≡ view) (asked : m < length view.sizes) where
+  within : m < length sizes
+  within = omega (arith, asked, ap (λ (v : Members). length v.sizes) view_is)
+
+  -- it is in a whole chunk of the member: that with the number that was counted
+  module _ {at : ℕ} {counts : List ℕ} (are : counts ≡ whole_chunks chunk sizes) (has : at / chunk < slice_index counts m) where
+    pub found_at : {number : ℕ} → number ≡ spec.chunk_number counts m (at / chunk) → IsSectorOf chunk sizes m at (Some (number * chunk + at % chunk))
+    found_at {number} number_of =
+        let same : number ≡ chunk_rank (whole_chunks chunk sizes) m (at / chunk) =
+        number_of ∙ ap (λ xs. spec.chunk_number xs m (at / chunk)) are ∙ sym (number_is (whole_chunks chunk sizes) m (at / chunk)) in
+        subst (λ n. IsSectorOf chunk sizes m at (Some (n * chunk + at % chunk))) (sym same)
+        (sector_found chunk sizes is.shape.0 m at within (subst (λ xs. at / chunk < slice_index xs m) are has))
+
+  -- or behind them, where none is
+  pub none_at : {at : ℕ} {counts : List ℕ} → counts ≡ whole_chunks chunk sizes → slice_index counts m ≤ at / chunk → IsSectorOf chunk sizes m at None
+  none_at {at} are ends = sector_none chunk sizes is.shape.0 m at within (subst (λ xs. slice_index xs m ≤ at / chunk) are ends)
