@@ -32,9 +32,13 @@ unlike one other = unlike_of (length one / 64) one other
 abbrev pub sectors_differ : List ℕ → List ℕ → ℕ → Bool
 sectors_differ one other place = not (equal_words (take 64 (drop (64 * place) one)) (take 64 (drop (64 * place) other)))
 
--- the first place at or behind `from` at which sectors differ, or at which they do not, or how many there are where there is none
-pub record IsFirstSector (one other : List ℕ) (from : ℕ) (differing : Bool) (place : ℕ) : Type 0 where
+-- the first place at or behind `from`, of those before `end`, at which a test tells this, or `end` where there is none
+pub record IsFirstWhere (test : ℕ → Bool) (from end : ℕ) (is : Bool) (place : ℕ) : Type 0 where
   pub behind : from ≤ place
-  pub within : place ≤ length one / 64
-  pub others : (i : ℕ) → from ≤ i → i < place → sectors_differ one other i ≡ not differing
-  pub here : place < length one / 64 → sectors_differ one other place ≡ differing
+  pub within : place ≤ end
+  pub others : (i : ℕ) → from ≤ i → i < place → test i ≡ not is
+  pub here : place < end → test place ≡ is
+
+-- the first at which sectors differ, or at which they do not
+abbrev pub IsFirstSector : List ℕ → List ℕ → ℕ → Bool → ℕ → Type 0
+IsFirstSector one other from differing place = IsFirstWhere (sectors_differ one other) from (length one / 64) differing place

@@ -60,12 +60,14 @@ module _ (s : Stretch) (place : ℕ) (one other : List ℕ) (are : AreWordsFrom 
   first_is so found some first = record {
     some = omega (arith, some);
     short = are.short;
-    behind = omega arith;
-    within = omega (arith, first.within);
-    others = λ i le lt.
-        let there : place + (i - place) ≡ i = omega (arith, le) in
-        ap (differ_at s) (sym there)
-        ∙ sym (are.same (i - place) (omega (arith, le, lt, first.within)))
-        ∙ first.others (i - place) (omega arith) (omega (arith, le, lt));
-    here = λ lt. sym (are.same found (omega (arith, lt))) ∙ first.here (omega (arith, lt));
+    first = record {
+      behind = omega arith;
+      within = omega (arith, first.within);
+      others = λ i le lt.
+          let there : place + (i - place) ≡ i = omega (arith, le) in
+          ap (differ_at s) (sym there)
+          ∙ sym (are.same (i - place) (omega (arith, le, lt, first.within)))
+          ∙ first.others (i - place) (omega arith) (omega (arith, le, lt));
+      here = λ lt. sym (are.same found (omega (arith, lt))) ∙ first.here (omega (arith, lt));
+    };
   }

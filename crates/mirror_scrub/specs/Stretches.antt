@@ -2,7 +2,7 @@
 use Rattle.std.specs.Prelude.{◌≡◌, ◌+◌, ◌/◌, ◌%◌, ◌<◌, ◌≤◌, not, ℕ, Bool, true, false, List, [], Option, MatchOption, length, slice_index_or}
 use Rattle.stack_base.specs.Stack.{IsStack}
 use Rattle.stack_base.specs.Tree.{size, tree}
-use Rattle.image_lanes.specs.Lanes.{equal_words, sectors_differ}
+use Rattle.image_lanes.specs.Lanes.{IsFirstWhere, equal_words, sectors_differ}
 use Rattle.stack_base.specs.declared.ids.Range.{Range}
 use Rattle.model_disks.specs.Runs.{IsFirst}
 use Rattle.mirror_scrub.specs.declared.pair.Pair.{Pair}
@@ -52,21 +52,15 @@ pub record IsStretchOf (p : Pair) (start : ℕ) (s : Stretch) : Type 0 where
   pub within : LiesInDisks s
   pub same : (i : ℕ) → i < s.len → differ_at s i ≡ differ_in p (start + i)
 
--- the first place at or behind `from` that is so, or the length where there is none
-pub record IsFirstSo (s : Stretch) (from : ℕ) (so : Bool) (place : ℕ) : Type 0 where
-  pub behind : from ≤ place
-  pub within : place ≤ s.len
-  pub others : (i : ℕ) → from ≤ i → i < place → differ_at s i ≡ not so
-  pub here : place < s.len → differ_at s place ≡ so
+-- the first place at or behind `from` at which they differ, or at which they do not, or the length where there is none
+abbrev pub IsFirstInStretch : Stretch → ℕ → Bool → ℕ → Type 0
+IsFirstInStretch s from so place = IsFirstWhere (differ_at s) from s.len so place
 
--- the first place at or behind `from` that is so, of those before `end`, or `end` where there is none
+-- the first of those before `end`, or `end` where there is none
 pub record IsFirstUpTo (s : Stretch) (from end : ℕ) (so : Bool) (place : ℕ) : Type 0 where
   pub some : from < end
   pub short : end ≤ s.len
-  pub behind : from ≤ place
-  pub within : place ≤ end
-  pub others : (i : ℕ) → from ≤ i → i < place → differ_at s i ≡ not so
-  pub here : place < end → differ_at s place ≡ so
+  pub first : IsFirstWhere (differ_at s) from end so place
 
 -- the run begins at the first flag at or behind `from` that is set, and ends at the first one behind it that is not
 pub record IsFirstSetRun (flags : List Bool) (from : ℕ) (run : Range) : Type 0 where

@@ -1,7 +1,7 @@
 //! Sectors of two disks, as many of each, that follow one another on both.
 ghost use Rattle.std.specs.Prelude.{◌≡◌, ◌+◌, ◌<◌, ◌≤◌};
 ghost use Rattle.std.specs.List.{count_by, range_with_len};
-ghost use Rattle.mirror_scrub.specs.Stretches.{AreWordsFrom, IsFirstSo, IsFirstUpTo, LiesInDisks, differ_at};
+ghost use Rattle.mirror_scrub.specs.Stretches.{AreWordsFrom, IsFirstInStretch, IsFirstUpTo, LiesInDisks, differ_at};
 
 use image_lanes::{count_unlike, first_sector, same};
 use model_disks::Disk;
@@ -98,7 +98,7 @@ impl<'d> Stretch<'d> {
     pub fn first(&self, from: u64, differing: bool) -> u64
         requires within { LiesInDisks self.now }
         requires from { from ≤ self.now.len }
-        ensures { IsFirstSo self.now from differing result }
+        ensures { IsFirstInStretch self.now from differing result }
     {
         let mut start = from;
         'looking: while start < self.len {

@@ -3,6 +3,7 @@ use Rattle.std.specs.Prelude.{◌≡◌, ◌+◌, ◌-◌, ◌^◌, ◌&&◌, �
 use Rattle.std.specs.List.{range_with_len, prefix_len, AllPairs}
 use Rattle.stack_base.specs.declared.ids.Range.{Range}
 use Rattle.stack_base.specs.Words.{is_written}
+use Rattle.image_lanes.specs.Lanes.{IsFirstWhere}
 
 -- whether sector x of the flags is written
 abbrev pub flag : List Bool → ℕ → Bool
@@ -41,11 +42,8 @@ abbrev pub IsApart : List Bool → ℕ → Type 0
 IsApart flags from = flag flags from ≡ true → starts_run flags from ≡ true
 
 -- the first place at or behind `from` that is written, or that is not, or the length where there is none
-pub record IsFirst (flags : List Bool) (from : ℕ) (written : Bool) (place : ℕ) : Type 0 where
-  pub behind : from ≤ place
-  pub within : place ≤ length flags
-  pub others : (x : ℕ) → from ≤ x → x < place → flag flags x ≡ not written
-  pub here : place < length flags → flag flags place ≡ written
+abbrev pub IsFirst : List Bool → ℕ → Bool → ℕ → Type 0
+IsFirst flags from written place = IsFirstWhere (flag flags) from (length flags) written place
 
 -- all written runs of an image, by rising start
 abbrev pub written_runs : List (List ℕ) → List Range
