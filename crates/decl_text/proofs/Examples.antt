@@ -1,8 +1,11 @@
 -- The definitions on texts, computed.
 use Rattle.std.specs.Prelude.{◌≡◌, codes, refl, Some, None}
-use Rattle.decl_text.specs.Text.{lines}
+use Rattle.decl_text.specs.Text.{IsCutLine, lines}
 use Rattle.decl_text.specs.Known.{nothing}
 use Rattle.decl_text.specs.Refusals.{refusal, item_checks}
+
+cut_once : IsCutLine (codes "disk a 64") (codes "disk") (Some (codes "a 64")) (λ rest. rest)
+cut_once = refl
 
 a_write_inside : refusal item_checks nothing 1 (lines (codes "disk a 64\nwrite 0 a 0 1 0")) ≡ None
 unfolding refusal Rattle.decl_text.specs.Text.without_empty_end Rattle.decl_text.specs.Refusals.first_found Rattle.decl_text.specs.Commands.command_of Rattle.decl_text.specs.Text.is_name Rattle.decl_text.specs.Text.number_of Rattle.decl_text.specs.Items.meaning Rattle.decl_text.specs.Known.declared_pool Rattle.stack_base.specs.Tree.over_shape Rattle.stack_base.specs.Mapping.size_of Rattle.stack_base.specs.Mapping.smallest

@@ -1,5 +1,5 @@
 -- The lines of a text, their words, and what a word may be.
-use Rattle.std.specs.Prelude.{◌≡◌, ◌==◌, ◌&&◌, ◌||◌, nat_lt, nat_le, not, Bool, true, false, List, [], ◌∷◌, ℕ, filter, length, codes}
+use Rattle.std.specs.Prelude.{◌≡◌, ◌==◌, ◌&&◌, ◌||◌, nat_lt, nat_le, not, Bool, true, false, List, [], ◌∷◌, ℕ, filter, length, codes, MatchOption, Option}
 use Rattle.std.specs.List.{slice_split, list_all, list_any, before_first, after_first}
 use Rattle.std.specs.Char.{is_ascii_alphabetic, is_ascii_alphanumeric}
 use Rattle.std.specs.Str.{bytes_eq}
@@ -35,6 +35,10 @@ between_blanks line = slice_split is_blank line
 -- the parts of a line are this one and those of the rest
 abbrev pub IsFirstPart : List ℕ → List ℕ → List ℕ → Type 0
 IsFirstPart line front rest = between_blanks line ≡ front ∷ between_blanks rest
+
+-- A line is cut at its first blank: this stands before it, and behind it what the rest says, where there is one.
+abbrev pub IsCutLine : {R : Type 0} → List ℕ → List ℕ → Option R → (R → List ℕ) → Type 0
+IsCutLine line front rest text = MatchOption rest (between_blanks line ≡ front ∷ []) (λ r. IsFirstPart line front (text r))
 
 -- the words of a line: its maximal parts without blanks
 abbrev pub words : List ℕ → List (List ℕ)

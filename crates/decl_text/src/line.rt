@@ -1,7 +1,7 @@
 //! One line of a text: its words, and what it says.
 ghost use Rattle.std.specs.Prelude.{◌≡◌, ◌<◌, ◌∷◌, ◌++◌, [], false, filter, length, position, slice_get, IfOk, MatchOption, Some};
 ghost use Rattle.std.specs.List.{list_all};
-ghost use Rattle.decl_text.specs.Text.{IsFirstPart, between_blanks, is_blank, is_some_text, is_text, words, words as words_in};
+ghost use Rattle.decl_text.specs.Text.{IsCutLine, is_blank, is_some_text, is_text, words, words as words_in};
 ghost use Rattle.decl_text.specs.Forms.{is_malformed, is_misnumbered};
 ghost use Rattle.decl_text.specs.Items.{begins_work, is_comment, malformed, misnumbered, said};
 ghost use Rattle.decl_text.specs.Lines.{CommandSays, LineSays, command_first};
@@ -168,7 +168,7 @@ fn blank_place(line: &[u8]) -> Option<usize>
 
 // What stands before the first blank, and what stands behind it, where there is one.
 fn cut(line: &[u8]) -> (&[u8], Option<&[u8]>)
-    ensures parts { MatchOption result.1 (between_blanks line.now ≡ result.0.now ∷ []) (λ rest. IsFirstPart line.now result.0.now rest.now) }
+    ensures parts { IsCutLine line.now result.0.now result.1 (λ rest. rest.now) }
     ensures shorter { MatchOption result.1 (Unit {0}) (λ rest. length rest.now < length line.now) }
 {
     match blank_place(line) {
