@@ -2,7 +2,7 @@
 use Rattle.std.specs.Prelude.{◌≡◌, ◌<◌, ◌+◌, ℕ, List, [], All, map, length, slice_index_or, Option, Some, None}
 use Rattle.atomic_table.specs.Seated.{TableId}
 use Rattle.seat_lock.specs.Seats.{LockId, SeatState, own}
-use Rattle.tick_clock.specs.declared.ticking.Rank.TheVariants as pass_rank
+use Rattle.tick_clock.specs.declared.ticking.PassRank.TheVariants as pass_rank
 use Rattle.tick_clock.specs.Tickets.{PassState, first_pass, fresh_pass}
 use Rattle.stack_base.specs.PoolId.{pool_number}
 use Rattle.stack_base.specs.declared.ids.PoolId.TheVariants.{FsVecs}

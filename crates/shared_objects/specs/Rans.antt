@@ -1,7 +1,7 @@
 -- A task with its seats, as it is handed over: what is known of it.
 use Rattle.std.specs.Prelude.{◌≡◌, ◌+◌, ◌-◌, ◌^◌, ℕ, Bool, true, false, List, [], length, min, Option, None, Some}
 use Rattle.std.specs.Option.{is_some}
-use Rattle.tick_clock.specs.declared.ticking.Rank.TheVariants as pass_rank
+use Rattle.tick_clock.specs.declared.ticking.PassRank.TheVariants as pass_rank
 use Rattle.tick_clock.specs.Tickets.{PassState}
 use Rattle.run_machine.specs.Laws.{Object}
 use Rattle.run_machine.specs.Tasks.{TaskState}

@@ -2,7 +2,7 @@
 use Rattle.std.specs.Prelude.{◌≡◌, ◌<◌, ◌≤◌, ℕ, List, All, map, length, slice_index_or, Option, Some, None}
 use Rattle.std.specs.List.{flat_map}
 use Rattle.seat_lock.specs.Seats.{SeatState}
-use Rattle.tick_clock.specs.declared.ticking.Rank.TheVariants as pass_rank
+use Rattle.tick_clock.specs.declared.ticking.PassRank.TheVariants as pass_rank
 use Rattle.tick_clock.specs.Tickets.{PassState, ShowsTickets}
 use Rattle.shared_objects.specs.declared.locks.Locks.{Locks}
 use Rattle.shared_objects.specs.declared.seats.TaskSeats.{TaskSeats}

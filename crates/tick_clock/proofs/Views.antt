@@ -7,19 +7,19 @@ use Rattle.std.proofs.lemmas.List.{append-nil, append_assoc, length-drop, set-se
 use mathlib.Core.Option.{some, some-injective, some-ne-none}
 use lib.ListN.{get_elem?}
 use Rattle.atomic_table.proofs.Lists.{at_set, at_snoc, drop_at, set_again, set_else}
-use Rattle.tick_clock.specs.declared.ticking.Rank.{Rank}
-use Rattle.tick_clock.specs.declared.ticking.Rank.TheVariants.{First, Other, Spent}
+use Rattle.tick_clock.specs.declared.ticking.PassRank.{PassRank}
+use Rattle.tick_clock.specs.declared.ticking.PassRank.TheVariants.{First, Other, Spent}
 use Rattle.tick_clock.specs.declared.ticking.Ticket.{Ticket}
-use Rattle.tick_clock.specs.declared.ticking.View.{View}
-use Rattle.tick_clock.specs.Ticking.{is_live_pass, first_in, other_in, split_in, firsts, others, split_by, all_drawn, IsTidy, spent_view}
+use Rattle.tick_clock.specs.declared.ticking.PassView.{PassView}
+use Rattle.tick_clock.specs.Ticking.{is_live_pass, first_in, other_in, split_in, first_passes, other_passes, passes_split, all_drawn, IsTidy, spent_view}
 
 -- one view changes
-pub sum_by-put : (f : View → ℕ) (vs : List View) (i : ℕ) (v w : View) → get_elem? vs i ≡ some v → sum_by f (set vs i w) + f v ≡ sum_by f vs + f w
+pub sum_by-put : (f : PassView → ℕ) (vs : List PassView) (i : ℕ) (v w : PassView) → get_elem? vs i ≡ some v → sum_by f (set vs i w) + f v ≡ sum_by f vs + f w
 sum_by-put f vs i v w e =
     let there : i < length vs = omega (arith, ap length (drop_at vs i v e), length-drop i vs) in
     omega (arith, sum_by-set f vs i w v there, sum_by-set f vs i v v there, ap (sum_by f) (set_again vs i v e))
 
-pub put_at : (vs : List View) (i : ℕ) (v w : View) → get_elem? vs i ≡ some v → get_elem? (set vs i w) i ≡ some w
+pub put_at : (vs : List PassView) (i : ℕ) (v w : PassView) → get_elem? vs i ≡ some v → get_elem? (set vs i w) i ≡ some w
 put_at [] i v w e = absurd (some-ne-none v (sym e))
 put_at (u ∷ vs) zero v w e = refl
 put_at (u ∷ vs) (suc i) v w e = put_at vs i v w e
@@ -31,10 +31,10 @@ first_two_swapped xs ys zs =
     (subst (λ l. IsPermutation l ((ys ++ xs) ++ zs)) (append_assoc xs ys zs) (IsPermutation-append_left zs (xs ++ ys) (ys ++ xs) (IsPermutation-append_comm xs ys)))
 
 -- all tickets are those of one view and those of the others
-pub parted : (vs : List View) (i : ℕ) (v : View) → get_elem? vs i ≡ some v → IsPermutation (all_drawn vs) (v.drawn ++ all_drawn (set vs i spent_view))
+pub parted : (vs : List PassView) (i : ℕ) (v : PassView) → get_elem? vs i ≡ some v → IsPermutation (all_drawn vs) (v.drawn ++ all_drawn (set vs i spent_view))
 parted [] i v e = absurd (some-ne-none v (sym e))
 parted (u ∷ vs) zero v e =
-    subst (λ (w : View). IsPermutation (u.drawn ++ all_drawn vs) (w.drawn ++ all_drawn vs)) (some-injective u v e) (IsPermutation-refl (u.drawn ++ all_drawn vs))
+    subst (λ (w : PassView). IsPermutation (u.drawn ++ all_drawn vs) (w.drawn ++ all_drawn vs)) (some-injective u v e) (IsPermutation-refl (u.drawn ++ all_drawn vs))
 parted (u ∷ vs) (suc i) v e =
     let rest : List Ticket = all_drawn (set vs i spent_view) in
     IsPermutation-trans (u.drawn ++ all_drawn vs) (u.drawn ++ (v.drawn ++ rest)) (v.drawn ++ (u.drawn ++ rest))
@@ -42,7 +42,7 @@ parted (u ∷ vs) (suc i) v e =
     (first_two_swapped u.drawn v.drawn rest)
 
 -- one view's tickets change, and with them the row
-pub put_shared : (row now : List Ticket) (vs : List View) (i : ℕ) (v w : View) → get_elem? vs i ≡ some v → IsPermutation row (all_drawn vs)
+pub put_shared : (row now : List Ticket) (vs : List PassView) (i : ℕ) (v w : PassView) → get_elem? vs i ≡ some v → IsPermutation row (all_drawn vs)
     → ((rest : List Ticket) → IsPermutation row (v.drawn ++ rest) → IsPermutation now (w.drawn ++ rest)) → IsPermutation now (all_drawn (set vs i w))
 put_shared row now vs i v w e shared step =
     let rest : List Ticket = all_drawn (set vs i spent_view) in
@@ -62,17 +62,17 @@ one_drawn row drawn t rest p =
     IsPermutation-trans (row ++ one) ((drawn ++ rest) ++ one) ((drawn ++ one) ++ rest) (IsPermutation-append_left one row (drawn ++ rest) p) from
 
 -- a view more
-pub drawn-last : (vs : List View) (v : View) → all_drawn (vs ++ v ∷ []) ≡ all_drawn vs ++ v.drawn
+pub drawn-last : (vs : List PassView) (v : PassView) → all_drawn (vs ++ v ∷ []) ≡ all_drawn vs ++ v.drawn
 drawn-last [] v = append-nil v.drawn
 drawn-last (u ∷ vs) v = ap (λ l. u.drawn ++ l) (drawn-last vs v) ∙ sym (append_assoc u.drawn (all_drawn vs) v.drawn)
 
 -- a view takes in the tickets of another
-pub join_shared : (row : List Ticket) (vs : List View) (i j : ℕ) (v w u : View) → get_elem? vs i ≡ some v → j ≢ i → get_elem? (set vs i u) j ≡ some w
+pub join_shared : (row : List Ticket) (vs : List PassView) (i j : ℕ) (v w u : PassView) → get_elem? vs i ≡ some v → j ≢ i → get_elem? (set vs i u) j ≡ some w
     → u.drawn ≡ v.drawn ++ w.drawn → IsPermutation row (all_drawn vs) → IsPermutation row (all_drawn (set (set vs i u) j spent_view))
 join_shared row vs i j v w u e apart e' both shared =
-    let one : List View = set vs i spent_view in
+    let one : List PassView = set vs i spent_view in
     let rest : List Ticket = all_drawn (set one j spent_view) in
-    let last : List View = set (set vs i u) j spent_view in
+    let last : List PassView = set (set vs i u) j spent_view in
     let other : get_elem? one j ≡ some w = set_else vs i j spent_view apart ∙ sym (set_else vs i j u apart) ∙ e' in
     let before : IsPermutation row (v.drawn ++ (w.drawn ++ rest)) =
     IsPermutation-trans row (v.drawn ++ all_drawn one) (v.drawn ++ (w.drawn ++ rest))
@@ -87,40 +87,40 @@ join_shared row vs i j v w u e apart e' both shared =
     (subst (IsPermutation row) (sym joined) before)
     (IsPermutation-sym (all_drawn last) (u.drawn ++ rest) after)
 
-pub put_tidy : (n : ℕ) (vs : List View) (i : ℕ) (w : View) → ((j : ℕ) (v : View) → get_elem? vs j ≡ some v → IsTidy n v) → IsTidy n w → (j : ℕ) (v : View)
+pub put_tidy : (n : ℕ) (vs : List PassView) (i : ℕ) (w : PassView) → ((j : ℕ) (v : PassView) → get_elem? vs j ≡ some v → IsTidy n v) → IsTidy n w → (j : ℕ) (v : PassView)
     → get_elem? (set vs i w) j ≡ some v → IsTidy n v
 put_tidy n vs i w tidy h j v e = ⊎_elim (λ t. subst (IsTidy n) t.1 h) (λ t. tidy j v t.1) (at_set vs i j w v e)
 
-pub last_tidy : (n : ℕ) (vs : List View) (w : View) → ((j : ℕ) (v : View) → get_elem? vs j ≡ some v → IsTidy n v) → IsTidy n w → (j : ℕ) (v : View)
+pub last_tidy : (n : ℕ) (vs : List PassView) (w : PassView) → ((j : ℕ) (v : PassView) → get_elem? vs j ≡ some v → IsTidy n v) → IsTidy n w → (j : ℕ) (v : PassView)
     → get_elem? (vs ++ w ∷ []) j ≡ some v → IsTidy n v
 last_tidy n vs w tidy h j v e = ⊎_elim (λ t. tidy j v t) (λ t. subst (IsTidy n) t h) (at_snoc vs w v j e)
 
-pub live_tidy : (n : ℕ) (v : View) → v.known ≤ n → is_live_pass v.rank ≡ true → IsTidy n v
+pub live_tidy : (n : ℕ) (v : PassView) → v.known ≤ n → is_live_pass v.rank ≡ true → IsTidy n v
 live_tidy n v h live = (h, λ spent. absurd (true≢false (sym live ∙ spent)))
 
-no_split : (r : Rank) → first_in r ≡ 0 → split_in r ≡ 0
+no_split : (r : PassRank) → first_in r ≡ 0 → split_in r ≡ 0
 no_split (First split) h = absurd (omega (arith, h))
 no_split Other h = refl
 no_split Spent h = refl
 
 -- without the first pass's view there is none of a first pass, and nobody else has split a pass
-pub none_split : (vs : List View) → sum_by firsts vs ≡ 0 → sum_by split_by vs ≡ 0
+pub none_split : (vs : List PassView) → sum_by first_passes vs ≡ 0 → sum_by passes_split vs ≡ 0
 none_split [] h = refl
 none_split (v ∷ vs) h =
-    let here = sum_by-cons firsts v vs in
-    omega (arith, h, here, sum_by-cons split_by v vs, no_split v.rank (omega (arith, h, here)), none_split vs (omega (arith, h, here)))
+    let here = sum_by-cons first_passes v vs in
+    omega (arith, h, here, sum_by-cons passes_split v vs, no_split v.rank (omega (arith, h, here)), none_split vs (omega (arith, h, here)))
 
-not_live : (r : Rank) → first_in r ≡ 0 → other_in r ≡ 0 → is_live_pass r ≡ false
+not_live : (r : PassRank) → first_in r ≡ 0 → other_in r ≡ 0 → is_live_pass r ≡ false
 not_live (First split) h k = absurd (omega (arith, h))
 not_live Other h k = absurd (omega (arith, k))
 not_live Spent h k = refl
 
 -- where all views are spent, none has a ticket
-pub all_spent : (n : ℕ) (vs : List View) → ((i : ℕ) (v : View) → get_elem? vs i ≡ some v → IsTidy n v) → sum_by firsts vs ≡ 0 → sum_by others vs ≡ 0 → all_drawn vs ≡ []
+pub all_spent : (n : ℕ) (vs : List PassView) → ((i : ℕ) (v : PassView) → get_elem? vs i ≡ some v → IsTidy n v) → sum_by first_passes vs ≡ 0 → sum_by other_passes vs ≡ 0 → all_drawn vs ≡ []
 all_spent n [] tidy h k = refl
 all_spent n (v ∷ vs) tidy h k =
-    let first = sum_by-cons firsts v vs in
-    let other = sum_by-cons others v vs in
+    let first = sum_by-cons first_passes v vs in
+    let other = sum_by-cons other_passes v vs in
     let none : v.drawn ≡ [] = (tidy 0 v refl).1 (not_live v.rank (omega (arith, first, h)) (omega (arith, other, k))) in
     let rest : all_drawn vs ≡ [] = all_spent n vs (λ i w e. tidy (suc i) w e) (omega (arith, first, h)) (omega (arith, other, k)) in
     λ i. none i ++ rest i

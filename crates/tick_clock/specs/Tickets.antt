@@ -1,28 +1,28 @@
 -- Tickets of a clock, and what contracts see of a pass.
 use Rattle.std.specs.Prelude.{◌≡◌, ℕ, ◌+◌, ◌<◌, ◌≤◌, ◌^◌, ◌-◌, ◌⊎◌, ◌==◌, if◌then◌else◌, max, Bool, true, false, List, [], ◌∷◌, ◌++◌, map, sum_by, All, Contains, IsPermutation}
 use Rattle.atomic_table.specs.Seated.{TableId}
-use Rattle.tick_clock.specs.declared.ticking.Rank.{Rank}
-use Rattle.tick_clock.specs.declared.ticking.Rank.TheVariants.{First, Other, Spent}
+use Rattle.tick_clock.specs.declared.ticking.PassRank.{PassRank}
+use Rattle.tick_clock.specs.declared.ticking.PassRank.TheVariants.{First, Other, Spent}
 use Rattle.tick_clock.specs.declared.ticking.Ticket.{Ticket}
 
 -- a pass: its clock, whether it is that clock's first pass, how many passes were joined into it, the greatest ticket that it has
 -- seen, the last ticket of its clock that it has found, and the tickets drawn with it and with those that were joined into it
 pub record PassState : Type 0 where
   pub clock : TableId
-  pub rank : Rank
+  pub rank : PassRank
   pub joined : ℕ
   pub seen : ℕ
   pub known : ℕ
   pub drawn : List Ticket
 
 -- the first pass of a clock
-abbrev pub is_first_pass : Rank → Bool
+abbrev pub is_first_pass : PassRank → Bool
 is_first_pass (First split) = true
 is_first_pass Other = false
 is_first_pass Spent = false
 
 -- one more pass was split off
-abbrev pub one_more_pass : Rank → Rank
+abbrev pub one_more_pass : PassRank → PassRank
 one_more_pass (First split) = First (split + 1)
 one_more_pass Other = Other
 one_more_pass Spent = Spent
@@ -108,7 +108,7 @@ SeeOwn ts = All (λ t. IsOneOf ts t.seen) ts
 -- what a pass that has just looked shows of all tickets of its clock: they are a row, in the order in which they were drawn, which ends
 -- with what the pass has found; the pass has some of them and other passes the rest; and none are elsewhere where every pass that was
 -- split off was joined into it
-pub record Shows (rank : Rank) (joined known : ℕ) (drawn : List Ticket) : Type 0 where
+pub record Shows (rank : PassRank) (joined known : ℕ) (drawn : List Ticket) : Type 0 where
   pub row : List Ticket
   pub elsewhere : List Ticket
   pub rising : IsRising 0 row

@@ -4,7 +4,7 @@ ghost use Rattle.tick_clock.specs.Tickets.{first_pass, fresh_pass, is_first_pass
 
 use crate::note::Note;
 use crate::pass::{Pass, greater};
-use crate::ticking::{Draw, JoinPass, Look, SplitPass, Ticking, View};
+use crate::ticking::{Draw, JoinPass, Look, PassView, SplitPass, Ticking};
 use atomic_table::Table;
 use std::alloc::{AllocError, Global};
 use std::marker::Model;
@@ -12,7 +12,7 @@ use std::marker::Model;
 /// Gives out tickets, of 1 to 2^64 - 1. Contracts see which clock it is.
 #[derive(Drop)]
 pub struct Clock {
-    table: Table<u64, View, (), Ticking, Global>,
+    table: Table<u64, PassView, (), Ticking, Global>,
 }
 
 impl Model for Clock {

@@ -17,4 +17,4 @@ mod ticking;
 pub use clock::Clock;
 pub use note::Note;
 pub use pass::Pass;
-pub use ticking::{Rank, Ticket};
+pub use ticking::{PassRank, Ticket};

@@ -3,7 +3,7 @@ ghost use Rattle.std.specs.Prelude.{◌≡◌, max};
 ghost use Rattle.tick_clock.specs.Tickets.{PassState};
 
 use crate::note::Note;
-use crate::ticking::View;
+use crate::ticking::PassView;
 use atomic_table::Seat;
 use std::marker::Model;
 
@@ -16,7 +16,7 @@ use std::marker::Model;
 /// finds no ticket, end with a look, so that what the pass has found is the last ticket at a moment of the call.
 #[derive(Drop)]
 pub struct Pass {
-    pub(crate) seat: Seat<u64, View>,
+    pub(crate) seat: Seat<u64, PassView>,
     /// The greatest ticket that it has seen.
     pub(crate) seen: u64,
     /// The last ticket of its clock that it has found. The word is at least this.

@@ -5,7 +5,7 @@ use atomic_table::{Join, Play, Split, TableRule};
 use std::collections::LinkedList;
 
 /// Which of a clock's passes a pass is. No value of it is ever made.
-pub enum Rank {
+pub enum PassRank {
     /// The one that was made with the clock, and the number of passes that were split off it.
     First(u64),
     /// One that was split off the first.
@@ -24,8 +24,8 @@ pub struct Ticket {
 }
 
 /// What the seat of a pass knows. No value of it is ever made.
-pub struct View {
-    pub rank: Rank,
+pub struct PassView {
+    pub rank: PassRank,
     pub joined: u64,
     pub known: u64,
     pub drawn: LinkedList<Ticket>,
@@ -34,7 +34,7 @@ pub struct View {
 /// The word is the last ticket drawn, the tickets rise, and the views have each of them once.
 pub struct Ticking;
 
-impl TableRule<u64, View, ()> for Ticking {
+impl TableRule<u64, PassView, ()> for Ticking {
     ghost holds = { λ _. IsTicking };
 
     ghost first = { λ _. first_view };
@@ -43,21 +43,21 @@ impl TableRule<u64, View, ()> for Ticking {
 /// A pass draws a ticket, or finds that another was drawn. The step announces what the pass and the note had seen.
 pub struct Draw;
 
-impl Play<u64, View> for Draw {
+impl Play<u64, PassView> for Draw {
     ghost then = { TriesToDraw };
 }
 
 /// A pass finds the last ticket.
 pub struct Look;
 
-impl Play<u64, View> for Look {
+impl Play<u64, PassView> for Look {
     ghost then = { Looks };
 }
 
 /// The first pass splits another off.
 pub struct SplitPass;
 
-impl Split<View> for SplitPass {
+impl Split<PassView> for SplitPass {
     ghost left = { split_more };
 
     ghost right = { fresh_view };
@@ -66,7 +66,7 @@ impl Split<View> for SplitPass {
 /// A pass takes another in, which is spent.
 pub struct JoinPass;
 
-impl Join<View> for JoinPass {
+impl Join<PassView> for JoinPass {
     ghost both = { joined_with };
 
     ghost spent = { spent_view };

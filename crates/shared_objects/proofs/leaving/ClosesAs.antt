@@ -18,7 +18,7 @@ use Rattle.shared_objects.specs.Taking.{HasTakenPasses, PassHasTaken, TakenHold}
 use Rattle.shared_objects.specs.Passes.{drawn_by}
 use Rattle.shared_objects.specs.Desks.{DeskState}
 use Rattle.shared_objects.specs.Logs.{HasStopped, IsLogged}
-use Rattle.tick_clock.specs.declared.ticking.Rank.TheVariants as pass_rank
+use Rattle.tick_clock.specs.declared.ticking.PassRank.TheVariants as pass_rank
 use Rattle.tick_clock.specs.declared.ticking.Ticket.{Ticket}
 use Rattle.tick_clock.specs.Tickets.{PassState}
 use Rattle.run_machine.specs.Scene.{Setup}
