@@ -27,7 +27,7 @@ use Rattle.work_text.specs.Generated.{generator}
 use Rattle.run_merge.specs.declared.outcome.Outcome.{Outcome}
 use Rattle.report_text.specs.CheckText.{steps_bound}
 use Rattle.report_text.specs.Report.{Reported}
-use Rattle.report_text.specs.Views.{told_by}
+use Rattle.report_text.specs.Views.{told_of_objects}
 use Rattle.biostack_top.specs.Streams.{SinkStream}
 use Rattle.biostack_top.specs.Tracing.{IsTraceOf}
 
@@ -105,7 +105,7 @@ pub record EndsAsTold (accepted : Accepted) (work : Work) (ledger : ℕ → Ledg
   pub named : All (IsEventOf accepted.stack) events
   pub claimed : IsAsClaimed (scenario_of accepted work) ledger events state run
   pub bounded : length events ≤ steps_bound work.bound
-  pub told : left ≡ told_by accepted.stack state.objects (length events) (steps_bound work.bound)
+  pub told : left ≡ told_of_objects accepted.stack state.objects (length events) (steps_bound work.bound)
 
 -- They are one that was made so.
 pub record IsRunTold (accepted : Accepted) (work : Work) (maker : Maker) (events : List Event) (left : Reported) : Type 0 where

@@ -10,7 +10,7 @@ use Rattle.task_core.specs.declared.ended.Ended.{Ended}
 use Rattle.task_core.specs.Leaving.{IsLeft, disks_of, falling_pools}
 use Rattle.run_machine.specs.Objects.{Objects}
 use Rattle.run_machine.specs.Opened.{device_at}
-use Rattle.report_text.specs.Views.{IsEndedOfStack, image_of, told_by, told_of}
+use Rattle.report_text.specs.Views.{IsEndedOfStack, image_of, told_of_objects, told_of}
 
 module _ (objects : Objects) (named : (number : ℕ) → (objects.disk number).dev ≡ device_at number) where
   -- disks that are named by their numbers
@@ -34,7 +34,7 @@ module _ (objects : Objects) (named : (number : ℕ) → (objects.disk number).d
     pools = ap (map (λ (p : PoolId × Facts). p.0)) left.pools ∙ pools_are (falling_pools stack);
   }
 
-  pub told_is : (stack : Stack) (steps bound : ℕ) (ended : Ended) → IsLeft stack objects steps ended → told_of ended bound ≡ told_by stack objects steps bound
+  pub told_is : (stack : Stack) (steps bound : ℕ) (ended : Ended) → IsLeft stack objects steps ended → told_of ended bound ≡ told_of_objects stack objects steps bound
   told_is stack steps bound ended left =
       let disks = ap (map image_of) left.disks ∙ images_are (disks_of stack) in
       λ k. record { statuses = left.statuses k; disks = disks k; pools = left.pools k; steps = left.steps k; bound = bound }

@@ -47,8 +47,8 @@ pub record IsEndedOfStack (stack : Stack) (ended : Ended) : Type 0 where
   pub pools : map (λ (p : PoolId × Facts). p.0) ended.pools.items ≡ falling_pools stack
 
 -- what is told of the objects of a machine, whose disks and pools go by numbers
-abbrev pub told_by : Stack → Objects → ℕ → ℕ → Reported
-told_by stack objects steps bound = record {
+abbrev pub told_of_objects : Stack → Objects → ℕ → ℕ → Reported
+told_of_objects stack objects steps bound = record {
   statuses = objects.tally.statuses;
   disks = map (λ (dev : DevId). (dev, (objects.disk dev.0).image)) (disks_of stack);
   pools = map (λ (pool : PoolId). (pool, (objects.pool (pool_number pool)).facts)) (falling_pools stack);
