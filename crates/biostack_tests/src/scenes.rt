@@ -1,7 +1,7 @@
 //! Scenarios as a test writes them: texts.
-ghost use Rattle.std.specs.Prelude.{◌↔◌, ◌+◌, ◌≤◌, Contains, IfOk, IsTrue};
+ghost use Rattle.std.specs.Prelude.{◌↔◌, ◌+◌, ◌≤◌, IfOk, IsTrue};
 ghost use Rattle.stack_base.specs.Stack.{IsStack};
-ghost use Rattle.layout_model.specs.Writes.{IsWrite};
+ghost use Rattle.layout_model.specs.Writes.{AreWritesOf, IsWrite};
 ghost use Rattle.run_machine.specs.ReadBehind.{IsReadBehind};
 
 use decl_text::{Accepted, ReadFault, Refusal, read_decl};
@@ -69,7 +69,7 @@ fn ends_within(start: u64, len: u64, size: u64) -> bool
 /// Whether the stack can serve each of the writes.
 pub fn are_writes(stack: &Stack, writes: &[Write]) -> bool
     requires { IsStack stack.now }
-    ensures { IsTrue result → (write : _) → Contains writes.now write → IsWrite stack.now write }
+    ensures { IsTrue result → AreWritesOf stack.now writes.now }
 {
     writes.iter().all(|write| is_write(stack, write))
 }

@@ -10,7 +10,7 @@ use Rattle.stack_base.specs.Tree.{tree}
 use Rattle.layout_model.specs.declared.write.Write.{Write}
 use Rattle.layout_model.specs.declared.fragment.Fragment.{Fragment}
 use Rattle.layout_model.specs.Fragments.{AreFragments}
-use Rattle.layout_model.specs.Writes.{IsWrite}
+use Rattle.layout_model.specs.Writes.{AreWritesOf, IsWrite}
 use Rattle.layout_model.specs.NeedCounts.{elements}
 use Rattle.layout_model.specs.Bound.{all_elements}
 use Rattle.layout_model.proofs.Apart.{frags_have}
@@ -43,7 +43,7 @@ laid_more stack number (first ∷ before) write all own laid are =
     (laid.0, laid.1 ++ own, laid.2, others, ap (λ xs. xs ++ own) laid.4 ∙ append_assoc laid.0 laid.1 own)
 
 -- the fragments of all writes go to devices of the stack
-pub laid_known : (stack : Stack) → IsStack stack → (number : ℕ) (writes : List Write) → ((write : Write) → Contains writes write → IsWrite stack write)
+pub laid_known : (stack : Stack) → IsStack stack → (number : ℕ) (writes : List Write) → AreWritesOf stack writes
     → (all : List Fragment) → AreLaid stack number writes all → AreOnDevices stack all
 laid_known stack good number [] served all laid f there = let none : Contains [] f = subst (λ xs. Contains xs f) laid there in absurd (omega (arith, none.1))
 laid_known stack good number (write ∷ more) served all laid f there =

@@ -1,8 +1,6 @@
 -- A whole text, by its declarations and the rest of it.
 use Rattle.std.proofs.Common.{◌≡◌, ℕ, Bool, List, [], Ok, Err, drop, length, sym, ap, subst, ◌∙◌, arith}
-use Rattle.std.specs.Prelude.{Contains}
-use Rattle.layout_model.specs.declared.write.Write.{Write}
-use Rattle.layout_model.specs.Writes.{IsWrite}
+use Rattle.layout_model.specs.Writes.{AreWritesOf}
 use Rattle.decl_text.specs.Text.{lines}
 use Rattle.decl_text.specs.Refusals.{known_after, refusal}
 use Rattle.decl_text.specs.Read.{Read}
@@ -44,7 +42,7 @@ work_refuses loose text read accepted (Refused first) is accepts refuses = same_
 work_refuses loose text read accepted Memory is accepts refuses = tt
 
 pub says_all : (loose : Bool) (text : List ℕ) (read : Read) (scene : Scene) → ReadsDecl text (Ok read) → AcceptsBy loose read (Ok scene.accepted) → ReadsWork text scene.accepted (Ok scene.work)
-    → ((write : Write) → Contains scene.work.writes.items write → IsWrite scene.accepted.stack write) → scene.text.now ≡ text → IsSaidBy loose scene
+    → AreWritesOf scene.accepted.stack scene.work.writes.items → scene.text.now ≡ text → IsSaidBy loose scene
 says_all loose text read scene is accepts reads served same =
     let accepted = scene.accepted in
     let fine = same_refusal loose text read accepted is accepts ∙ reads.0 in

@@ -1,9 +1,8 @@
 -- What a whole text says.
-use Rattle.std.specs.Prelude.{◌≡◌, ◌+◌, List, [], ℕ, Bool, false, length, map, Contains, None, Some, Result, Ok, Err}
+use Rattle.std.specs.Prelude.{◌≡◌, ◌+◌, List, [], ℕ, Bool, false, length, map, None, Some, Result, Ok, Err}
 use Rattle.stack_base.specs.Stack.{IsStack}
-use Rattle.layout_model.specs.declared.write.Write.{Write}
 use Rattle.layout_model.specs.Bound.{IsBound}
-use Rattle.layout_model.specs.Writes.{IsWrite}
+use Rattle.layout_model.specs.Writes.{AreWritesOf}
 use Rattle.decl_text.specs.Accepting.{MeansStack}
 use Rattle.decl_text.specs.Known.{Declarations}
 use Rattle.decl_text.specs.Reading.{declarations}
@@ -29,7 +28,7 @@ pub record SaysBy (loose : Bool) (text : List ℕ) (accepted : Accepted) (work :
   pub means : MeansStack (known_of_text text) accepted.stack accepted.scripts.items
   pub rescuers : HasRescuersAsked loose accepted.stack
   pub writes : map as_written work.writes.items ≡ (known_of_text text).writes
-  pub served : (write : Write) → Contains work.writes.items write → IsWrite accepted.stack write
+  pub served : AreWritesOf accepted.stack work.writes.items
   pub rounds : work.rounds.items ≡ (known_of_text text).rounds
   pub resizes : map change_of work.resizes.items ≡ kept_resizes (last_round (known_of_text text).rounds) (known_of_text text).resizes
   -- what the writes need; and the entries of the scripts, the rounds after the first, and the `resize` lines that are not left out

@@ -1,7 +1,7 @@
 //! Makes the fragments of all writes.
-ghost use Rattle.std.specs.Prelude.{◌^◌, ◌≤◌, length, Contains, IfOk, OnOk};
+ghost use Rattle.std.specs.Prelude.{◌^◌, ◌≤◌, length, IfOk, OnOk};
 ghost use Rattle.stack_base.specs.Stack.{IsStack};
-ghost use Rattle.layout_model.specs.Writes.{IsWrite};
+ghost use Rattle.layout_model.specs.Writes.{AreWritesOf, IsWrite};
 ghost use Rattle.report_text.specs.LayoutText.{AreOnDevices};
 ghost use Rattle.biostack_top.specs.LayoutText.{AddsFragmentsOf, AreLaid};
 
@@ -36,7 +36,7 @@ pub(crate) fn layout_lines(
     writes: &[Write],
 ) -> Result<Vec<Fragment>, AllocError>
     requires stack { IsStack stack.now }
-    requires served { (write : Write) → Contains writes.now write → IsWrite stack.now write }
+    requires served { AreWritesOf stack.now writes.now }
     requires few { length writes.now ≤ 2 ^ 32 }
     ensures laid { IfOk result (λ all. AreLaid stack.now 0 writes.now all.items) }
     ensures known { IfOk result (λ all. AreOnDevices stack.now all.items) }

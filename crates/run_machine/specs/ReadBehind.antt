@@ -1,7 +1,6 @@
 -- Work that was read behind declarations.
-use Rattle.std.specs.Prelude.{◌≡◌, ℕ, List, [], Contains, Ok}
-use Rattle.layout_model.specs.declared.write.Write.{Write}
-use Rattle.layout_model.specs.Writes.{IsWrite}
+use Rattle.std.specs.Prelude.{◌≡◌, ℕ, List, [], Ok}
+use Rattle.layout_model.specs.Writes.{AreWritesOf}
 use Rattle.decl_text.specs.declared.accepted.Accepted.{Accepted}
 use Rattle.decl_text.specs.Reading.{declarations}
 use Rattle.work_text.specs.Reading.{ReadsWork, work_lines}
@@ -12,4 +11,4 @@ pub record IsReadBehind (accepted : Accepted) (work : Work) : Type 0 where
   pub text : List ℕ
   pub begins : declarations (work_lines text accepted) ≡ []
   pub reads : ReadsWork text accepted (Ok work)
-  pub served : (write : Write) → Contains work.writes.items write → IsWrite accepted.stack write
+  pub served : AreWritesOf accepted.stack work.writes.items
