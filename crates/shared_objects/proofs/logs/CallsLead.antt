@@ -1,51 +1,28 @@
 -- Where the calls of a task lead it.
-use Rattle.std.proofs.Common.{◌≡◌, ℕ, ◌≤◌, ◌+◌, ◌⊎◌, inl, inr, ◌||◌, ◌==◌, Bool, true, false, not, cond, List, [], ◌∷◌, ◌++◌, Option, Some, None, arith, refl, sym, ◌∙◌, ap, subst}
-use Rattle.std.specs.Prelude.{All, Contains, IfSome, IsTrue, length, filter}
+use Rattle.std.proofs.Common.{◌≡◌, ℕ, ◌+◌, ◌⊎◌, inl, inr, ◌||◌, ◌==◌, Bool, true, false, not, cond, List, [], ◌∷◌, ◌++◌, Option, Some, None, refl, sym, ◌∙◌, ap, subst}
+use Rattle.std.specs.Prelude.{All}
 use Rattle.std.specs.Option.{is_some}
-use Rattle.std.specs.List.{cons_option}
 use Rattle.std.proofs.lemmas.List.{append-nil, append_assoc}
 use Rattle.std.proofs.lemmas.List.Elements.{All-nil, All-cons, All-head, All-tail, Contains-append_left}
 use Rattle.stack_base.specs.declared.ids.PoolId.{PoolId}
 use Rattle.bio_books.specs.Drops as end
 use Rattle.bio_books.specs.Links.{Made, NoRoom, Stray}
 use Rattle.run_machine.specs.Events.{what_of, resize_of}
-use Rattle.run_machine.specs.Laws.{Object, OfNone, object_of}
-use Rattle.run_machine.specs.Requests.{Request, Reply, TakeBio, TakeVec, TakeSlip, GiveBio, GiveVec, GiveSlip, Punt, Pop, Push, Complete, Link, Drop, Done, Resize, NextRound, LookRound, LookLeft, Rest, LinkedTo, DroppedTo, OutIs, NoTicket}
+use Rattle.run_machine.specs.Laws.{OfNone, object_of}
+use Rattle.run_machine.specs.Requests.{Request, Reply, TakeBio, Link, Drop, Resize, Rest, LinkedTo, DroppedTo, OutIs, NoTicket}
 use Rattle.run_machine.specs.Scene.{Setup}
-use Rattle.run_machine.specs.Tasks.{TaskState, request, look_of, lets, answered, is_broken}
+use Rattle.run_machine.specs.Tasks.{TaskState, request, look_of, answered, is_broken}
 use Rattle.object_things.specs.Histories.{Call}
-use Rattle.object_things.specs.Stamps.{is_spent}
 use Rattle.shared_objects.specs.Calls.{is_same_object, calls_to, struck}
-use Rattle.shared_objects.specs.Desks.{DeskState}
-use Rattle.shared_objects.specs.Logs.{is_event, is_stop, is_glance, events_in, tickets_in, Looked, LogLeads, IsLogged}
-use Rattle.shared_objects.specs.Led.{CallsLead, task_behind_calls, BrokeOff, IsLed, LogsLead}
+use Rattle.shared_objects.specs.Logs.{is_event, is_stop, is_glance, events_in, Looked, LogLeads}
+use Rattle.shared_objects.specs.Led.{CallsLead, task_behind_calls, LogsLead}
 use Rattle.shared_objects.proofs.steps.BrokenRests.{broken_rests, stop_breaks}
 use Rattle.shared_objects.proofs.steps.GlanceStays.{glance_kinds, stop_struck}
 
+-- a call without a ticket is no event
 spent_none : (asked : Request) → what_of asked NoTicket ≡ None
--- calls of pools, but for resizes
 spent_none (TakeBio set waits) = refl
-spent_none TakeVec = refl
-spent_none (TakeSlip dev) = refl
-spent_none (GiveBio bio) = refl
-spent_none (GiveVec vector) = refl
-spent_none (GiveSlip slip) = refl
--- calls of lists of rescuers
-spent_none (Punt dev moved) = refl
-spent_none (Pop dev) = refl
--- calls of disks
-spent_none (Push bio) = refl
-spent_none (Complete disk) = refl
--- calls of books
-spent_none (Link writer opening) = refl
-spent_none (Drop writer node status part) = refl
--- calls of the tally, resizes and rests
-spent_none (Done write status) = refl
-spent_none (Resize pool min) = refl
-spent_none (NextRound round) = refl
-spent_none LookRound = refl
-spent_none LookLeft = refl
-spent_none Rest = refl
+spent_none asked = refl
 
 resize_goes : (home : Bool) (pool : PoolId) (min : ℕ) → is_some (resize_of home pool min) ≡ true → (not home || false) ≡ false
 resize_goes true pool min is = refl

@@ -1,8 +1,7 @@
 -- What the calls of a step show of its answer.
-use Rattle.std.proofs.Common.{◌≡◌, ℕ, ◌<◌, ◌≤◌, ◌⊎◌, inl, inr, ◌==◌, ◌||◌, Bool, true, false, not, cond, if◌then◌else◌, List, [], ◌∷◌, ◌++◌, Option, Some, None, arith, refl, sym, ◌∙◌, ap, subst}
-use Rattle.std.specs.Prelude.{All, Contains, IfSome, IsTrue, max}
-use Rattle.std.proofs.lemmas.List.{append-nil, append_assoc}
-use Rattle.std.proofs.lemmas.List.Elements.{Contains-push, Contains-append_left, Contains-append_right, All-contains}
+use Rattle.std.proofs.Common.{◌≡◌, ℕ, inl, inr, ◌==◌, ◌||◌, Bool, true, false, not, cond, if◌then◌else◌, List, [], ◌∷◌, Option, Some, None, arith, refl, sym, ◌∙◌, ap, subst}
+use Rattle.std.specs.Prelude.{Contains, IfSome}
+use Rattle.std.proofs.lemmas.List.Elements.{Contains-append_right}
 use Rattle.std.proofs.lemmas.Bool.Decides.{nat_tests}
 use Rattle.std.specs.Option.{is_some}
 use Rattle.stack_base.specs.declared.ids.PoolId.{PoolId}
@@ -13,23 +12,17 @@ use Rattle.run_machine.specs.declared.event.What.{What}
 use Rattle.task_steps.specs.declared.step.Step.TheVariants.{Stepped, Blocked, Waiting, Ended, Broken}
 use Rattle.tick_clock.specs.Tickets.{PassState}
 use Rattle.task_steps.specs.declared.step.Step.{Step}
-use Rattle.stack_base.specs.declared.ids.DevId.{DevId}
-use Rattle.run_machine.specs.Submissions.{Doing, Rests}
-use Rattle.run_machine.specs.Requests.{Request, Reply, TakeBio, TakeVec, TakeSlip, GiveBio, GiveVec, GiveSlip, Punt, Pop, Push, Complete, Link, Drop, Done, Resize, NextRound, LookRound, LookLeft, Rest, Missed, LinkedTo, DroppedTo, OutIs, LeftOver, Nothing, NoTicket}
-use Rattle.run_machine.specs.declared.event.TaskId.{TaskId}
+use Rattle.run_machine.specs.Requests.{Request, Reply, TakeBio, TakeVec, TakeSlip, Link, Drop, Resize, LookLeft, Rest, Missed, LinkedTo, DroppedTo, OutIs, LeftOver, Nothing, NoTicket}
 use Rattle.run_machine.specs.Events.{id_of, what_of, resize_of}
-use Rattle.run_machine.specs.Laws.{Object, OfNone, object_of}
 use Rattle.run_machine.specs.Scene.{Setup}
-use Rattle.task_steps.specs.Stage.{Stage, Owes}
-use Rattle.run_machine.specs.Tasks.{Todo, Gathered, NoBio, HasBio, HasBoth, Carried, Empty, Brings, Carries, Fails, Duty, Keeping, Keeps, carried_answered, carried_request, Stops, TaskState, Writer, Rescuer, Completer, Keeper, writer_look, request, look_of, lets, answered}
-use Rattle.task_steps.specs.Turns.{silent_step, step_by, step_of, resting_step, idle_step}
-use Rattle.object_things.specs.Stamps.{is_spent, PassBy}
+use Rattle.run_machine.specs.Tasks.{TaskState, request}
+use Rattle.task_steps.specs.Turns.{silent_step, step_by, resting_step}
+use Rattle.object_things.specs.Stamps.{PassBy}
 use Rattle.object_things.specs.Histories.{Call}
 use Rattle.shared_objects.specs.Calls.{struck}
-use Rattle.shared_objects.specs.Desks.{DeskState, HasCalled, PassOn, LooksAndCompletes, DeskServes}
-use Rattle.shared_objects.specs.Logs.{is_event, is_stop, is_glance, events_in, Looked, LogLeads, IsMet, HasPass, IsMade, IsLogged, HasStopped, seen_by, ShowsStep, StepsAreLogged}
-use Rattle.shared_objects.proofs.steps.GlanceStays.{event_struck, glance_struck, glance_kinds, glance_stays}
-use Rattle.shared_objects.proofs.steps.BrokenRests.{broken_rests, stop_breaks, spent_breaks_off}
+use Rattle.shared_objects.specs.Desks.{PassOn}
+use Rattle.shared_objects.specs.Logs.{is_event, is_stop, is_glance, events_in, seen_by, ShowsStep}
+use Rattle.shared_objects.proofs.steps.GlanceStays.{event_struck, glance_kinds}
 use Rattle.shared_objects.proofs.logs.CallsLead.{quiet_first}
 
 -- what the calls for a request show of the event that it is, if it is one
@@ -124,27 +117,7 @@ idle_shows setup task next seen calls look left true is quiet asks replies withi
     (quiet, inr (look, within, asks, replies ∙ ap LeftOver (grind (arith, nat_tests, is))))
 idle_shows setup task next seen calls look left false is quiet asks replies within = quiet
 
+-- a call that finds nothing is no event
 pub nothing_none : (asked : Request) → what_of asked Nothing ≡ None
--- calls of pools, but for resizes
 nothing_none (TakeBio set waits) = refl
-nothing_none TakeVec = refl
-nothing_none (TakeSlip dev) = refl
-nothing_none (GiveBio bio) = refl
-nothing_none (GiveVec vector) = refl
-nothing_none (GiveSlip slip) = refl
--- calls of lists of rescuers
-nothing_none (Punt dev moved) = refl
-nothing_none (Pop dev) = refl
--- calls of disks
-nothing_none (Push bio) = refl
-nothing_none (Complete disk) = refl
--- calls of books
-nothing_none (Link writer opening) = refl
-nothing_none (Drop writer node status part) = refl
--- calls of the tally, resizes and rests
-nothing_none (Done write status) = refl
-nothing_none (Resize pool min) = refl
-nothing_none (NextRound round) = refl
-nothing_none LookRound = refl
-nothing_none LookLeft = refl
-nothing_none Rest = refl
+nothing_none asked = refl
