@@ -1,9 +1,13 @@
 -- Tasks of shared objects that are in hand.
-use Rattle.std.specs.Prelude.{◌<◌, ◌⊎◌, ℕ, List, All, Contains, eqb, map, slice_index_or, Option}
+use Rattle.std.specs.Prelude.{◌<◌, ◌⊎◌, ◌++◌, ℕ, List, IsPermutation, All, Contains, eqb, map, slice_index_or, Option}
 use Rattle.std.specs.List.{IsDistinct}
 use Rattle.shared_objects.specs.Rans.{RanKey, RanState}
 use Rattle.shared_objects.specs.Shared.{IsBackStopped, IsOut}
 use Rattle.shared_objects.specs.declared.shared.Shared.{Shared}
+
+-- all of these keys were dealt: those of a hand, and the others are left
+abbrev pub IsDealt : {K : Type 0} → List K → List K → List K → Type 0
+IsDealt all hand left = IsPermutation all (hand ++ left)
 
 abbrev pub numbers : List RanKey → List ℕ
 numbers keys = map (λ (key : RanKey). key.number) keys

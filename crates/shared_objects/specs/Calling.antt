@@ -13,6 +13,11 @@ abbrev pub FitsWith : {Q : Type 0} → (Asking Q → Type 0) → Option PassStat
 FitsWith fits None ask = ⊥
 FitsWith fits (Some pass) ask = fits (record { pass = pass; ask = ask })
 
+-- and so of the object behind the lock at a place, whose mark says what fits it
+abbrev pub FitsAt : {K Q T M : Type 0} → (T → M) → (M → Asking Q → Type 0) → List (K × LockId T) → ℕ → Option PassState → Q → Type 0
+FitsAt {K} {Q} {T} mark fits locks place held ask =
+    (lock : K × LockId T) → lock ≡ slice_index_or locks place lock → FitsWith (fits (mark lock.1.key.value)) held ask
+
 -- An object was asked, and said this: the call stands last among those of the seat, and the pass is back.
 pub record HasAsked {Q S T : Type 0} (asked : Asking Q → Request) (told : Replied S → Told) (owes : Asking Q → Replied S → Type 0)
     (old : Known T Request Told) (before : Option PassState) (ask : Q) (said : S) (new : Known T Request Told) (after : Option PassState) : Type 0 where

@@ -1,8 +1,8 @@
 //! One call of an object by its seat, and what came of it.
-ghost use Rattle.std.specs.Prelude.{◌≡◌, slice_index_or};
-ghost use Rattle.seat_lock.specs.Seats.{IsOfLock, LockId};
+ghost use Rattle.std.specs.Prelude.{◌≡◌};
+ghost use Rattle.seat_lock.specs.Seats.{IsOfLock};
 ghost use Rattle.object_things.specs.Stamps.{or_unmade};
-ghost use Rattle.shared_objects.specs.Calling.{AreSeatedAt, FitsWith, HasAsked, HasAskedAt};
+ghost use Rattle.shared_objects.specs.Calling.{AreSeatedAt, FitsAt, FitsWith, HasAsked, HasAskedAt};
 
 use object_things::stamp::{Asked, Mark, Told};
 use object_things::{Asking, NoTicket, Replied};
@@ -58,7 +58,7 @@ where
     R: Wait,
     T: Thing<Request = Asking<Q>, Reply = Replied<S>, Asked = Asked, Told = Told, Mark = Mark>,
     requires seated { AreSeatedAt locks.now seats.old.items place }
-    requires fits { (lock : K × LockId T) → lock ≡ slice_index_or locks.now place lock → FitsWith (T.fits (T.mark lock.1.key.value)) pass.old ask }
+    requires fits { FitsAt T.mark T.fits locks.now place pass.old ask }
     ensures { HasAskedAt T.asked T.told (λ thing. T.owes (T.mark thing)) place locks.now seats.old.items pass.old ask result seats.new.items pass.new }
 {
     call(rt, &locks[place].1, &mut seats[place].1, pass, ask)

@@ -30,7 +30,7 @@ use Rattle.object_things.specs.Lists.{ListFits, ListOwes, ListSays, list_asked, 
 use Rattle.object_things.specs.Tallies.{TallyFits, TallyOwes, TallySays, tally_asked, tally_mark, tally_replied, tally_told}
 use Rattle.shared_objects.specs.declared.locks.Locks.{Locks}
 use Rattle.shared_objects.specs.declared.seats.TaskSeats.{TaskSeats}
-use Rattle.shared_objects.specs.Calling.{AreSeatedAt, FitsWith, HasAsked, HasAskedAt}
+use Rattle.shared_objects.specs.Calling.{AreSeatedAt, FitsAt, FitsWith, HasAsked, HasAskedAt}
 use Rattle.shared_objects.specs.Desks.{HasCalled}
 use Rattle.shared_objects.specs.Holding.{DeskHolds, calls_of, desk_of, stage_at}
 use Rattle.shared_objects.proofs.asking.PassAndCalls.{SeatCalls, fits_with, has_called, home_again, numbered_stays, owed_of, seat_calls}
@@ -43,8 +43,7 @@ module _ (locks : Locks) (seats : TaskSeats) (holds : DeskHolds locks seats) whe
     pub book_seated : AreSeatedAt rows seats.books.items place
     book_seated = has_seat rows_are holds.locked.books holds.seated.books n place is there
 
-    pub book_fits : RequestFits (stage_at locks) (book_asked ask) → BookAskAlone ask → (lock : ℕ × LockId BookThing) → lock ≡ slice_index_or rows place lock
-        → FitsWith (BookFits (book_mark lock.1.key.value)) seats.pass ask
+    pub book_fits : RequestFits (stage_at locks) (book_asked ask) → BookAskAlone ask → FitsAt book_mark BookFits rows place seats.pass ask
     book_fits fits alone =
         row_fits rows_are holds.locked.books holds.seated.books n place is there BookFits seats.pass ask holds.passed (λ pass clock. (clock, named, fits, alone))
 
@@ -90,8 +89,7 @@ module _ (locks : Locks) (seats : TaskSeats) (holds : DeskHolds locks seats) whe
     pub disk_seated : AreSeatedAt rows seats.disks.items place
     disk_seated = has_seat rows_are holds.locked.disks holds.seated.disks n place is there
 
-    pub disk_fits : RequestFits (stage_at locks) (disk_asked ask) → DiskAskAlone ask → (lock : DevId × LockId DiskThing) → lock ≡ slice_index_or rows place lock
-        → FitsWith (DiskFits (disk_mark lock.1.key.value)) seats.pass ask
+    pub disk_fits : RequestFits (stage_at locks) (disk_asked ask) → DiskAskAlone ask → FitsAt disk_mark DiskFits rows place seats.pass ask
     disk_fits fits alone =
         row_fits rows_are holds.locked.disks holds.seated.disks n place is there DiskFits seats.pass ask holds.passed (λ pass clock. (clock, named, fits, alone))
 
@@ -136,8 +134,7 @@ module _ (locks : Locks) (seats : TaskSeats) (holds : DeskHolds locks seats) whe
     pub list_seated : AreSeatedAt rows seats.lists.items place
     list_seated = has_seat rows_are holds.locked.lists holds.seated.lists n place is there
 
-    pub list_fits : RequestFits (stage_at locks) (list_asked ask) → (lock : DevId × LockId ListThing) → lock ≡ slice_index_or rows place lock
-        → FitsWith (ListFits (list_mark lock.1.key.value)) seats.pass ask
+    pub list_fits : RequestFits (stage_at locks) (list_asked ask) → FitsAt list_mark ListFits rows place seats.pass ask
     list_fits fits =
         row_fits rows_are holds.locked.lists holds.seated.lists n place is there ListFits seats.pass ask holds.passed (λ pass clock. (clock, named, fits))
 

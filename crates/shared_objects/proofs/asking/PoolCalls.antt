@@ -24,7 +24,7 @@ use Rattle.object_things.specs.Stamps.{MarkState, Told, stage_in}
 use Rattle.object_things.specs.Pools.{PoolAskFits, PoolFits, PoolOwes, PoolSays, object_pool_number, pool_asked, pool_mark, pool_replied, pool_told}
 use Rattle.shared_objects.specs.declared.locks.Locks.{Locks}
 use Rattle.shared_objects.specs.declared.seats.TaskSeats.{TaskSeats}
-use Rattle.shared_objects.specs.Calling.{AreSeatedAt, FitsWith, HasAsked, HasAskedAt}
+use Rattle.shared_objects.specs.Calling.{AreSeatedAt, FitsAt, FitsWith, HasAsked, HasAskedAt}
 use Rattle.shared_objects.specs.Desks.{HasCalled}
 use Rattle.shared_objects.specs.Holding.{DeskHolds, calls_in, calls_of, desk_of, set_key, slip_key, stage_at}
 use Rattle.task_core.specs.Plains.{by_kind}
@@ -39,8 +39,7 @@ module _ (locks : Locks) (seats : TaskSeats) (holds : DeskHolds locks seats) whe
     pub bios_seated : AreSeatedAt rows seats.bios.items place
     bios_seated = has_seat rows_are holds.locked.bios holds.seated.bios n place is there
 
-    pub bios_fits : PoolAskFits (stage_at locks) ask → (lock : SetId × LockId (PoolThing (BioBody Pad))) → lock ≡ slice_index_or rows place lock
-        → FitsWith (PoolFits (pool_mark lock.1.key.value)) seats.pass ask
+    pub bios_fits : PoolAskFits (stage_at locks) ask → FitsAt pool_mark PoolFits rows place seats.pass ask
     bios_fits fits =
         row_fits rows_are holds.locked.bios holds.seated.bios n place is there PoolFits seats.pass ask holds.passed (λ pass clock. (clock, named, fits))
 
@@ -84,8 +83,7 @@ module _ (locks : Locks) (seats : TaskSeats) (holds : DeskHolds locks seats) whe
     pub slips_seated : AreSeatedAt rows seats.records.items place
     slips_seated = has_seat rows_are holds.locked.records holds.seated.records n place is there
 
-    pub slips_fits : PoolAskFits (stage_at locks) ask → (lock : DevId × LockId (PoolThing Slip)) → lock ≡ slice_index_or rows place lock
-        → FitsWith (PoolFits (pool_mark lock.1.key.value)) seats.pass ask
+    pub slips_fits : PoolAskFits (stage_at locks) ask → FitsAt pool_mark PoolFits rows place seats.pass ask
     slips_fits fits =
         row_fits rows_are holds.locked.records holds.seated.records n place is there PoolFits seats.pass ask holds.passed (λ pass clock. (clock, named, fits))
 

@@ -10,7 +10,7 @@ use Rattle.object_things.specs.declared.stamp.Asking.{Asking}
 use Rattle.object_things.specs.declared.stamp.Replied.{Replied}
 use Rattle.object_things.specs.Histories.{Call}
 use Rattle.object_things.specs.Stamps.{CommonState, MarkState, PassByReply, Told, told_by}
-use Rattle.shared_objects.specs.Calling.{AreSeatedAt, FitsWith, HasAskedAt}
+use Rattle.shared_objects.specs.Calling.{AreSeatedAt, FitsAt, FitsWith, HasAskedAt}
 use Rattle.shared_objects.specs.Calls.{CallsAt, with_call}
 use Rattle.shared_objects.specs.Desks.{HasCalled}
 use Rattle.shared_objects.specs.Holding.{AreLocked, AreSeatsOf, IsPassOf, IsSeatOf, calls_in}
@@ -36,7 +36,7 @@ module _ {K T : Type 0} {key : K → ℕ} {mark : T → MarkState} {name : ℕ �
   -- what fits the object of the number fits that behind the lock there
   pub row_fits : {Q : Type 0} (fits : MarkState → Asking Q → Type 0) (held : Option PassState) (ask : Q) → IsPassOf common.clock held
       → ((pass : PassState) → pass.clock ≡ common.clock → fits (mark_as common (name n)) (record { pass = pass; ask = ask }))
-      → (lock : K × LockId T) → lock ≡ slice_index_or locks i lock → FitsWith (fits (mark lock.1.key.value)) held ask
+      → FitsAt mark fits locks i held ask
   row_fits fits held ask home all lock lock_is =
       subst (λ (m : MarkState). FitsWith (fits m) held ask) (sym (named_at locked seated n i is place lock lock_is))
       (fits_with (fits (mark_as common (name n))) common.clock held ask home all)
