@@ -104,17 +104,7 @@ module _ (plain now : Plain) (tasks : List TaskOf) (stream after : Lcg) where
         chooses.1,
       )
       -- nothing else picks
-      by_what (what.Take pool got) same = same
-      by_what (what.Try pool got) same = same
-      by_what (what.Give pool) same = same
-      by_what (what.Punt dev moved) same = same
-      by_what (what.Pop dev) same = same
-      by_what (what.Push disk at len leg) same = same
-      by_what (what.Link writer how node) same = same
-      by_what (what.Drop writer node status end) same = same
-      by_what (what.Done write status) same = same
-      by_what (what.Resize pool min) same = same
-      by_what (what.Round round) same = same
+      by_what w same = same
 
   picks : (task : TaskState) (event : Event) → (IsNoCompleter task → is_complete event.what ≡ false)
       → ChosenBy task Chooses (PlainPicks plain) now stream (Stepped event) after → PicksByWord (run_state plain tasks) event.what stream after

@@ -55,57 +55,42 @@ module _ (setup : Setup) (task : TaskId) (old new : Objects) (ledger : ℕ → L
   found_breaks (requests.TakeBio set true) (requests.Missed true) fair serves well e = cc
   found_breaks (requests.TakeBio set true) (requests.Missed false) fair serves well e = cc
   found_breaks (requests.TakeBio set false) (requests.Missed used) fair serves well e = cc
-  found_breaks (requests.TakeBio set waits) _ fair serves well e = absurd serves
   found_breaks requests.TakeVec (requests.HadVec got vector) fair serves well e = cc
   found_breaks requests.TakeVec (requests.Missed true) fair serves well e = cc
   found_breaks requests.TakeVec (requests.Missed false) fair serves well e = cc
-  found_breaks requests.TakeVec _ fair serves well e = absurd serves
   found_breaks (requests.TakeSlip dev) (requests.HadSlip got slip) fair serves well e = cc
   found_breaks (requests.TakeSlip dev) (requests.Missed true) fair serves well e = cc
   found_breaks (requests.TakeSlip dev) (requests.Missed false) fair serves well e = cc
-  found_breaks (requests.TakeSlip dev) _ fair serves well e = absurd serves
   -- gives
   found_breaks (requests.GiveBio bio) requests.Did fair serves well e = cc
-  found_breaks (requests.GiveBio bio) _ fair serves well e = absurd serves
   found_breaks (requests.GiveVec vector) requests.Did fair serves well e = cc
-  found_breaks (requests.GiveVec vector) _ fair serves well e = absurd serves
   found_breaks (requests.GiveSlip slip) requests.Did fair serves well e = cc
-  found_breaks (requests.GiveSlip slip) _ fair serves well e = absurd serves
   -- lists of rescuers, with a bio or without one
   found_breaks (requests.Punt dev moved) requests.Did fair serves well e = cc
-  found_breaks (requests.Punt dev moved) _ fair serves well e = absurd serves
   found_breaks (requests.Pop dev) (requests.Popped bio) fair serves well e = cc
   found_breaks (requests.Pop dev) requests.Nothing fair serves well e = cc
-  found_breaks (requests.Pop dev) _ fair serves well e = absurd serves
   -- disks, with a bio that waits or without one
   found_breaks (requests.Push bio) requests.Did fair serves well e = cc
-  found_breaks (requests.Push bio) _ fair serves well e = absurd serves
   found_breaks (requests.Complete disk) (requests.Completed index bio status) fair serves well e = cc
   found_breaks (requests.Complete disk) requests.Nothing fair serves well e = cc
-  found_breaks (requests.Complete disk) _ fair serves well e = absurd serves
   -- books: none is refused
   found_breaks (requests.Link writer opening) (requests.LinkedTo (Made node)) fair serves well e = cc
   found_breaks (requests.Link writer opening) (requests.LinkedTo (NoRoom back)) fair serves well e = true≢false well
   found_breaks (requests.Link writer opening) (requests.LinkedTo (Stray back)) fair serves well e = true≢false well
-  found_breaks (requests.Link writer opening) _ fair serves well e = absurd serves
   found_breaks (requests.Drop writer node status part) (requests.DroppedTo end.Left) fair serves well e = cc
   found_breaks (requests.Drop writer node status part) (requests.DroppedTo (end.Up closed)) fair serves well e = cc
   found_breaks (requests.Drop writer node status part) (requests.DroppedTo (end.Top closed)) fair serves well e = cc
   found_breaks (requests.Drop writer node status part) (requests.DroppedTo (end.Stray back)) fair serves well e = true≢false well
-  found_breaks (requests.Drop writer node status part) _ fair serves well e = absurd serves
   -- ends of writes
   found_breaks (requests.Done write status) requests.Did fair serves well e = cc
-  found_breaks (requests.Done write status) _ fair serves well e = absurd serves
   -- resizes: nothing is out
   found_breaks (requests.Resize pool min) (requests.OutIs out) fair serves well e = resizes_well task pool min out _ breach (serves.0 ∙ fair) e
-  found_breaks (requests.Resize pool min) _ fair serves well e = absurd serves
   -- starts of rounds
   found_breaks (requests.NextRound round) requests.Did fair serves well e = cc
-  found_breaks (requests.NextRound round) _ fair serves well e = absurd serves
-  -- looks are not asked for, and rests are not answered
+  -- looks are not asked for, and nothing else is answered
   found_breaks requests.LookRound reply fair serves well e = absurd fair
   found_breaks requests.LookLeft reply fair serves well e = absurd fair
-  found_breaks requests.Rest reply fair serves well e = absurd serves
+  found_breaks asked reply fair serves well e = absurd serves
 
 -- a task that did not break off rests as one that has ended
 whole : (task : TaskState) → is_broken task ≡ false → breach_of task ≡ None

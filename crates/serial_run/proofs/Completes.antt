@@ -46,52 +46,36 @@ told_other (requests.TakeBio set false) (requests.HadBio got bio) others = refl
 told_other (requests.TakeBio set true) (requests.Missed true) others = refl
 told_other (requests.TakeBio set true) (requests.Missed false) others = refl
 told_other (requests.TakeBio set false) (requests.Missed used) others = refl
-told_other (requests.TakeBio set waits) _ others = refl
 told_other requests.TakeVec (requests.HadVec got vector) others = refl
 told_other requests.TakeVec (requests.Missed true) others = refl
 told_other requests.TakeVec (requests.Missed false) others = refl
-told_other requests.TakeVec _ others = refl
 told_other (requests.TakeSlip dev) (requests.HadSlip got slip) others = refl
 told_other (requests.TakeSlip dev) (requests.Missed true) others = refl
 told_other (requests.TakeSlip dev) (requests.Missed false) others = refl
-told_other (requests.TakeSlip dev) _ others = refl
 -- gives
 told_other (requests.GiveBio bio) requests.Did others = refl
-told_other (requests.GiveBio bio) _ others = refl
 told_other (requests.GiveVec vector) requests.Did others = refl
-told_other (requests.GiveVec vector) _ others = refl
 told_other (requests.GiveSlip slip) requests.Did others = refl
-told_other (requests.GiveSlip slip) _ others = refl
 -- lists of rescuers
 told_other (requests.Punt dev moved) requests.Did others = refl
-told_other (requests.Punt dev moved) _ others = refl
 told_other (requests.Pop dev) (requests.Popped bio) others = refl
-told_other (requests.Pop dev) _ others = refl
 -- disks: a completion is the one request that is left out
 told_other (requests.Push bio) requests.Did others = refl
-told_other (requests.Push bio) _ others = refl
 told_other (requests.Complete disk) reply others = absurd (true≢false others)
 -- books
 told_other (requests.Link writer opening) (requests.LinkedTo (Made node)) others = refl
 told_other (requests.Link writer opening) (requests.LinkedTo (NoRoom back)) others = refl
 told_other (requests.Link writer opening) (requests.LinkedTo (Stray back)) others = refl
-told_other (requests.Link writer opening) _ others = refl
 told_other (requests.Drop writer node status part) (requests.DroppedTo end.Left) others = refl
 told_other (requests.Drop writer node status part) (requests.DroppedTo (end.Up closed)) others = refl
 told_other (requests.Drop writer node status part) (requests.DroppedTo (end.Top closed)) others = refl
 told_other (requests.Drop writer node status part) (requests.DroppedTo (end.Stray back)) others = refl
-told_other (requests.Drop writer node status part) _ others = refl
 -- the tally, and reserves
 told_other (requests.Done write status) requests.Did others = refl
-told_other (requests.Done write status) _ others = refl
 told_other (requests.Resize pool min) (requests.OutIs out) others = resized _ pool min
-told_other (requests.Resize pool min) _ others = refl
 told_other (requests.NextRound round) requests.Did others = refl
-told_other (requests.NextRound round) _ others = refl
--- looks and rests are no events
-told_other requests.LookRound reply others = refl
-told_other requests.LookLeft reply others = refl
-told_other requests.Rest reply others = refl
+-- nothing else is an event
+told_other asked reply others = refl
 
 -- neither the end of a bio nor the start of a round
 abbrev pub is_other : Request → Bool
@@ -101,11 +85,11 @@ is_other request = true
 
 other_completes : (asked : Request) → is_other asked ≡ true → completes asked ≡ false
 other_completes (requests.Complete disk) other = absurd (true≢false (sym other))
-other_completes _ other = refl
+other_completes asked other = refl
 
 other_has_round : (objects : Objects) (asked : Request) → is_other asked ≡ true → HasRound objects asked
 other_has_round objects (requests.NextRound round) other = absurd (true≢false (sym other))
-other_has_round objects _ other = tt
+other_has_round objects asked other = tt
 
 module _ (setup : Setup) where
   -- writers and rescuers ask for nothing else

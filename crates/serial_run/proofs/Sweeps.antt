@@ -56,19 +56,7 @@ free_is_other : (w : What) → IsTrue (is_free w) → IsTrue (is_ordinary w) →
 -- a take of ordinary memory is not free
 free_is_other (what.Take pool got.Ordinary) free ordinary = true≢false (sym free)
 -- nothing else needs such memory
-free_is_other (what.Take pool got.Spare) free ordinary = true≢false (sym ordinary)
-free_is_other (what.Take pool got.Missed) free ordinary = true≢false (sym ordinary)
-free_is_other (what.Try pool got) free ordinary = true≢false (sym ordinary)
-free_is_other (what.Give pool) free ordinary = true≢false (sym ordinary)
-free_is_other (what.Punt dev moved) free ordinary = true≢false (sym ordinary)
-free_is_other (what.Pop dev) free ordinary = true≢false (sym ordinary)
-free_is_other (what.Push disk at len leg) free ordinary = true≢false (sym ordinary)
-free_is_other (what.Complete disk index status) free ordinary = true≢false (sym ordinary)
-free_is_other (what.Link writer how node) free ordinary = true≢false (sym ordinary)
-free_is_other (what.Drop writer node status end) free ordinary = true≢false (sym ordinary)
-free_is_other (what.Done write status) free ordinary = true≢false (sym ordinary)
-free_is_other (what.Resize pool min) free ordinary = true≢false (sym ordinary)
-free_is_other (what.Round round) free ordinary = true≢false (sym ordinary)
+free_is_other w free ordinary = true≢false (sym ordinary)
 
 -- so not all tasks are passed over
 pub some_steps : (scene : Scene) (state : State) (w : ℕ) → HasFree scene state

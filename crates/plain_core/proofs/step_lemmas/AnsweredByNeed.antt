@@ -112,52 +112,42 @@ met old (TakeBio set waits) told (HadBio got.Ordinary bio) new is serves free = 
 met old (TakeBio set waits) told (HadBio got.Spare bio) new is serves free = inl serves.0.0
 met old (TakeBio set waits) told (HadBio got.Missed bio) new is serves free = absurd serves.0
 met old (TakeBio set waits) told (Missed used) new is serves free = inr (missed_free waits used (bios_of set) told is free, serves.0.0)
-met old (TakeBio set waits) told _ new is serves free = absurd serves
 met old TakeVec told (HadVec got.Ordinary vector) new is serves free = absurd (ordinary_told true FsVecs told is free)
 met old TakeVec told (HadVec got.Spare vector) new is serves free = inl serves.0.0
 met old TakeVec told (HadVec got.Missed vector) new is serves free = absurd serves.0
 met old TakeVec told (Missed used) new is serves free = never_true (missed_free true used FsVecs told is free)
-met old TakeVec told _ new is serves free = absurd serves
 met old (TakeSlip dev) told (HadSlip got.Ordinary slip) new is serves free = absurd (ordinary_told true (Records dev) told is free)
 met old (TakeSlip dev) told (HadSlip got.Spare slip) new is serves free = inl serves.0.0
 met old (TakeSlip dev) told (HadSlip got.Missed slip) new is serves free = absurd serves.0
 met old (TakeSlip dev) told (Missed used) new is serves free = never_true (missed_free true used (Records dev) told is free)
-met old (TakeSlip dev) told _ new is serves free = absurd serves
 -- gives: the element is out
 met old (GiveBio bio) told Did new is serves free = serves.0
-met old (GiveBio bio) told _ new is serves free = absurd serves
 met old (GiveVec vector) told Did new is serves free = serves.0
-met old (GiveVec vector) told _ new is serves free = absurd serves
 met old (GiveSlip slip) told Did new is serves free = serves.0
-met old (GiveSlip slip) told _ new is serves free = absurd serves
 -- bios for a rescuer, and one of those that wait
 met old (Punt dev moved) told reply new is serves free = tt
 met old (Pop dev) told (Popped bio) new is serves free = let long = ap length serves.0 in omega (arith, long)
 met old (Pop dev) told Nothing new is serves free = nothing_told is
-met old (Pop dev) told _ new is serves free = absurd serves
 -- a bio for a disk, and a completion of one of those that wait
 met old (Push bio) told reply new is serves free = tt
 met old (Complete disk) told (Completed index bio ending) new is serves free =
     let lt = slice_get_within (core_disk_at old disk.0).pending index bio serves.0.taken in
     omega (arith, lt)
 met old (Complete disk) told Nothing new is serves free = nothing_told is
-met old (Complete disk) told _ new is serves free = absurd serves
 -- nodes: a vacant place, or an open node
 met old (Link writer opening) told (LinkedTo answer) new is serves free = link_met old writer opening answer (new.book writer) told is serves.0
-met old (Link writer opening) told _ new is serves free = absurd serves
 met old (Drop writer node ending part) told (DroppedTo ended) new is serves free =
     end_met old writer node ending part (node_at (core_book_at old writer) node) ended (new.book writer) told refl is serves.0
-met old (Drop writer node ending part) told _ new is serves free = absurd serves
 -- the tally, a reserve with nothing out, and the next round
 met old (Done write ending) told reply new is serves free = tt
 met old (Resize pool min) told (OutIs out) new is serves free = home_met out _ pool min told (out == 0) refl is serves.0
-met old (Resize pool min) told _ new is serves free = absurd serves
 met old (NextRound round) told Did new is serves free = serves.0
-met old (NextRound round) told _ new is serves free = absurd serves
 -- looks and rests tell nothing
 met old LookRound told reply new is serves free = nothing_told is
 met old LookLeft told reply new is serves free = nothing_told is
 met old Rest told reply new is serves free = nothing_told is
+-- nothing else is served
+met old asked told reply new is serves free = absurd serves
 
 -- the other way: how each is answered
 abbrev pool_free : (old : CoreObjects) (n : ℕ) (p : PoolState) → Objects
@@ -271,6 +261,30 @@ drop_free old writer place ending part n is lt =
         dropped old writer place ending part (drop.Up closed) after _ refl refl
         (subst (λ node. DropsAt (core_book_at old writer) place node ending part (drop.Up closed) after) (sym is) (last, subst IsSome (sym some) refl, refl, refl))
 
+-- a spare is taken, or an element is given back
+spare_taken : (old : CoreObjects) (request : Request) (pool : PoolId) (reply : Reply) → what_of request reply ≡ Some (what.Take pool got.Spare)
+    → Serves ledger_of (objects_of_core old) request reply (pool_free old (pool_number pool) (after_move (core_pool_at old (pool_number pool)) takes_spare))
+    → CanFree old request
+spare_taken old request pool reply tells serves = record {
+  what = what.Take pool got.Spare;
+  reply = reply;
+  new = pool_free old (pool_number pool) (after_move (core_pool_at old (pool_number pool)) takes_spare);
+  told = tells;
+  serves = serves;
+  free = refl;
+}
+
+given_back : (old : CoreObjects) (request : Request) (number : ℕ) → what_of request Did ≡ Some (what.Give (pool_of number))
+    → Serves ledger_of (objects_of_core old) request Did (pool_free old number (after_move (core_pool_at old number) gives)) → CanFree old request
+given_back old request number tells serves = record {
+  what = what.Give (pool_of number);
+  reply = Did;
+  new = pool_free old number (after_move (core_pool_at old number) gives);
+  told = tells;
+  serves = serves;
+  free = refl;
+}
+
 free : (old : CoreObjects) (request : Request) → NeedIsMet old (need_of request) → CanFree old request
 -- takes have a spare, or miss where they do not wait
 free old (TakeBio set waits) (inl can) = record {
@@ -290,49 +304,15 @@ free old (TakeBio set false) (inr miss) = record {
   serves = ((miss.1, refl), refl);
   free = refl;
 }
-free old TakeVec (inl can) = record {
-  what = what.Take FsVecs got.Spare;
-  reply = HadVec got.Spare (clear_vector (ledger_of (pool_number FsVecs)));
-  new = pool_free old (pool_number FsVecs) (after_move (core_pool_at old (pool_number FsVecs)) takes_spare);
-  told = refl;
-  serves = ((can, refl), refl);
-  free = refl;
-}
+free old TakeVec (inl can) = spare_taken old TakeVec FsVecs (HadVec got.Spare (clear_vector (ledger_of (pool_number FsVecs)))) refl ((can, refl), refl)
 free old TakeVec (inr miss) = never_true miss.0
-free old (TakeSlip dev) (inl can) = record {
-  what = what.Take (Records dev) got.Spare;
-  reply = HadSlip got.Spare (clear_slip (ledger_of (pool_number (Records dev))));
-  new = pool_free old (pool_number (Records dev)) (after_move (core_pool_at old (pool_number (Records dev))) takes_spare);
-  told = refl;
-  serves = ((can, refl), refl);
-  free = refl;
-}
+free old (TakeSlip dev) (inl can) =
+    spare_taken old (TakeSlip dev) (Records dev) (HadSlip got.Spare (clear_slip (ledger_of (pool_number (Records dev))))) refl ((can, refl), refl)
 free old (TakeSlip dev) (inr miss) = never_true miss.0
 -- an element that is out is given back
-free old (GiveBio bio) lt = record {
-  what = what.Give (pool_of bio.share.no);
-  reply = Did;
-  new = pool_free old bio.share.no (after_move (core_pool_at old bio.share.no) gives);
-  told = refl;
-  serves = (lt, refl);
-  free = refl;
-}
-free old (GiveVec vector) lt = record {
-  what = what.Give (pool_of vector.share.no);
-  reply = Did;
-  new = pool_free old vector.share.no (after_move (core_pool_at old vector.share.no) gives);
-  told = refl;
-  serves = (lt, refl);
-  free = refl;
-}
-free old (GiveSlip slip) lt = record {
-  what = what.Give (pool_of slip.share.no);
-  reply = Did;
-  new = pool_free old slip.share.no (after_move (core_pool_at old slip.share.no) gives);
-  told = refl;
-  serves = (lt, refl);
-  free = refl;
-}
+free old (GiveBio bio) lt = given_back old (GiveBio bio) bio.share.no refl (lt, refl)
+free old (GiveVec vector) lt = given_back old (GiveVec vector) vector.share.no refl (lt, refl)
+free old (GiveSlip slip) lt = given_back old (GiveSlip slip) slip.share.no refl (lt, refl)
 -- bios go to a rescuer, and the first that waits comes from it
 free old (Punt dev moved) m = record { what = what.Punt dev (min (length moved) (2 ^ 64 - 1)); reply = Did; new = _; told = refl; serves = refl; free = refl }
 free old (Pop dev) lt = popped old dev (core_rescue_at old dev.0) refl lt

@@ -51,23 +51,16 @@ pub pool_is : (own : LedgerId) (old new : LedgerPool) (asked : Request) (reply :
 -- takes: an element is handed out, which is clear, or the pool misses
 pool_is own old new (TakeBio set waits) (HadBio from bio) is h = (has_one old new from h.0, h.1 ∙ ap clear_bio is)
 pool_is own old new (TakeBio set waits) (Missed used) is h = goes old new (misses used) h.0
-pool_is own old new (TakeBio set waits) reply is h = absurd h
 pool_is own old new TakeVec (HadVec from vector) is h = (has_one old new from h.0, h.1 ∙ ap clear_vector is)
 pool_is own old new TakeVec (Missed used) is h = goes old new (misses used) h.0
-pool_is own old new TakeVec reply is h = absurd h
 pool_is own old new (TakeSlip dev) (HadSlip from slip) is h = (has_one old new from h.0, h.1 ∙ ap clear_slip is)
 pool_is own old new (TakeSlip dev) (Missed used) is h = goes old new (misses used) h.0
-pool_is own old new (TakeSlip dev) reply is h = absurd h
 -- gives: one less is out
 pool_is own old new (GiveBio bio) Did is h = goes old new gives h.0
-pool_is own old new (GiveBio bio) reply is h = absurd h
 pool_is own old new (GiveVec vector) Did is h = goes old new gives h.0
-pool_is own old new (GiveVec vector) reply is h = absurd h
 pool_is own old new (GiveSlip slip) Did is h = goes old new gives h.0
-pool_is own old new (GiveSlip slip) reply is h = absurd h
 -- resizes: the reserve is the new one where nothing is out
 pool_is own old new (Resize pool min) (OutIs out) is h = (h.0, resized old new min out h.1)
-pool_is own old new (Resize pool min) reply is h = absurd h
 -- a pool serves nothing else
 pool_is own old new asked reply is h = absurd h
 
@@ -86,23 +79,16 @@ pub pool_stays : (old new : LedgerPool) (asked : Request) (reply : Reply) → po
 -- takes: what is served is an event, an element that was handed out or a miss
 pool_stays old new (TakeBio set waits) (HadBio from bio) h not = absurd (true≢false not)
 pool_stays old new (TakeBio set waits) (Missed used) h not = miss_told waits used _ h.1 not
-pool_stays old new (TakeBio set waits) reply h not = absurd h
 pool_stays old new TakeVec (HadVec from vector) h not = absurd (true≢false not)
 pool_stays old new TakeVec (Missed used) h not = miss_told true used _ h.1 not
-pool_stays old new TakeVec reply h not = absurd h
 pool_stays old new (TakeSlip dev) (HadSlip from slip) h not = absurd (true≢false not)
 pool_stays old new (TakeSlip dev) (Missed used) h not = miss_told true used _ h.1 not
-pool_stays old new (TakeSlip dev) reply h not = absurd h
 -- gives are events
 pool_stays old new (GiveBio bio) Did h not = absurd (true≢false not)
-pool_stays old new (GiveBio bio) reply h not = absurd h
 pool_stays old new (GiveVec vector) Did h not = absurd (true≢false not)
-pool_stays old new (GiveVec vector) reply h not = absurd h
 pool_stays old new (GiveSlip slip) Did h not = absurd (true≢false not)
-pool_stays old new (GiveSlip slip) reply h not = absurd h
 -- resizes: where something is out, the pool stays as it is
 pool_stays old new (Resize pool min) (OutIs out) h not = out_stays old new pool min out h.1 not
-pool_stays old new (Resize pool min) reply h not = absurd h
 -- a pool serves nothing else
 pool_stays old new asked reply h not = absurd h
 
@@ -120,62 +106,45 @@ pub pool_ledger : (old new : LedgerPool) (asked : Request) (reply : Reply) → p
 -- takes: of the same ledger, whether an element is handed out or missed
 pool_ledger old new (TakeBio set waits) (HadBio from bio) h = one_ledger old new from h.0
 pool_ledger old new (TakeBio set waits) (Missed used) h = h.0.ledger
-pool_ledger old new (TakeBio set waits) reply h = absurd h
 pool_ledger old new TakeVec (HadVec from vector) h = one_ledger old new from h.0
 pool_ledger old new TakeVec (Missed used) h = h.0.ledger
-pool_ledger old new TakeVec reply h = absurd h
 pool_ledger old new (TakeSlip dev) (HadSlip from slip) h = one_ledger old new from h.0
 pool_ledger old new (TakeSlip dev) (Missed used) h = h.0.ledger
-pool_ledger old new (TakeSlip dev) reply h = absurd h
 -- gives: of the same ledger
 pool_ledger old new (GiveBio bio) Did h = h.0.ledger
-pool_ledger old new (GiveBio bio) reply h = absurd h
 pool_ledger old new (GiveVec vector) Did h = h.0.ledger
-pool_ledger old new (GiveVec vector) reply h = absurd h
 pool_ledger old new (GiveSlip slip) Did h = h.0.ledger
-pool_ledger old new (GiveSlip slip) reply h = absurd h
 -- resizes: of the same ledger
 pool_ledger old new (Resize pool min) (OutIs out) h = out_ledger old new min out h.1
-pool_ledger old new (Resize pool min) reply h = absurd h
 -- a pool serves nothing else
 pool_ledger old new asked reply h = absurd h
 
 -- lists of rescuers
 pub list_is : (old new : Rescue) (asked : Request) (reply : Reply) → lists.ListServes old asked reply new → RescuerMachine old.bios asked reply new.bios
 list_is old new (Punt dev moved) Did h = ap (λ (list : Rescue). list.bios) h.1
-list_is old new (Punt dev moved) reply h = absurd h
 list_is old new (Pop dev) (Popped bio) h = h.1
-list_is old new (Pop dev) reply h = absurd h
 list_is old new asked reply h = absurd h
 
 pub list_stays : (old new : Rescue) (asked : Request) (reply : Reply) → lists.ListServes old asked reply new → is_event asked reply ≡ false → new ≡ old
 list_stays old new (Punt dev moved) Did h not = absurd (true≢false not)
-list_stays old new (Punt dev moved) reply h not = absurd h
 list_stays old new (Pop dev) (Popped bio) h not = absurd (true≢false not)
-list_stays old new (Pop dev) reply h not = absurd h
 list_stays old new asked reply h not = absurd h
 
 -- disks
 pub disk_is : (old new : DiskState) (asked : Request) (reply : Reply) → disks.DiskServes old asked reply new → DiskMachine old asked reply new
 disk_is old new (Push bio) Did h = h.1
-disk_is old new (Push bio) reply h = absurd h
 disk_is old new (Complete disk) (Completed index bio status) h = h.1
-disk_is old new (Complete disk) reply h = absurd h
 disk_is old new asked reply h = absurd h
 
 pub disk_stays : (old new : DiskState) (asked : Request) (reply : Reply) → disks.DiskServes old asked reply new → is_event asked reply ≡ false → new ≡ old
 disk_stays old new (Push bio) Did h not = absurd (true≢false not)
-disk_stays old new (Push bio) reply h not = absurd h
 disk_stays old new (Complete disk) (Completed index bio status) h not = absurd (true≢false not)
-disk_stays old new (Complete disk) reply h not = absurd h
 disk_stays old new asked reply h not = absurd h
 
 -- books
 pub book_is : (old new : BookState) (asked : Request) (reply : Reply) → books.BookServes old asked reply new → BookMachine old asked reply new
 book_is old new (Link writer opening) (LinkedTo answer) h = h.1
-book_is old new (Link writer opening) reply h = absurd h
 book_is old new (Drop writer node status part) (DroppedTo ended) h = h.1
-book_is old new (Drop writer node status part) reply h = absurd h
 book_is old new asked reply h = absurd h
 
 module _ (old new : BookState) where
@@ -221,13 +190,11 @@ module _ (old new : BookState) where
   book_stays (Link writer opening) (LinkedTo (Made place)) h not = absurd (true≢false not)
   book_stays (Link writer opening) (LinkedTo (NoRoom back)) h not = link_stays opening (NoRoom back) h.1 (λ place is. cc)
   book_stays (Link writer opening) (LinkedTo (Stray back)) h not = link_stays opening (Stray back) h.1 (λ place is. cc)
-  book_stays (Link writer opening) reply h not = absurd h
   -- drops: an end that was dropped is an event, and a drop at no node changes nothing
   book_stays (Drop writer node status part) (DroppedTo end.Left) h not = absurd (true≢false not)
   book_stays (Drop writer node status part) (DroppedTo (end.Up closed)) h not = absurd (true≢false not)
   book_stays (Drop writer node status part) (DroppedTo (end.Top closed)) h not = absurd (true≢false not)
   book_stays (Drop writer node status part) (DroppedTo (end.Stray back)) h not = drop_stays node (node_at old node) status part back h.1
-  book_stays (Drop writer node status part) reply h not = absurd h
   -- a book serves nothing else
   book_stays asked reply h not = absurd h
 
@@ -239,19 +206,15 @@ HasNext tally asked = Unit {0}
 pub tally_is : (old new : TallyState) (asked : Request) (reply : Reply) → HasNext old asked → tallies.TallyServes old asked reply new → TallyMachine old asked reply new
 -- ends of writes
 tally_is old new (Done write status) Did next h = h
-tally_is old new (Done write status) reply next h = absurd h
 -- rounds: the next one is there
 tally_is old new (NextRound round) Did next (inl h) = h
 tally_is old new (NextRound round) Did next (inr (last, same)) = absurd (omega (arith, next, last))
-tally_is old new (NextRound round) reply next h = absurd h
 -- a tally serves nothing else with a ticket
 tally_is old new asked reply next h = absurd h
 
 pub tally_stays : (old new : TallyState) (asked : Request) (reply : Reply) → tallies.TallyServes old asked reply new → is_event asked reply ≡ false → new ≡ old
 -- ends of writes and starts of rounds are events
 tally_stays old new (Done write status) Did h not = absurd (true≢false not)
-tally_stays old new (Done write status) reply h not = absurd h
 tally_stays old new (NextRound round) Did h not = absurd (true≢false not)
-tally_stays old new (NextRound round) reply h not = absurd h
 -- a tally serves nothing else with a ticket
 tally_stays old new asked reply h not = absurd h

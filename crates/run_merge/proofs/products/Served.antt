@@ -55,52 +55,35 @@ pub serves_one : (ledger : ℕ → LedgerId) (o : Objects) (request : Request) (
 -- takes: the pool handed an element out, or missed
 serves_one ledger o (TakeBio set waits) (HadBio from bio) new h = (pool_has o new (pool_number (bios_of set)) from h.0, h.1)
 serves_one ledger o (TakeBio set waits) (Missed used) new h = pool_goes o new (pool_number (bios_of set)) (misses used) h
-serves_one ledger o (TakeBio set waits) reply new h = absurd h
 serves_one ledger o TakeVec (HadVec from vector) new h = (pool_has o new (pool_number FsVecs) from h.0, h.1)
 serves_one ledger o TakeVec (Missed used) new h = pool_goes o new (pool_number FsVecs) (misses used) h
-serves_one ledger o TakeVec reply new h = absurd h
 serves_one ledger o (TakeSlip dev) (HadSlip from slip) new h = (pool_has o new (pool_number (Records dev)) from h.0, h.1)
 serves_one ledger o (TakeSlip dev) (Missed used) new h = pool_goes o new (pool_number (Records dev)) (misses used) h
-serves_one ledger o (TakeSlip dev) reply new h = absurd h
 -- gives: the pool of the element has it back
 serves_one ledger o (GiveBio bio) Did new h = pool_goes o new bio.share.no gives h
-serves_one ledger o (GiveBio bio) reply new h = absurd h
 serves_one ledger o (GiveVec vector) Did new h = pool_goes o new vector.share.no gives h
-serves_one ledger o (GiveVec vector) reply new h = absurd h
 serves_one ledger o (GiveSlip slip) Did new h = pool_goes o new slip.share.no gives h
-serves_one ledger o (GiveSlip slip) reply new h = absurd h
 -- lists of rescuers: bios are put behind what waits, or the first one leaves
 serves_one ledger o (Punt dev moved) Did new h = ap (λ (x : Objects). x.rescue dev.0) h ∙ upd_same o.rescue dev.0 (o.rescue dev.0 ++ moved)
-serves_one ledger o (Punt dev moved) reply new h = absurd h
 serves_one ledger o (Pop dev) (Popped bio) new h = h.0
 serves_one ledger o (Pop dev) Nothing new h = (h.0, ap (λ (x : Objects). x.rescue dev.0) h.1)
-serves_one ledger o (Pop dev) reply new h = absurd h
 -- disks: a bio is pushed, or one that waits is completed
 serves_one ledger o (Push bio) Did new h = ap (λ (x : Objects). x.disk bio.bio.dev.0) h ∙ upd_same o.disk bio.bio.dev.0 (pushed bio (o.disk bio.bio.dev.0))
-serves_one ledger o (Push bio) reply new h = absurd h
 serves_one ledger o (Complete disk) (Completed index bio status) new h = h.0
 serves_one ledger o (Complete disk) Nothing new h = (h.0, ap (λ (x : Objects). x.disk disk.0) h.1)
-serves_one ledger o (Complete disk) reply new h = absurd h
 -- books: a node is linked, or drops an end
 serves_one ledger o (Link writer opening) (LinkedTo answer) new h = h.0
-serves_one ledger o (Link writer opening) reply new h = absurd h
 serves_one ledger o (Drop writer node status part) (DroppedTo ended) new h = h.0
-serves_one ledger o (Drop writer node status part) reply new h = absurd h
 -- ends of writes: the tally has one unfinished write less
 serves_one ledger o (Done write status) Did new h = ap (λ (x : Objects). x.tally) h
-serves_one ledger o (Done write status) reply new h = absurd h
 -- resizes: the pool has its new reserve where nothing of it is out
 serves_one ledger o (Resize pool min) (OutIs out) new h = (h.0, pool_resized o new (pool_number pool) min (out == 0) h.1)
-serves_one ledger o (Resize pool min) reply new h = absurd h
 -- rounds and looks: the tally alone is asked
 serves_one ledger o (NextRound round) Did new h = (h.0, ap (λ (x : Objects). x.tally) h.1)
-serves_one ledger o (NextRound round) reply new h = absurd h
 serves_one ledger o LookRound (Present round) new h = (h.0, ap (λ (x : Objects). x.tally) h.1)
-serves_one ledger o LookRound reply new h = absurd h
 serves_one ledger o LookLeft (LeftOver count) new h = (h.0, ap (λ (x : Objects). x.tally) h.1)
-serves_one ledger o LookLeft reply new h = absurd h
--- rests: no object serves one
-serves_one ledger o Rest reply new h = absurd h
+-- nothing else is served
+serves_one ledger o request reply new h = absurd h
 
 -- the other way: where the one goes on, all do
 all_have : (o : Objects) (number : ℕ) (from : Got) (v : PoolState) → PoolHas (o.pool number) from v → TakesElement o number from (put_object o (OfPool number) v)
@@ -121,56 +104,39 @@ pub serves_all : (ledger : ℕ → LedgerId) (o : Objects) (request : Request) (
 -- takes: the pool handed an element out, or missed
 serves_all ledger o (TakeBio set waits) (HadBio from bio) v h = (all_have o (pool_number (bios_of set)) from v h.0, h.1)
 serves_all ledger o (TakeBio set waits) (Missed used) v h = (h.0, ap (put_object o (OfPool (pool_number (bios_of set)))) h.1)
-serves_all ledger o (TakeBio set waits) reply v h = absurd h
 serves_all ledger o TakeVec (HadVec from vector) v h = (all_have o (pool_number FsVecs) from v h.0, h.1)
 serves_all ledger o TakeVec (Missed used) v h = (h.0, ap (put_object o (OfPool (pool_number FsVecs))) h.1)
-serves_all ledger o TakeVec reply v h = absurd h
 serves_all ledger o (TakeSlip dev) (HadSlip from slip) v h = (all_have o (pool_number (Records dev)) from v h.0, h.1)
 serves_all ledger o (TakeSlip dev) (Missed used) v h = (h.0, ap (put_object o (OfPool (pool_number (Records dev)))) h.1)
-serves_all ledger o (TakeSlip dev) reply v h = absurd h
 -- gives: the pool of the element has it back
 serves_all ledger o (GiveBio bio) Did v h = (h.0, ap (put_object o (OfPool bio.share.no)) h.1)
-serves_all ledger o (GiveBio bio) reply v h = absurd h
 serves_all ledger o (GiveVec vector) Did v h = (h.0, ap (put_object o (OfPool vector.share.no)) h.1)
-serves_all ledger o (GiveVec vector) reply v h = absurd h
 serves_all ledger o (GiveSlip slip) Did v h = (h.0, ap (put_object o (OfPool slip.share.no)) h.1)
-serves_all ledger o (GiveSlip slip) reply v h = absurd h
 -- lists of rescuers: bios are put behind what waits, or the first one leaves
 serves_all ledger o (Punt dev moved) Did v h = ap (put_object o (OfRescuer dev.0)) h
-serves_all ledger o (Punt dev moved) reply v h = absurd h
 serves_all ledger o (Pop dev) (Popped bio) v h =
     let p = named_put o (OfRescuer dev.0) v in (h ∙ ap (λ (x : List (Item Pad)). bio ∷ x) (sym p), ap (put_object o (OfRescuer dev.0)) (sym p))
 serves_all ledger o (Pop dev) Nothing v h = (h.0, put_same o (OfRescuer dev.0) v h.1)
-serves_all ledger o (Pop dev) reply v h = absurd h
 -- disks: a bio is pushed, or one that waits is completed
 serves_all ledger o (Push bio) Did v h = ap (put_object o (OfDisk bio.bio.dev.0)) h
-serves_all ledger o (Push bio) reply v h = absurd h
 serves_all ledger o (Complete disk) (Completed index bio status) v h =
     let p = named_put o (OfDisk disk.0) v in (subst (Completes (o.disk disk.0) index bio status) (sym p) h, ap (put_object o (OfDisk disk.0)) (sym p))
 serves_all ledger o (Complete disk) Nothing v h = (h.0, put_same o (OfDisk disk.0) v h.1)
-serves_all ledger o (Complete disk) reply v h = absurd h
 -- books: a node is linked, or drops an end
 serves_all ledger o (Link writer opening) (LinkedTo answer) v h =
     let p = named_put o (OfBook writer) v in (subst (OpensNode (o.book writer) opening answer) (sym p) h, ap (put_object o (OfBook writer)) (sym p))
-serves_all ledger o (Link writer opening) reply v h = absurd h
 serves_all ledger o (Drop writer node status part) (DroppedTo ended) v h =
     let p = named_put o (OfBook writer) v in (subst (Drops (o.book writer) node status part ended) (sym p) h, ap (put_object o (OfBook writer)) (sym p))
-serves_all ledger o (Drop writer node status part) reply v h = absurd h
 -- ends of writes: the tally has one unfinished write less
 serves_all ledger o (Done write status) Did v h = ap (put_object o OfTally) h
-serves_all ledger o (Done write status) reply v h = absurd h
 -- resizes: the pool has its new reserve where nothing of it is out
 serves_all ledger o (Resize pool min) (OutIs out) v h = (h.0, ap (put_object o (OfPool (pool_number pool))) h.1 ∙ all_resized o (pool_number pool) min (out == 0))
-serves_all ledger o (Resize pool min) reply v h = absurd h
 -- rounds and looks: the tally alone is asked
 serves_all ledger o (NextRound round) Did v h = (h.0, ap (put_object o OfTally) h.1)
-serves_all ledger o (NextRound round) reply v h = absurd h
 serves_all ledger o LookRound (Present round) v h = (h.0, put_same o OfTally v h.1)
-serves_all ledger o LookRound reply v h = absurd h
 serves_all ledger o LookLeft (LeftOver count) v h = (h.0, put_same o OfTally v h.1)
-serves_all ledger o LookLeft reply v h = absurd h
--- rests: no object serves one
-serves_all ledger o Rest reply v h = absurd h
+-- nothing else is served
+serves_all ledger o request reply v h = absurd h
 
 -- what is struck out of a request is seen by no object
 pub struck_serves : (ledger : ℕ → LedgerId) (o : Objects) (request : Request) (reply : Reply) (new : Objects) → Serves ledger o (struck request) reply new → Serves ledger o request reply new
