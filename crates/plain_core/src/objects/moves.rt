@@ -174,7 +174,7 @@ impl Objects {
         }
     }
 
-    /// A write is done.
+    /// A write is done, with this status: the tally has it for the write, and one unfinished write less in the present round.
     pub fn done(&mut self, write: u32, status: Status, what: &What) -> Result<(), CoreFault>
         ensures { Finishes self.old write status what.now result self.new }
     {

@@ -41,7 +41,7 @@ pub fn give_slip(objects: &mut Objects, slip: &Slip, what: &What) -> Result<(), 
     objects.give(slip.pool(), what)
 }
 
-/// A reserve changes.
+/// A pool with nothing out gets another reserve (`mempool_resize`, `mm/mempool.c`). While an element of it is out, the request is no event.
 pub fn resize(objects: &mut Objects, pool: PoolId, min: u32, what: &What) -> Result<(), CoreFault>
     requires { pool_number pool < 66 }
     ensures { AnswersRequest objects.old (Resize pool min) what.now (λ done. OutIs 0) result objects.new }

@@ -203,7 +203,8 @@ fn copy_of(routes: &Routes, bio: &Bio, leg: u32, node: u32, mut hand: BioElement
     hand
 }
 
-/// Opens a node for a leg, and submits it.
+/// Opens a node for a leg and submits the leg, in the element at hand. Behind the last leg the mirror's driver returns. Where no node can be opened,
+/// or no ticket is left, the submission breaks off and keeps the element.
 pub(crate) fn leg<O: Objects>(
     objects: &mut O,
     routes: &Routes,
