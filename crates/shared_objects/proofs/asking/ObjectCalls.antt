@@ -45,7 +45,7 @@ module _ (locks : Locks) (seats : TaskSeats) (holds : DeskHolds locks seats) whe
 
     pub book_fits : RequestFits (stage_at locks) (book_asked ask) → BookAskAlone ask → FitsAt book_mark BookFits rows place seats.pass ask
     book_fits fits alone =
-        row_fits rows_are holds.locked.books holds.seated.books n place is there BookFits seats.pass ask holds.passed (λ pass clock. (clock, named, fits, alone))
+        row_fits rows_are holds.locked.books holds.seated.books n place is there BookFits seats.pass ask holds.passed (λ pass clock. (clock, named, (fits, alone)))
 
     module _ (said : BookSaid) (new : Vec (ℕ × SeatState BookThing Request Told)) (after : Option PassState)
         (made : HasAskedAt (λ (asking : Asking BookAsk). book_asked asking.ask) book_told (λ (thing : BookThing). BookOwes (book_mark thing)) place
@@ -91,7 +91,7 @@ module _ (locks : Locks) (seats : TaskSeats) (holds : DeskHolds locks seats) whe
 
     pub disk_fits : RequestFits (stage_at locks) (disk_asked ask) → DiskAskAlone ask → FitsAt disk_mark DiskFits rows place seats.pass ask
     disk_fits fits alone =
-        row_fits rows_are holds.locked.disks holds.seated.disks n place is there DiskFits seats.pass ask holds.passed (λ pass clock. (clock, named, fits, alone))
+        row_fits rows_are holds.locked.disks holds.seated.disks n place is there DiskFits seats.pass ask holds.passed (λ pass clock. (clock, named, (fits, alone)))
 
     module _ (said : DiskSaid) (new : Vec (DevId × SeatState DiskThing Request Told)) (after : Option PassState)
         (made : HasAskedAt (λ (asking : Asking DiskAsk). disk_asked asking.ask) disk_told (λ (thing : DiskThing). DiskOwes (disk_mark thing)) place
