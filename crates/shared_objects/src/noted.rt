@@ -2,6 +2,7 @@
 ghost use Rattle.std.specs.Prelude.{◌≡◌, Some};
 ghost use Rattle.shared_objects.specs.Noting.{AddsNote, IsBlank};
 
+use crate::by_fields::event_by_fields;
 use run_machine::Event;
 use std::alloc::Global;
 
@@ -29,7 +30,7 @@ impl Noted {
         ensures { AddsNote (ticket, event) self.old self.new }
     {
         if self.whole {
-            self.whole = self.events.push((ticket, event)).is_ok();
+            self.whole = self.events.push((ticket, event_by_fields(event))).is_ok();
         }
     }
 }
