@@ -12,6 +12,7 @@ ghost use Rattle.object_things.specs.Disks.{DiskSays};
 ghost use Rattle.shared_objects.specs.Callers.{CallerHasAskedDisk, CallerHasCalled};
 ghost use Rattle.shared_objects.specs.Holding.{DeskHolds, stage_at};
 
+use crate::by_fields::{done_by_fields, dropped_by_fields};
 use crate::caller::Caller;
 use crate::calls::or_unmade;
 use bio_books::{Dropped, Link};
@@ -51,7 +52,9 @@ impl<'a, R: Wait> Caller<'a, R> {
         ensures says { DiskSays (stage_at self.old.locks.now) (asks.Complete disk index) (says.Completed result) }
     {
         match self.ask_disk(disk, DiskAsk::Complete { disk, index }) {
-            DiskSaid::Completed(result) => result,
+            DiskSaid::Completed(Ok(Some((at, done)))) => Ok(Some((at, done_by_fields(done)))),
+            DiskSaid::Completed(Ok(None)) => Ok(None),
+            DiskSaid::Completed(Err(refused)) => Err(refused),
             DiskSaid::Pushed(_) | DiskSaid::Waiting(_) => unreachable!(),
         }
     }
@@ -240,7 +243,8 @@ impl<'a, R: Wait> Objects for Caller<'a, R> {
             part,
         };
         match self.ask_book(writer, ask) {
-            BookSaid::Dropped(result) => result,
+            BookSaid::Dropped(Ok(dropped)) => Ok(dropped_by_fields(dropped)),
+            BookSaid::Dropped(Err(back)) => Err(back),
             BookSaid::Linked(_) => unreachable!(),
         }
     }
