@@ -1,16 +1,16 @@
 #!/usr/bin/env python3
 """Times calls of crates of this repository, and prints nanoseconds a call beside those of a twin in plain Rust. It is no test.
 
-usage: bench/beside.py [NAME ..]      a NAME is a folder beside this script (pools, lists, books, lanes, disks, scrubs, locks, pieces, joins, cores, steps, desks); each of them
-                                      if left out
+usage: bench/beside.py [NAME ..]      a NAME is a folder beside this script (pools, lists, books, lanes, disks, scrubs, locks, pieces, joins, cores, steps, desks, held_desks);
+                                      each of them if left out
 
 It needs `rt`, which proves and builds each measured program in a throw-away repository, and `rustc`. That takes a few minutes a program. Libraries that
 are built (`rt check`, `rt lib`) are taken along.
 A folder has the program in main.rt.txt and the twin in twin.rs, perhaps others in twin_*.rs, and of the program's proof the invariants of a
-function F in F.antt.txt, or what else there is in proofs/ or specs/, each file with .txt behind its name. Each program gets a number of calls as its argument, and
+function F in F.antt.txt, or what else there is in proofs/, specs/ or src/, each file with .txt behind its name. Each program gets a number of calls as its argument, and
 writes a line for each row: its name, the nanoseconds that all calls took, and how many of the calls were served.
 
-The programs of cores, steps and desks read the text of a run. There the rows are texts, with the name of the line where there are several, a call is
+The programs of cores, steps, desks and held_desks read the text of a run. There the rows are texts, with the name of the line where there are several, a call is
 an event, and both go on to the end of the run in which the number is reached.
 """
 import os
@@ -29,7 +29,7 @@ import run  # noqa: E402
 ROUNDS = 9
 CALLS = 1000000
 # in place of that number; of disks and scrubs a call is a sector: each disk has as many as a disk may have, each member of a mirror 65,536
-CALLS_OF = {"disks": 4 * 262144, "scrubs": 16 * 65536, "steps": 10000000, "desks": 2000000}
+CALLS_OF = {"disks": 4 * 262144, "scrubs": 16 * 65536, "steps": 10000000, "desks": 2000000, "held_desks": 2000000}
 
 TEXTS = {
     "single": run.writes(131072),
@@ -150,7 +150,7 @@ def with_events(text, program):
 
 def inputs(name, folder):
     """What the programs of a folder read, by rows, if they read anything."""
-    if name in ("steps", "desks"):
+    if name in ("steps", "desks", "held_desks"):
         return TEXTS
     if name == "cores":
         program = build_machine(folder)

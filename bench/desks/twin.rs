@@ -6,7 +6,7 @@ mod machine;
 
 use std::io::{self, Read};
 
-fn main() {
+pub fn main() {
     let count: u64 = std::env::args().nth(1).and_then(|word| word.parse().ok()).unwrap_or(0);
     let mut text = String::new();
     io::stdin().read_to_string(&mut text).unwrap();
