@@ -14,7 +14,7 @@ use Rattle.run_machine.specs.declared.event.Got.TheVariants.{Ordinary, Spare}
 use Rattle.run_machine.specs.declared.event.Got.TheVariants as got
 use Rattle.run_machine.specs.Laws.{Object, OfPool, OfRescuer, OfDisk, OfBook, OfTally, OfNone, object_of, with_object}
 use Rattle.run_machine.specs.Maps.{upd}
-use Rattle.run_machine.specs.Requests.{Request, Reply, TakeBio, TakeVec, TakeSlip, GiveBio, GiveVec, GiveSlip, Punt, Pop, Push, Complete, Link, Drop, Done, Resize, NextRound, LookRound, LookLeft, Rest, HadBio, HadVec, HadSlip, Missed, Did, Popped, Completed, LinkedTo, DroppedTo, OutIs, Present, LeftOver, Nothing}
+use Rattle.run_machine.specs.Requests.{Request, Reply, TakeBio, TakeVec, TakeSlip, GiveBio, GiveVec, GiveSlip, Punt, Pop, Push, Complete, Link, Drop, Done, Resize, NextRound, LookRound, LookLeft, HadBio, HadVec, HadSlip, Missed, Did, Popped, Completed, LinkedTo, DroppedTo, OutIs, Present, LeftOver, Nothing}
 use Rattle.run_machine.specs.Objects.{Objects, OpensNode, MovesPool, TakesElement, Serves}
 use Rattle.run_machine.proofs.Frames.{upd_same, one_object_changes}
 use Rattle.shared_objects.specs.Calls.{struck}
