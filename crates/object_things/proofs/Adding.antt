@@ -28,11 +28,26 @@ use Rattle.task_core.specs.Plains.{Advances}
 use Rattle.task_core.specs.Resizing.{ResizesIfHome}
 use Rattle.object_things.specs.Stamps.{Stamped, MarkState, ThingState, Told, StepOf, ThingAnswers, thing_state}
 use Rattle.object_things.specs.Histories.{Call}
-use Rattle.object_things.specs.Homes.{AddsUpAtHome, PoolAddsUp, ListAddsUp, DiskAddsUp, TallyAddsUp, punted_by_call, popped_by_call, pushes, completions, dones}
+use Rattle.object_things.specs.Homes.{AddsUpAtHome, AddsUpThroughout, PoolAddsUp, ListAddsUp, DiskAddsUp, TallyAddsUp, punted_by_call, popped_by_call, pushes, completions, dones}
 use Rattle.object_things.specs.Pools.{PoolServes, PoolLooks, HasOne, Undone}
 use Rattle.object_things.specs.Lists.{ListServes, ListLooks}
 use Rattle.object_things.specs.Disks.{DiskServes, DiskLooks}
 use Rattle.object_things.specs.Tallies.{TallyServes, TallyLooks}
+
+module _ {O : Type 0} (answers : ThingState O → Request → Told → ThingState O → Type 0) where
+  -- a history that is cut
+  cut : (old new : ThingState O) (earlier later : List Call) → Leads answers old (earlier ++ later) new
+      → (here : ThingState O) × Leads answers old earlier here × Leads answers here later new
+  cut old new [] later l = (old, refl, l)
+  cut old new (c ∷ cs) later l = let rest = cut l.0 new cs later l.2 in (rest.0, (l.0, l.1, rest.1), rest.2)
+
+  -- what adds up along each history from a state of an object adds up throughout it
+  pub throughout_from : (adds_up : O → List Call → O → Type 0) (old new : ThingState O) (history : List Call)
+      → ((here : ThingState O) (earlier : List Call) → Leads answers old earlier here → adds_up old.object earlier here.object) → Leads answers old history new
+      → AddsUpThroughout answers adds_up old history new
+  throughout_from adds_up old new history along l earlier later e =
+      let parts = cut old new earlier later (subst (λ (h : List Call). Leads answers old h new) e l) in
+      (parts.0, parts.1, along parts.0 earlier parts.1, parts.2)
 
 module _ {O : Type 0} (mark : Stamped O → MarkState) (serves : Service O) (looks : Service (ThingState O))
     (chooses : O → Reply → Option ℕ → Type 0) (adds_up : O → List Call → O → Type 0)
@@ -56,7 +71,11 @@ module _ {O : Type 0} (mark : Stamped O → MarkState) (serves : Service O) (loo
       turning.place
 
   pub adds_up_at_home : AddsUpAtHome mark (ThingAnswers serves looks chooses) adds_up
-  adds_up_at_home = record { along = along; at_home = at_home }
+  adds_up_at_home = record {
+    along = along;
+    throughout = λ old new history l. throughout_from (ThingAnswers serves looks chooses) adds_up old new history (λ here earlier. along old here earlier) l;
+    at_home = at_home;
+  }
 
 -- pools
 moved : {old new : LedgerPool} {move : PoolMove} (history : List Call) → PoolMoves old move new → PoolAddsUp old history new

@@ -4,5 +4,5 @@ pub mod Rising
 pub mod Looking
 pub mod Refused
 pub mod Spent
-mod Counting
-mod Adding
+pub mod Counting
+pub mod Adding

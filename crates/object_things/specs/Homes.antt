@@ -22,11 +22,18 @@ use Rattle.run_machine.specs.Requests.{Request, Reply, Punt, Pop, Push, Complete
 use Rattle.object_things.specs.Stamps.{Stamped, MarkState, ThingState, Told, thing_state}
 use Rattle.object_things.specs.Histories.{Call}
 
+module _ {O : Type 0} (answers : ThingState O → Request → Told → ThingState O → Type 0) (adds_up : O → List Call → O → Type 0) where
+  -- Wherever a history is cut, the calls before the cut lead to a state of the object that adds up with them, and those behind it lead on from there.
+  abbrev pub AddsUpThroughout : ThingState O → List Call → ThingState O → Type 0
+  AddsUpThroughout old history new = (earlier later : List Call) → history ≡ earlier ++ later
+      → (here : ThingState O) × Leads answers old earlier here × adds_up old.object earlier here.object × Leads answers here later new
+
 module _ {O : Type 0} (mark : Stamped O → MarkState) (answers : ThingState O → Request → Told → ThingState O → Type 0) (adds_up : O → List Call → O → Type 0) where
-  -- An object as it was locked, its history and the object as it is now add up: along each history; and so at every moment of its lock, which is
-  -- seen by the rule of the lock's table, where the object is at home.
+  -- An object as it was locked, its history and the object as it is now add up: along each history, and throughout it; and so at every moment of its
+  -- lock, which is seen by the rule of the lock's table, where the object is at home.
   pub record AddsUpAtHome : Type 0 where
     pub along : (old new : ThingState O) (history : List Call) → Leads answers old history new → adds_up old.object history new.object
+    pub throughout : (old new : ThingState O) (history : List Call) → Leads answers old history new → AddsUpThroughout answers adds_up old history new
     pub at_home : (key : Snapshot (Stamped O)) (table : State (Stamped O) (View (Stamped O) Request Told)) (kept : Stamped O)
         → (turning : IsTurning (λ held. thing_state held.object held.stamp) mark answers key table) → table.homes ≡ some kept ∷ []
         → adds_up key.value.object turning.log kept.object

@@ -8,3 +8,5 @@ pub mod NewDesks
 pub mod TaskRows
 pub mod JustShared
 pub mod HandedOut
+pub mod OpenedPools
+pub mod AddingUp

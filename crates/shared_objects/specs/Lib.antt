@@ -25,3 +25,4 @@ pub mod Tickets
 pub mod Parted
 pub mod Opening
 pub mod Callers
+pub mod AddingUp

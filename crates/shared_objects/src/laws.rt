@@ -1,4 +1,5 @@
 //! What holds of the calls of tasks and of what is left of their locks, as functions that do nothing.
+ghost use Rattle.shared_objects.specs.AddingUp.{ObjectsAddUp};
 ghost use Rattle.shared_objects.specs.Closing.{LocksCloseAs};
 ghost use Rattle.shared_objects.specs.Led.{LogsLead};
 ghost use Rattle.shared_objects.specs.Logs.{CallsAreLogged, StepsAreLogged};
@@ -50,6 +51,13 @@ pub fn locks_close_as()
 /// draw found none, 2^64 - 1 is among them.
 pub fn closes_show_tickets()
     ensures { ClosesShowTickets }
+{}
+
+/// What lies in the lock of an object adds up at every moment from the sharing on at which the lock is free, and throughout the history that a close
+/// shows of it, from the opened object to what is left, whatever calls were made and whether or not a draw failed. Of a pool: each element is a spare
+/// or out, and was made at the opening or had of ordinary memory since.
+pub fn shared_objects_add_up()
+    ensures { ObjectsAddUp }
 {}
 
 /// What is handed to it may go to another thread.
