@@ -1,5 +1,6 @@
 //! The workers of a run.
 ghost use Rattle.std.specs.Prelude.{◌≡◌, ◌≤◌, All, length, map, true};
+ghost use Rattle.std.specs.Option.{is_some};
 ghost use Rattle.bio_workers.specs.Hands.{AreOut};
 ghost use Rattle.bio_workers.specs.Steps.{came_of};
 ghost use Rattle.shared_objects.specs.Left.{HasClosed};
@@ -131,7 +132,7 @@ pub fn run_workers<R: Threads + Wait + Sync, G: Gate + Sync>(
     ensures closed { HasClosed result }
     ensures tickets { ShowsItsTickets result }
     ensures told { result.told.value ≡ shared.told.value }
-    ensures trace { result.trace ≡ shared.locks.trace }
+    ensures trace { is_some result.trace ≡ shared.locks.trace }
 {
     let mut shared = shared;
     let tasks = take_all(&mut shared);

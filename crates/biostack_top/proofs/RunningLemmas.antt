@@ -1,5 +1,6 @@
 -- What the run of a text is, and what it leaves.
 use Rattle.std.proofs.Common.{◌≡◌, ◌*◌, ◌^◌, ◌<◌, ◌≤◌, ℕ, suc, Bool, true, false, true≢false, List, [], ◌∷◌, length, refl, sym, subst, ◌∙◌, arith}
+use Rattle.std.specs.Option.{is_some}
 use Rattle.std.specs.Prelude.{Contains, Result, Ok, Err, IfOk, IsOk}
 use Rattle.std.proofs.lemmas.List.Sums.{sum_by-cons}
 use Rattle.stack_base.specs.declared.stack.Stack.{Stack}
@@ -127,15 +128,15 @@ module _ (closed : Closed) (held : HasClosed closed) where
     named = is.named;
   }
 
-  outcome_is : {E : Type 0} (trace : Bool) (result : Result Outcome E) → closed.trace ≡ trace → IfOk result (IsOutcomeOf closed)
-      → (closed.trace ≡ false → IsOk result) → HasOutcome (scenario_in closed.told.value) trace (showing closed) result
+  outcome_is : {E : Type 0} (trace : Bool) (result : Result Outcome E) → is_some closed.trace ≡ trace → IfOk result (IsOutcomeOf closed)
+      → (is_some closed.trace ≡ false → IsOk result) → HasOutcome (scenario_in closed.told.value) trace (showing closed) result
   outcome_is trace (Ok outcome) same is fine = (is.events, has_merged outcome is, (is.traced ∙ same, is.trace))
   outcome_is true (Err lacking) same is fine = refl
   outcome_is false (Err lacking) same is fine = absurd (true≢false (sym (fine same)))
 
   -- of what was shared as this
-  pub has_outcome : {E : Type 0} (shared : Opened) (trace : Bool) (result : Result Outcome E) → closed.told.value ≡ shared → closed.trace ≡ trace
-      → IfOk result (IsOutcomeOf closed) → (closed.trace ≡ false → IsOk result)
+  pub has_outcome : {E : Type 0} (shared : Opened) (trace : Bool) (result : Result Outcome E) → closed.told.value ≡ shared → is_some closed.trace ≡ trace
+      → IfOk result (IsOutcomeOf closed) → (is_some closed.trace ≡ false → IsOk result)
       → IsShownOf (scenario_in shared) (showing closed) × HasOutcome (scenario_in shared) trace (showing closed) result
   has_outcome shared trace result told same is fine =
       subst (λ (o : Opened). IsShownOf (scenario_in o) (showing closed) × HasOutcome (scenario_in o) trace (showing closed) result) told

@@ -11,6 +11,7 @@ use Rattle.run_machine.specs.Tasks.{TaskState, request, answered, look_of, is_br
 use Rattle.block_core.specs.Runnable.{IsRunnable}
 use Rattle.block_core.specs.Scenarios.{IsNaming}
 use Rattle.shared_objects.specs.Calls.{struck}
+use Rattle.shared_objects.specs.Passes.{AreInRow}
 use Rattle.run_merge.specs.Machines.{ServesAt, LeadsObject}
 use Rattle.run_merge.specs.Merging.{Ticketed, Histories, without_tickets, sorted_by_ticket, all_of, history_of, done_by, TallyThen, LetsAsk, Shown}
 use Rattle.run_merge.specs.ObjectsByName.{StateAt, object_named}
@@ -41,10 +42,6 @@ pub record WasRefused (s : Scenario) (ledger : ℕ → LedgerId) (histories : Hi
   pub goes_on : now ≡ answered (setup_in s) task reply
   pub broken : is_broken now ≡ true
 
--- each ticket that was drawn is 1, or one more than another that was drawn
-abbrev pub AreInRow : List ℕ → Type 0
-AreInRow drawn = (ticket : ℕ) → Contains drawn ticket → (ticket ≡ 1) ⊎ ((other : ℕ) × Contains drawn other × (ticket ≡ other + 1))
-
 -- the last ticket that there is was drawn, so that another draw may have found none
 abbrev pub HasLast : List ℕ → Type 0
 HasLast drawn = Contains drawn (2 ^ 64 - 1)
@@ -59,6 +56,7 @@ pub record IsClosed (s : Scenario) (ledger : ℕ → LedgerId) (histories : Hist
   -- and each task is left so and through, unless it was refused, or a draw of its own failed.
   pub task : (place : ℕ) → ((last.task place ≡ reached.task place) × IsThrough s ledger histories (reached.task place))
       ⊎ (WasRefused s ledger histories place (reached.task place) (last.task place) ⊎ HasLast drawn)
+  -- each ticket that was drawn is 1, or one more than another that was drawn
   pub row : AreInRow drawn
   -- beside the tickets of entries there is no more than one a task
   pub few : length drawn ≤ length (all_of histories) + length (opened_tasks s)

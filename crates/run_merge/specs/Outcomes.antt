@@ -66,5 +66,5 @@ pub record IsOutcomeOf (closed : Closed) (outcome : Outcome) : Type 0 where
   pub disks : (number : ℕ) → ((state_in closed).objects.disk number).dev ≡ device_at number
   pub named : All (IsEventOf (shared_scenario closed).stack) events
   -- where there is a trace, and nowhere else, its events come with it
-  pub traced : is_some outcome.events ≡ closed.trace
+  pub traced : is_some outcome.events ≡ is_some closed.trace
   pub trace : IfSome outcome.events (λ list. list.items ≡ events)

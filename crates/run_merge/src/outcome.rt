@@ -1,5 +1,6 @@
 //! What a run leaves whose objects were shared.
 ghost use Rattle.std.specs.Prelude.{◌≡◌, IfOk, IsOk, false};
+ghost use Rattle.std.specs.Option.{is_some};
 ghost use Rattle.shared_objects.specs.Left.{HasClosed};
 ghost use Rattle.run_merge.specs.Outcomes.{IsOutcomeOf};
 
@@ -32,13 +33,19 @@ pub struct Outcome {
 pub fn merge(alloc: Global, closed: Closed) -> Result<Outcome, AllocError>
     requires closed { HasClosed closed }
     ensures merged { IfOk result (IsOutcomeOf closed) }
-    ensures untraced { closed.trace ≡ false → IsOk result }
+    ensures untraced { is_some closed.trace ≡ false → IsOk result }
 {
     let parts = closed.parts();
     let room = parts.room;
-    drop_rest(parts.lists, parts.books, parts.told, parts.pass);
     let steps = events_of(&parts.tasks);
-    let events = trace_of(alloc, parts.trace, parts.tasks)?;
+    drop_rest(
+        parts.lists,
+        parts.books,
+        parts.told,
+        parts.tasks,
+        parts.pass,
+    );
+    let events = trace_of(alloc, parts.trace)?;
     let disks = disks_of(parts.disks, room.disks);
     let pools = pools_of(parts.bios, parts.vecs, parts.records, room.pools);
     let statuses = statuses_of(parts.tally);

@@ -1,5 +1,7 @@
 -- What becomes of first seats as a task's seats are joined into them, and of the tasks that are put away so.
-use Rattle.std.specs.Prelude.{◌≡◌, ◌<◌, ◌≤◌, ℕ, List, [], All, map, max, length, slice_index_or, vec_capacity, Option, None, Some}
+use Rattle.std.specs.Prelude.{◌≡◌, ◌<◌, ◌≤◌, ◌++◌, ◌∷◌, ℕ, List, [], All, map, max, length, slice_index_or, vec_capacity, Option, None, Some, IfSome}
+use Rattle.std.specs.Global.{Vec}
+use Rattle.std.specs.Option.{is_some}
 use Rattle.tick_clock.specs.Tickets.{PassState, ShowsTickets, joined_pass}
 use Rattle.seat_lock.specs.declared.view.Rank.TheVariants.{First}
 use Rattle.seat_lock.specs.Seats.{HasJoined}
@@ -12,6 +14,7 @@ use Rattle.shared_objects.specs.declared.closed.Closed.{Closed}
 use Rattle.shared_objects.specs.declared.closed.ClosedTask.{ClosedTask}
 use Rattle.shared_objects.specs.declared.closed.Room.{Room}
 use Rattle.shared_objects.specs.declared.locks.Locks.{Locks}
+use Rattle.shared_objects.specs.declared.noted.Noted.{Noted}
 use Rattle.shared_objects.specs.declared.seats.TaskSeats.{TaskSeats}
 
 -- a pass was joined into the first one, which has found what both had
@@ -41,7 +44,20 @@ pub record IsPutAway (ran : RanState) (closed : ClosedTask) : Type 0 where
   pub first : closed.first.value ≡ ran.first
   pub seats : closed.seats.value ≡ ran.seats
   pub events : closed.events ≡ ran.events
-  pub noted : closed.noted ≡ ran.noted
+
+-- a trace has room for one more entry
+abbrev pub MayGrow : Option (Vec Noted) → Type 0
+MayGrow trace = IfSome trace (λ (list : Vec Noted). length list.items < vec_capacity list)
+
+-- What a task noted stands behind the entries of a trace, and there is room for as many as there was.
+abbrev pub IsWithNoted : Option (Vec Noted) → Option Noted → Option (Vec Noted) → Type 0
+IsWithNoted (Some old) (Some noted) (Some new) = (new.items ≡ old.items ++ noted ∷ []) × (vec_capacity old ≤ vec_capacity new)
+IsWithNoted None noted None = Unit {0}
+IsWithNoted old noted new = ⊥
+
+-- the entries of a trace are what these tasks noted
+abbrev pub HaveNoted : List RanState → Option (Vec Noted) → Type 0
+HaveNoted rans trace = IfSome trace (λ (list : Vec Noted). Abreast (λ (ran : RanState) (noted : Noted). ran.noted ≡ Some noted) rans list.items)
 
 -- a task is here: that of this place, with seats of these locks
 abbrev pub IsHereOf : Locks → ℕ → Option RanState → Type 0
@@ -51,8 +67,8 @@ IsHereOf locks place (Some ran) = (ran.home ≡ locks) × (ran.seats.number ≡ 
 abbrev pub AreHere : Locks → List (Option RanState) → Type 0
 AreHere locks slots = (place : ℕ) (slot : Option RanState) → place < length slots → IsHereOf locks place (slice_index_or slots place slot)
 
--- The tasks of these slots were put away, and the first seats have taken theirs.
-pub record ArePutAway (split : ℕ) (locks : Locks) (slots : List (Option RanState)) (firsts : TaskSeats) (closed : List ClosedTask) : Type 0 where
+-- The tasks of these slots were put away, and the first seats have taken theirs. What they noted is the trace, where the locks want one.
+pub record ArePutAway (split : ℕ) (locks : Locks) (slots : List (Option RanState)) (firsts : TaskSeats) (closed : List ClosedTask) (trace : Option (Vec Noted)) : Type 0 where
   pub rans : List RanState
   pub are : slots ≡ map Some rans
   pub hold : All RanHolds rans
@@ -60,6 +76,8 @@ pub record ArePutAway (split : ℕ) (locks : Locks) (slots : List (Option RanSta
   pub taken : TakenHold split locks (map (λ (ran : RanState). ran.seats) rans) firsts
   pub firsts_hold : FirstsHold locks firsts
   pub tasks : Abreast IsPutAway rans closed
+  pub traced : is_some trace ≡ locks.trace
+  pub noted : HaveNoted rans trace
 
 -- as many seats were joined into each first one as were split off from it
 pub record CanEnd (firsts : TaskSeats) : Type 0 where
@@ -83,5 +101,6 @@ pub record RowsFit (locks : Locks) (room : Room) : Type 0 where
 pub record HasBeside (told : Opened) (firsts : TaskSeats) (room : Room) (closed : Closed) : Type 0 where
   pub told_is : closed.told.value ≡ told
   pub tasks : closed.tasks.items ≡ room.tasks.items
+  pub trace : closed.trace ≡ room.trace
   pub pass : firsts.pass ≡ Some closed.pass.value
   pub room_is : closed.room ≡ room.ended

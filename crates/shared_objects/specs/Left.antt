@@ -1,6 +1,6 @@
 -- What is left of shared objects of which every task has stopped.
-use Rattle.std.specs.Prelude.{◌≡◌, ◌-◌, ◌^◌, ◌≤◌, ℕ, List, All, length, map, min}
-use Rattle.std.specs.Option.{is_some}
+use Rattle.std.specs.Prelude.{◌≡◌, ◌-◌, ◌^◌, ◌≤◌, ℕ, List, All, length, map, min, Option, Some, IfSome}
+use Rattle.std.specs.Global.{Vec}
 use Rattle.run_machine.specs.Scene.{Setup}
 use Rattle.task_steps.specs.Routed.{routing_setup}
 use Rattle.task_core.specs.declared.plain.Plain.{Plain}
@@ -16,6 +16,7 @@ use Rattle.shared_objects.specs.Passes.{found_by}
 use Rattle.shared_objects.specs.Rows.{Abreast}
 use Rattle.shared_objects.specs.declared.closed.Closed.{Closed}
 use Rattle.shared_objects.specs.declared.closed.ClosedTask.{ClosedTask}
+use Rattle.shared_objects.specs.declared.noted.Noted.{Noted}
 
 -- what is left of the locks of each kind stands in the order of the objects as they were opened
 pub record AreInOpenedOrder (opened : Plain) (closed : Closed) : Type 0 where
@@ -32,8 +33,14 @@ pub record IsReturned (setup : Setup) (closed : ClosedTask) (returned : Returned
   pub task : closed.task.state ≡ returned.task
   pub desk : desk_of closed.seats.value ≡ returned.desk
   pub events : closed.events ≡ min (length (events_in returned.log)) (2 ^ 64 - 1)
-  -- and where it noted them, these are its notes
-  pub notes : HaveTickets returned.log → AreNoted (notes_of setup returned.first returned.log) closed.noted
+
+-- what a task noted of its events are its notes
+abbrev pub HasNoted : Setup → Noted → Returned → Type 0
+HasNoted setup noted returned = HaveTickets returned.log → AreNoted (notes_of setup returned.first returned.log) (Some noted)
+
+-- a trace has an entry for each of these tasks, at its place: what that one noted
+abbrev pub IsTraceOf : Setup → List Returned → Option (Vec Noted) → Type 0
+IsTraceOf setup returned trace = IfSome trace (λ (list : Vec Noted). Abreast (HasNoted setup) list.items returned)
 
 -- What closed objects show: the opened objects, the history of each with what it leaves, and each task with its calls.
 pub record HasClosed (closed : Closed) : Type 0 where
@@ -43,8 +50,8 @@ pub record HasClosed (closed : Closed) : Type 0 where
       (object_left_in closed closed.told.value.objects) returned closed.pass.value
   pub firsts : map (λ (task : Returned). task.first) returned ≡ states closed.told.value.tasks.items
   pub tasks : Abreast (IsReturned (routing_setup (stage_of closed.told.value.objects).routing)) closed.tasks.items returned
-  -- each task noted its events exactly where there is a trace
-  pub trace : All (λ (task : ClosedTask). is_some task.noted ≡ closed.trace) closed.tasks.items
+  -- where there is a trace, each task noted its events, and they stand in the order of the tasks
+  pub trace : IsTraceOf (routing_setup (stage_of closed.told.value.objects).routing) returned closed.trace
   -- the first pass has found what those of the tasks have
   pub found : All (λ (task : Returned). found_by task.desk.pass ≤ closed.pass.value.known) returned
   pub order : AreInOpenedOrder closed.told.value.objects closed

@@ -1,5 +1,7 @@
 -- What holds of shared objects: of their locks, of the first seats of these, and of the tasks, each of which is here or was handed out.
-use Rattle.std.specs.Prelude.{◌≡◌, ◌<◌, ◌≤◌, ◌+◌, ℕ, Bool, true, List, [], length, slice_index_or, slice_set, vec_capacity, Option, None, Some}
+use Rattle.std.specs.Prelude.{◌≡◌, ◌<◌, ◌≤◌, ◌+◌, ℕ, Bool, true, List, [], length, slice_index_or, slice_set, vec_capacity, Option, None, Some, IfSome}
+use Rattle.std.specs.Global.{Vec}
+use Rattle.std.specs.Option.{is_some}
 use Rattle.seat_lock.specs.Seats.{IsOfLock}
 use Rattle.run_machine.specs.Opened.{Scenario}
 use Rattle.task_steps.specs.TaskViews.{TaskOf}
@@ -12,6 +14,7 @@ use Rattle.shared_objects.specs.Sharing.{AreOfOpened}
 use Rattle.shared_objects.specs.Taking.{TakenHold}
 use Rattle.shared_objects.specs.declared.closed.Room.{Room}
 use Rattle.shared_objects.specs.declared.locks.Locks.{Locks}
+use Rattle.shared_objects.specs.declared.noted.Noted.{Noted}
 use Rattle.shared_objects.specs.declared.seats.TaskSeats.{TaskSeats}
 use Rattle.shared_objects.specs.declared.shared.Shared.{Shared}
 
@@ -26,6 +29,10 @@ pub record FirstsHold (locks : Locks) (firsts : TaskSeats) : Type 0 where
   pub tally : IsOfLock locks.tally firsts.tally
   pub pass : IsPassOf locks.common.value.clock firsts.pass
 
+-- A trace is there exactly where one is wanted: it has no entry yet, and room for those of so many tasks.
+abbrev pub IsRoomForTrace : Bool → ℕ → Option (Vec Noted) → Type 0
+IsRoomForTrace wanted count trace = (is_some trace ≡ wanted) × IfSome trace (λ (list : Vec Noted). (list.items ≡ []) × (count ≤ vec_capacity list))
+
 -- there is room for what is left of these locks, of so many tasks, and of the run of a scenario
 pub record HasRoomFor (locks : Locks) (count : ℕ) (s : Scenario) (room : Room) : Type 0 where
   pub bios : (room.bios.items ≡ []) × (length locks.bios.items ≤ vec_capacity room.bios)
@@ -34,6 +41,7 @@ pub record HasRoomFor (locks : Locks) (count : ℕ) (s : Scenario) (room : Room)
   pub disks : (room.disks.items ≡ []) × (length locks.disks.items ≤ vec_capacity room.disks)
   pub books : (room.books.items ≡ []) × (length locks.books.items ≤ vec_capacity room.books)
   pub tasks : (room.tasks.items ≡ []) × (count ≤ vec_capacity room.tasks)
+  pub trace : IsRoomForTrace locks.trace count room.trace
   pub ended : IsReservedForRun s.stack (length s.writes) room.ended
 
 -- nothing stands at a place, or the task of this key

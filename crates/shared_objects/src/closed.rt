@@ -11,8 +11,7 @@ use std::snapshot::Snapshot;
 use task_core::{Ended, Opened, Task};
 use tick_clock::Pass;
 
-/// A task that was put back. What it noted stands with it, and not in a list beside all tasks: it comes back with the task, and no memory is
-/// wanted for it at the close.
+/// A task that was put back.
 #[derive(Drop)]
 pub struct ClosedTask {
     pub task: Task,
@@ -22,8 +21,6 @@ pub struct ClosedTask {
     pub seats: Snapshot<TaskSeats>,
     /// How many events it has had; 2^64 - 1 where there are more.
     pub events: u64,
-    /// Its events with their tickets, where there is a trace.
-    pub noted: Option<Noted>,
 }
 
 /// What is left of each object: the thing as all calls have left it, and the first seat, which has seen its whole history.
@@ -45,8 +42,8 @@ pub struct Closed {
     /// What was shared. It has no bytes here.
     pub told: Snapshot<Opened>,
     pub(crate) tasks: Vec<ClosedTask>,
-    // Whether each task noted its events.
-    pub(crate) trace: bool,
+    // What each task noted, in their order, where there is a trace.
+    pub(crate) trace: Option<Vec<Noted>>,
     // The first pass of the clock, into which all others were joined.
     pub(crate) pass: Snapshot<Pass>,
     pub(crate) room: Ended,
@@ -65,8 +62,8 @@ pub struct ClosedParts {
     pub told: Snapshot<Opened>,
     /// The tasks, in their order.
     pub tasks: Vec<ClosedTask>,
-    /// Whether each of them noted its events.
-    pub trace: bool,
+    /// What each of them noted of its events, in the same order, where there is a trace.
+    pub trace: Option<Vec<Noted>>,
     /// The first pass of the clock, into which all others were joined.
     pub pass: Snapshot<Pass>,
     /// Room for what the run leaves.
@@ -86,7 +83,7 @@ impl Drop for Closed {
             tally,
             told,
             tasks,
-            trace: _,
+            trace,
             pass,
             room,
         } = self;
@@ -95,9 +92,9 @@ impl Drop for Closed {
         drop(records);
         drop(disks);
         drop(tally);
-        drop(tasks);
+        drop(trace);
         drop(room);
-        drop_rest(lists, books, told, pass);
+        drop_rest(lists, books, told, tasks, pass);
     }
 }
 
@@ -106,11 +103,13 @@ pub fn drop_rest(
     lists: Vec<(DevId, Shut<ListThing>)>,
     books: Vec<(u32, Shut<BookThing>)>,
     told: Snapshot<Opened>,
+    tasks: Vec<ClosedTask>,
     pass: Snapshot<Pass>,
 ) {
     drop(lists);
     drop(books);
     drop(told);
+    drop(tasks);
     drop(pass);
 }
 
@@ -161,5 +160,7 @@ pub(crate) struct Room {
     pub(crate) disks: Vec<Shut<DiskThing>>,
     pub(crate) books: Vec<(u32, Shut<BookThing>)>,
     pub(crate) tasks: Vec<ClosedTask>,
+    // For what the tasks note, where there is a trace.
+    pub(crate) trace: Option<Vec<Noted>>,
     pub(crate) ended: Ended,
 }

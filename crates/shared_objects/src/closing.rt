@@ -1,17 +1,19 @@
 //! Ends the use of shared objects.
 ghost use Rattle.std.specs.Prelude.{◌≡◌, ◌+◌, ◌≤◌, All, None, Some, [], length, vec_capacity};
+ghost use Rattle.std.specs.Option.{is_some};
 ghost use Rattle.shared_objects.specs.Holding.{IsPassOf, LocksHold, SeatsHold};
-ghost use Rattle.shared_objects.specs.Joining.{AreHere, ArePutAway, CanEnd, HasBeside, HasJoinedPass, HasJoinedSeats, IsPutAway, RowsFit};
+ghost use Rattle.shared_objects.specs.Joining.{AreHere, ArePutAway, CanEnd, HasBeside, HasJoinedPass, HasJoinedSeats, IsPutAway, IsWithNoted, MayGrow, RowsFit};
 ghost use Rattle.shared_objects.specs.Left.{HasClosed};
 ghost use Rattle.shared_objects.specs.Rans.{IsOtherPass, RanHolds};
 ghost use Rattle.shared_objects.specs.Rows.{Abreast, AreAdded, CanClose, IsAt};
-ghost use Rattle.shared_objects.specs.Shared.{FirstsHold, HaveStopped, SharedHolds};
+ghost use Rattle.shared_objects.specs.Shared.{FirstsHold, HaveStopped, IsRoomForTrace, SharedHolds};
 ghost use Rattle.shared_objects.specs.Shutting.{HasShut, IsShutDisk};
 ghost use Rattle.shared_objects.specs.Taking.{TakenHold};
 ghost use Rattle.shared_objects.specs.Tickets.{ShowsItsTickets};
 
 use crate::closed::{Closed, ClosedTask, Room};
 use crate::locks::Locks;
+use crate::noted::Noted;
 use crate::ran::Ran;
 use crate::rows::{close_one, close_row, join_row};
 use crate::seats::TaskSeats;
@@ -67,22 +69,39 @@ pub(crate) fn join_seats(locks: &Locks, firsts: &mut TaskSeats, seats: TaskSeats
     join_pass(locks.common.clock(), &mut firsts.pass, pass);
 }
 
-// Puts all tasks away, and joins the seats of each into the first ones. There is room for them.
+// Puts what a task noted behind what those before it did, where there is a trace. There is room for it.
+fn keep_noted(trace: &mut Option<Vec<Noted>>, noted: Option<Noted>)
+    requires listed { is_some noted ≡ is_some trace.old }
+    requires room { MayGrow trace.old }
+    ensures { IsWithNoted trace.old noted trace.new }
+{
+    let Some(list) = trace else {
+        return;
+    };
+    let Some(noted) = noted else { unreachable!() };
+    list.push(noted).unwrap();
+}
+
+// Puts all tasks away, and joins the seats of each into the first ones. There is room for them, and for what they noted.
 pub(crate) fn join_tasks(
     locks: &Locks,
     firsts: &mut TaskSeats,
     tasks: Vec<Option<Ran>>,
     closed: &mut Vec<ClosedTask>,
+    trace: &mut Option<Vec<Noted>>,
 )
     requires firsts { FirstsHold locks.now firsts.old }
     requires taken { TakenHold (length tasks.items) locks.now [] firsts.old }
     requires here { AreHere locks.now tasks.items }
     requires room { (closed.old.items ≡ []) × (length tasks.items ≤ vec_capacity closed.old) }
-    ensures { ArePutAway (length tasks.items) locks.now tasks.items firsts.new closed.new.items }
+    requires trace { IsRoomForTrace locks.now.trace (length tasks.items) trace.old }
+    ensures { ArePutAway (length tasks.items) locks.now tasks.items firsts.new closed.new.items trace.new }
 {
     'joining: for slot in tasks {
         let Some(ran) = slot else { unreachable!() };
-        closed.push(ran.join(locks, firsts)).unwrap();
+        let (task, noted) = ran.join(locks, firsts);
+        closed.push(task).unwrap();
+        keep_noted(trace, noted);
     }
 }
 
@@ -130,7 +149,6 @@ pub(crate) fn close_locks(
     requires room { RowsFit locks room }
     ensures shut { HasShut locks firsts result }
     ensures beside { HasBeside told.value firsts room result }
-    ensures trace { result.trace ≡ locks.trace }
 {
     close_row(locks.bios, firsts.bios, &mut room.bios);
     close_row(locks.records, firsts.records, &mut room.records);
@@ -147,7 +165,7 @@ pub(crate) fn close_locks(
         tally: locks.tally.close(firsts.tally),
         told,
         tasks: room.tasks,
-        trace: locks.trace,
+        trace: room.trace,
         pass: last_of(firsts.pass),
         room: room.ended,
     }

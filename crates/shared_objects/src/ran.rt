@@ -169,12 +169,13 @@ impl Ran {
         }
     }
 
-    /// Puts the task away, and joins its seats into the first ones.
-    pub(crate) fn join(self, locks: &Locks, firsts: &mut TaskSeats) -> ClosedTask
+    /// Puts the task away, and joins its seats into the first ones. What it noted is handed back beside it.
+    pub(crate) fn join(self, locks: &Locks, firsts: &mut TaskSeats) -> (ClosedTask, Option<Noted>)
         requires home { self.home ≡ locks.now }
         requires firsts { FirstsHold locks.now firsts.old }
         ensures holds { RanHolds self }
-        ensures away { IsPutAway self result }
+        ensures away { IsPutAway self result.0 }
+        ensures noted { result.1 ≡ self.noted }
         ensures joined { HasJoinedSeats locks.now firsts.old self.seats firsts.new }
         ensures of { FirstsHold locks.now firsts.new }
     {
@@ -189,13 +190,13 @@ impl Ran {
         } = self;
         let shown = Snapshot::of(&seats);
         join_seats(locks, firsts, seats);
-        ClosedTask {
+        let closed = ClosedTask {
             task,
             first,
             seats: shown,
             events,
-            noted,
-        }
+        };
+        (closed, noted)
     }
 
     /// Which task it is: its number among the tasks of the run, in their order.

@@ -48,6 +48,7 @@ impl Drop for Shared {
 
 impl Shared {
     ghost use Rattle.std.specs.Prelude.{◌↔◌, IfSome, IsNone, None};
+    ghost use Rattle.std.specs.Option.{is_some};
     ghost use Rattle.shared_objects.specs.Left.{HasClosed};
     ghost use Rattle.shared_objects.specs.Rans.{ran_key};
     ghost use Rattle.shared_objects.specs.Shared.{HandsOut, HaveStopped, IsOut, SharedHolds, TakesBack};
@@ -102,7 +103,7 @@ impl Shared {
         ensures closed { HasClosed result }
         ensures tickets { ShowsItsTickets result }
         ensures told { result.told.value ≡ self.told.value }
-        ensures trace { result.trace ≡ self.locks.trace }
+        ensures trace { is_some result.trace ≡ self.locks.trace }
     {
         let Shared {
             locks,
@@ -112,7 +113,7 @@ impl Shared {
             mut room,
             told,
         } = self;
-        join_tasks(&locks, &mut firsts, tasks, &mut room.tasks);
+        join_tasks(&locks, &mut firsts, tasks, &mut room.tasks, &mut room.trace);
         close_locks(locks, firsts, room, told)
     }
 }

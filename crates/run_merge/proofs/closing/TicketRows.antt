@@ -5,7 +5,7 @@ use Rattle.std.specs.List.{remove}
 use Rattle.std.proofs.lemmas.List.Edits.{length-remove}
 use Rattle.std.proofs.lemmas.List.Elements.{Contains-append_cases}
 use Rattle.std.proofs.lemmas.List.Sorted.{IsPermutation-remove, Contains-permutation}
-use Rattle.run_merge.specs.Closing.{AreInRow}
+use Rattle.shared_objects.specs.Passes.{AreInRow}
 
 -- a row goes down to 1
 down : (drawn : List ℕ) → AreInRow drawn → (k n : ℕ) → 1 ≤ n → Contains drawn (n + k) → Contains drawn n

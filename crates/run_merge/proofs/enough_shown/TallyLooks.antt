@@ -31,7 +31,7 @@ use Rattle.run_merge.proofs.enough_shown.ObjectHistories.{told_drew, IsReady, re
 use Rattle.run_merge.proofs.enough_shown.LogLeads.{is_told}
 
 -- a look of a task asks the tally, is no event, and is told the tally as it is
-pub record IsLook (look : Request) : Type 0 where
+pub record AsksTally (look : Request) : Type 0 where
   pub tally : object_of look ≡ OfTally
   pub untold : (reply : Reply) → is_event look reply ≡ false
   pub serves : (old next : ThingState TallyState) (reply : Reply) (ticket : Option ℕ) → StepOf things.TallyServes things.TallyLooks old look reply ticket next
@@ -55,17 +55,17 @@ left_step : (old next : ThingState TallyState) (reply : Reply) (ticket : Option 
 left_step old next reply (Some n) step = absurd step.0
 left_step old next reply None step = left_looks old next reply step.0
 
-round_look : IsLook LookRound
+round_look : AsksTally LookRound
 round_look = record { tally = refl; untold = λ reply. refl; serves = round_step }
 
-pub left_look : IsLook LookLeft
+pub left_look : AsksTally LookLeft
 left_look = record { tally = refl; untold = λ reply. refl; serves = left_step }
 
 -- so is each look of a task
-is_look : (task : TaskState) (look : Request) → look_of task ≡ Some look → IsLook look
-is_look task look is = elim (task_looks task look is) [
-  | inl round ↦ subst IsLook (sym round) round_look
-  | inr left ↦ subst IsLook (sym left) left_look
+asks_tally : (task : TaskState) (look : Request) → look_of task ≡ Some look → AsksTally look
+asks_tally task look is = elim (task_looks task look is) [
+  | inl round ↦ subst AsksTally (sym round) round_look
+  | inr left ↦ subst AsksTally (sym left) left_look
 ]
 
 module _ (s : Scenario) (plain : Plain) (names : List Object) (history : Object → List Call) (left : (name : Object) → ThingState (ThingAt name)) (tasks : List Returned)
@@ -88,7 +88,7 @@ module _ (s : Scenario) (plain : Plain) (names : List Object) (history : Object 
     pub serves : TallyMachine was.shown call.asked call.told.reply was.shown
     pub found : is_spent call.told.reply ≡ false
 
-  pub seen_then : (call : Call) (look : Request) → call.asked ≡ look → IsLook look → Contains (history OfTally) call → IsSeen call
+  pub seen_then : (call : Call) (look : Request) → call.asked ≡ look → AsksTally look → Contains (history OfTally) call → IsSeen call
   seen_then call look asks is there = record {
     was = record {
       seen = ticketed_events p.before;
@@ -130,8 +130,8 @@ module _ (s : Scenario) (plain : Plain) (names : List Object) (history : Object 
     may,
   )
     where
-      look_is : IsLook look
-      look_is = is_look now look is
+      look_is : AsksTally look
+      look_is = asks_tally now look is
 
       in_history : Contains (history OfTally) seen
       in_history = subst (λ o. Contains (history o) seen) (ap object_of asks ∙ look_is.tally) (kept (setup_in s) plain names history left tasks pass c place task at seen (inside seen there))

@@ -3,7 +3,7 @@ use Rattle.std.proofs.Common.{◌≡◌, ◌⊎◌, ◌+◌, ◌-◌, ◌^◌, �
 use Rattle.std.specs.Option.{is_some}
 use Rattle.std.specs.Prelude.{All, min, slice_get, slice_index_or, sum_by}
 use Rattle.std.proofs.lemmas.List.Elements.{All-weaker, filter-append}
-use Rattle.std.proofs.lemmas.Option.{IfSome_then, slice_get_cases, slice_get_within, get_or_from_slice_get}
+use Rattle.std.proofs.lemmas.Option.{slice_get_cases, slice_get_within, get_or_from_slice_get}
 use Rattle.stack_base.specs.declared.ids.PoolId.TheVariants.{FsBios, FsVecs}
 use Rattle.run_machine.specs.Laws.{Object}
 use Rattle.run_machine.specs.Opened.{no_task, setup_in}
@@ -170,9 +170,10 @@ module _ (closed : Closed) (has : HasClosed closed) where
       → outcome.ended.disks.items ≡ map (λ disk. disk.thing.object) closed.disks.items
       → outcome.ended.pools.items ≡ with_facts (pools_in closed has) FsBios ∷ with_facts (pools_in closed has) FsVecs ∷ falling_below (pools_in closed has) 32
       → outcome.ended.steps ≡ min (sum_by (λ (task : ClosedTask). task.events) closed.tasks.items) (2 ^ 64 - 1)
-      → IsTrace closed.trace closed.tasks.items outcome.events → IsOutcomeOf closed outcome
+      → IsTrace closed.trace outcome.events → IsOutcomeOf closed outcome
   is_merged outcome statuses disks pools steps trace =
       let named = run_named closed.told.value has.opened merged.run.0 (state_in closed) merged.run.1 in
+      let traced = trace_is closed has (state_in closed) merged.run outcome.events trace in
       record {
         events = merged.run.0;
         run = merged.run.1;
@@ -190,6 +191,6 @@ module _ (closed : Closed) (has : HasClosed closed) where
         naming = has.opened.one.holds.numbered;
         disks = λ number. (named.1.disk number).dev_is;
         named = named.0;
-        traced = trace.some;
-        trace = IfSome_then outcome.events trace.joined (λ list is. trace_is closed has list.items (state_in closed) is.0 is.1 merged.run);
+        traced = traced.0;
+        trace = traced.1;
       }

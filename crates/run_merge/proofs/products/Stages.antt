@@ -16,11 +16,11 @@ use Rattle.block_core.proofs.sound.DoneOnce.{to_begin, stage}
 use Rattle.block_core.proofs.sound.Dones.{stage_is}
 use Rattle.block_core.proofs.sound.Invariant.{Invariant}
 use Rattle.block_core.proofs.moves.SumsCompared.{under_in_all}
-use Rattle.block_core.proofs.start.TallyAtStart.{numbered, unfinished_at_start}
+use Rattle.block_core.proofs.start.TallyAtStart.{todo_numbered, unfinished_at_start}
 use Rattle.block_core.proofs.moves.Sums.{one-same, one-other, same_or_not}
 
 -- at the start
-none_numbered : (w a n : ℕ) (rs : List ℕ) (ws : List Write) → a + n ≤ w → all_worth (λ k. one_if_same k w) (map numbered (zip (range_with_len a n) (zip rs ws))) ≡ 0
+none_numbered : (w a n : ℕ) (rs : List ℕ) (ws : List Write) → a + n ≤ w → all_worth (λ k. one_if_same k w) (map todo_numbered (zip (range_with_len a n) (zip rs ws))) ≡ 0
 none_numbered w a zero rs ws le = refl
 none_numbered w a (suc n) [] ws le = refl
 none_numbered w a (suc n) (r ∷ rs) [] le = refl
@@ -28,7 +28,7 @@ none_numbered w a (suc n) (r ∷ rs) (x ∷ ws) le =
     omega (arith, one-other a w (λ e. omega (arith, e, le)), none_numbered w (a + 1) n rs ws (omega (arith, le)))
 
 some_numbered : (w a n : ℕ) (rs : List ℕ) (ws : List Write) → a ≤ w → w < a + n → n ≤ length rs → n ≤ length ws
-    → 1 ≤ all_worth (λ k. one_if_same k w) (map numbered (zip (range_with_len a n) (zip rs ws)))
+    → 1 ≤ all_worth (λ k. one_if_same k w) (map todo_numbered (zip (range_with_len a n) (zip rs ws)))
 some_numbered w a zero rs ws ge lt few fewer = absurd (omega (arith, ge, lt))
 some_numbered w a (suc n) [] ws ge lt few fewer = absurd (omega (arith, few))
 some_numbered w a (suc n) (r ∷ rs) [] ge lt few fewer = absurd (omega (arith, fewer))
@@ -36,7 +36,7 @@ some_numbered w a (suc n) (r ∷ rs) (x ∷ ws) ge lt few fewer =
     by_two (same_or_not a w) (λ ne. some_numbered w (a + 1) n rs ws (omega (arith, ne, ge)) (omega (arith, lt)) (omega (arith, few)) (omega (arith, fewer)))
   where
     rest : ℕ
-    rest = all_worth (λ k. one_if_same k w) (map numbered (zip (range_with_len (a + 1) n) (zip rs ws)))
+    rest = all_worth (λ k. one_if_same k w) (map todo_numbered (zip (range_with_len (a + 1) n) (zip rs ws)))
 
     by_two : (a ≡ w) ⊎ (a ≢ w) → (a ≢ w → 1 ≤ rest) → 1 ≤ one_if_same a w + rest
     by_two (inl e) more = let here : one_if_same a w ≡ 1 = ap (λ k. one_if_same k w) e ∙ one-same w in omega (arith, here)

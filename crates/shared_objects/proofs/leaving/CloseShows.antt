@@ -1,6 +1,6 @@
 -- What is shown once all tasks were put away and the locks were closed.
-use Rattle.std.proofs.Common.{◌≡◌, ◌≤◌, ◌<◌, ℕ, zero, suc, true, List, [], ◌∷◌, All, arith, refl, sym, ◌∙◌, ap, ap₂, subst, length, map, get_or, Option, None, Some}
-use Rattle.std.specs.Option.{is_some}
+use Rattle.std.proofs.Common.{tt, ◌≡◌, ◌≤◌, ◌<◌, ℕ, zero, suc, true, List, [], ◌∷◌, All, arith, refl, sym, ◌∙◌, ap, ap₂, subst, length, map, get_or, Option, None, Some}
+use Rattle.std.specs.Global.{Vec}
 use Rattle.std.specs.Prelude.{◌-◌, ◌^◌, min}
 use Rattle.std.proofs.lemmas.List.{get_or-map, length-map}
 use Rattle.std.proofs.lemmas.List.Elements.{All-map}
@@ -16,8 +16,8 @@ use Rattle.shared_objects.specs.ClosedByName.{history_in, object_left_in, names_
 use Rattle.shared_objects.specs.Closes.{ClosesAs, Returned}
 use Rattle.shared_objects.specs.Desks.{DeskState}
 use Rattle.shared_objects.specs.Holding.{SeatsHold, desk_of, dev_key, set_key, slip_key, stage_at, writer_key}
-use Rattle.shared_objects.specs.Joining.{AreHere, ArePutAway, CanEnd, IsHereOf}
-use Rattle.shared_objects.specs.Left.{AreInOpenedOrder, HasClosed, IsReturned}
+use Rattle.shared_objects.specs.Joining.{AreHere, ArePutAway, CanEnd, HaveNoted, IsHereOf}
+use Rattle.shared_objects.specs.Left.{AreInOpenedOrder, HasClosed, IsReturned, IsTraceOf}
 use Rattle.shared_objects.specs.Logs.{HasStopped, IsLogged, events_in}
 use Rattle.shared_objects.specs.Noting.{AreNoted, HaveTickets, notes_of}
 use Rattle.shared_objects.specs.Passes.{found_by}
@@ -29,6 +29,7 @@ use Rattle.shared_objects.specs.Taking.{AreTaken, HasTakenPasses, PassHasTaken, 
 use Rattle.shared_objects.specs.Joins.{HasTaken}
 use Rattle.shared_objects.specs.declared.closed.Closed.{Closed}
 use Rattle.shared_objects.specs.declared.locks.Locks.{Locks}
+use Rattle.shared_objects.specs.declared.noted.Noted.{Noted}
 use Rattle.shared_objects.specs.declared.seats.TaskSeats.{TaskSeats}
 use Rattle.shared_objects.specs.declared.shared.Shared.{Shared}
 use Rattle.shared_objects.specs.declared.closed.ClosedTask.{ClosedTask}
@@ -63,12 +64,13 @@ are_here shared holds over place slot lt =
     here first (Some ran) back own = (ap (λ (k : RanKey). k.home) own, ap (λ (k : RanKey). k.number) own)
 
 -- every seat that was split off was joined
-module _ (locks : Locks) (slots : List (Option RanState)) (firsts : TaskSeats) (closed : List ClosedTask) (away : ArePutAway (length slots) locks slots firsts closed) where
+module _ (locks : Locks) (slots : List (Option RanState)) (firsts : TaskSeats) (closed : List ClosedTask)
+    (trace : Option (Vec Noted)) (away : ArePutAway (length slots) locks slots firsts closed trace) where
   abbrev joined_all : List TaskSeats
   joined_all = map (λ (r : RanState). r.seats) away.rans
 
   as_split : {X : Type 0} (f : TaskSeats → X) → length slots ≡ length (map f joined_all)
-  as_split f = sym ((as_many (length slots) locks slots firsts closed away).0) ∙ sym (length-map away.rans (λ (r : RanState). r.seats)) ∙ sym (length-map joined_all f)
+  as_split f = sym ((as_many (length slots) locks slots firsts closed trace away).0) ∙ sym (length-map away.rans (λ (r : RanState). r.seats)) ∙ sym (length-map joined_all f)
 
   pub can_end : CanEnd firsts
   can_end = record {
@@ -126,7 +128,7 @@ module _ (set : Setup) where
       (one_returned ran here ∷ rest.0, two_front (ReturnsAs set) ran (one_returned ran here) rans rest.0 (returns_as ran here) rest.1)
 
 module _ (shared : Shared) (firsts : TaskSeats) (closed : Closed) (holds : SharedHolds shared) (over : HaveStopped shared)
-    (away : ArePutAway (length shared.tasks.items) shared.locks shared.tasks.items firsts closed.tasks.items) (shut : HasShut shared.locks firsts closed)
+    (away : ArePutAway (length shared.tasks.items) shared.locks shared.tasks.items firsts closed.tasks.items closed.trace) (shut : HasShut shared.locks firsts closed)
     (pass : firsts.pass ≡ Some closed.pass.value) where
   abbrev opened : Plain
   opened = shared.told.value.objects
@@ -141,7 +143,7 @@ module _ (shared : Shared) (firsts : TaskSeats) (closed : Closed) (holds : Share
   all = map seats_in away.rans
 
   many : (length away.rans ≡ length shared.tasks.items) × (length all ≡ length away.rans)
-  many = ((as_many (length shared.tasks.items) shared.locks shared.tasks.items firsts closed.tasks.items away).0, length-map away.rans seats_in)
+  many = ((as_many (length shared.tasks.items) shared.locks shared.tasks.items firsts closed.tasks.items closed.trace away).0, length-map away.rans seats_in)
 
   slot_is : (k : ℕ) (ran : RanState) → k < length away.rans → get_or shared.tasks.items k (Some ran) ≡ Some (get_or away.rans k ran)
   slot_is k ran lt = ap (λ (slots : List (Option RanState)). get_or slots k (Some ran)) away.are ∙ get_or-map (λ (r : RanState). Some r) away.rans k ran (Some ran) lt
@@ -208,15 +210,18 @@ module _ (shared : Shared) (firsts : TaskSeats) (closed : Closed) (holds : Share
           task = ap (λ (t : TaskOf). t.state) put.task ∙ sym is.state;
           desk = ap desk_of put.seats ∙ sym is.desk;
           events = put.events ∙ is.events;
-          notes = λ have. subst (AreNoted (notes_of set (get_or returned k task).first (get_or returned k task).log)) (sym put.noted) (is.notes have);
         };
   }
 
-  -- each noted its events where its locks wanted that
-  listed : closed.trace ≡ shared.locks.trace → All (λ (task : ClosedTask). is_some task.noted ≡ closed.trace) closed.tasks.items
-  listed trace k left lt =
-      let m = away.tasks.lens in let in_rans : k < length away.rans = omega (arith, lt, m) in let ran = some_of away.rans k in_rans in
-      ap is_some (away.tasks.each k ran left in_rans).noted ∙ (away.hold k ran in_rans).listed ∙ ap (λ (home : Locks). home.trace) (away.homes k ran in_rans) ∙ sym trace
+  -- what each noted are the notes of its calls
+  noted_by : (trace : Option (Vec Noted)) → HaveNoted away.rans trace → IsTraceOf set returned trace
+  noted_by None have = tt
+  noted_by (Some list) have = let l = are.lens in let m = have.lens in record {
+    lens = omega (arith, l, m);
+    each = λ k noted task lt tickets.
+        let in_rans : k < length away.rans = omega (arith, lt, m) in let ran = some_of away.rans k in_rans in
+        subst (AreNoted (notes_of set (get_or returned k task).first (get_or returned k task).log)) (have.each k ran noted in_rans) ((are.each k ran task in_rans).notes tickets);
+  }
 
   first_pass : PassHasTaken (length shared.tasks.items) all closed.pass.value
   first_pass = subst (HasTakenPasses (length shared.tasks.items) all) pass away.taken.passes
@@ -243,14 +248,14 @@ module _ (shared : Shared) (firsts : TaskSeats) (closed : Closed) (holds : Share
         (weaker_two _ _ (λ e z is. is.0) opened.books.items closed.books.items (pairs (books_left opened shared.locks firsts closed all holds.round shut taken)));
   }
 
-  pub has_closed : closed.told.value ≡ shared.told.value → closed.room ≡ shared.room.ended → closed.trace ≡ shared.locks.trace → HasClosed closed
-  has_closed told room trace = let back = sym told in record {
+  pub has_closed : closed.told.value ≡ shared.told.value → closed.room ≡ shared.room.ended → HasClosed closed
+  has_closed told room = let back = sym told in record {
     opened = subst IsOpened back holds.opened;
     returned = returned;
     closes = subst (λ (o : Opened). ClosesAs (routing_setup (stage_of o.objects).routing) o.objects (names_in closed) (history_in closed) (object_left_in closed o.objects) returned closed.pass.value) back closes;
     firsts = subst (λ (o : Opened). map (λ (task : Returned). task.first) returned ≡ states o.tasks.items) back firsts_are;
     tasks = subst (λ (o : Opened). Abreast (IsReturned (routing_setup (stage_of o.objects).routing)) closed.tasks.items returned) back tasks_are;
-    trace = listed trace;
+    trace = subst (λ (o : Opened). IsTraceOf (routing_setup (stage_of o.objects).routing) returned closed.trace) back (noted_by closed.trace away.noted);
     found = found;
     order = subst (λ (o : Opened). AreInOpenedOrder o.objects closed) back order;
     room = subst (λ (o : Opened). IsReservedForRun (scenario_in o).stack (length (scenario_in o).writes) closed.room) back

@@ -1,5 +1,8 @@
 -- A task's seats that are joined into the first ones.
-use Rattle.std.proofs.Common.{◌≡◌, ◌+◌, ◌≤◌, ◌<◌, ℕ, List, [], ◌∷◌, ◌++◌, All, arith, refl, sym, ◌∙◌, ap, subst, length, map, get_or, append-nil, Option, None, Some}
+use Rattle.std.proofs.Common.{tt, ◌≡◌, ◌+◌, ◌≤◌, ◌<◌, ℕ, Bool, List, [], ◌∷◌, ◌++◌, All, arith, refl, sym, ◌∙◌, ap, subst, length, map, get_or, append-nil, vec_capacity, Option, None, Some}
+use Rattle.std.specs.Global.{Vec}
+use Rattle.std.specs.Option.{is_some}
+use Rattle.std.specs.Prelude.{IfSome}
 use Rattle.std.specs.List.{flat_map}
 use Rattle.std.proofs.Math.Decide.{ℕ_discrete}
 use Rattle.std.proofs.Math.Logic.{dite}
@@ -11,15 +14,16 @@ use Rattle.seat_lock.specs.declared.view.Rank.TheVariants.{First}
 use Rattle.seat_lock.specs.Seats.{LockId, SeatState, is_first}
 use Rattle.tick_clock.specs.Tickets.{PassState}
 use Rattle.shared_objects.specs.Holding.{AreSeatsOf, SeatsHold}
-use Rattle.shared_objects.specs.Joining.{ArePutAway, HasJoinedPass, HasJoinedSeats, IsPutAway}
+use Rattle.shared_objects.specs.Joining.{ArePutAway, HasJoinedPass, HasJoinedSeats, HaveNoted, IsPutAway, IsWithNoted, MayGrow}
 use Rattle.shared_objects.specs.Joins.{HasTaken, IsNumbered}
 use Rattle.shared_objects.specs.Passes.{drawn_by, found_by}
 use Rattle.shared_objects.specs.Rans.{IsOtherPass, RanHolds, RanState}
 use Rattle.shared_objects.specs.Rows.{Abreast, AreChanged, CanClose, IsAt, IsJoined, IsOther}
-use Rattle.shared_objects.specs.Shared.{FirstsHold}
+use Rattle.shared_objects.specs.Shared.{FirstsHold, IsRoomForTrace}
 use Rattle.shared_objects.specs.Taking.{AreTaken, HasTakenPasses, TakenHold}
 use Rattle.shared_objects.specs.declared.closed.ClosedTask.{ClosedTask}
 use Rattle.shared_objects.specs.declared.locks.Locks.{Locks}
+use Rattle.shared_objects.specs.declared.noted.Noted.{Noted}
 use Rattle.shared_objects.specs.declared.seats.TaskSeats.{TaskSeats}
 use Rattle.shared_objects.proofs.row_lemmas.GrowingRows.{at_end, before, longer}
 use Rattle.shared_objects.proofs.row_lemmas.AbreastRows.{some_of}
@@ -128,9 +132,14 @@ taken_more split locks all old seats new taken number firsts held apart joined =
     many : {X : Type 0} (f : TaskSeats → X) → seats.number ≡ length (map f all)
     many f = number ∙ sym (length-map all f)
 
--- no task was put away yet
-pub none_put_away : (split : ℕ) (locks : Locks) (firsts : TaskSeats) → TakenHold split locks [] firsts → FirstsHold locks firsts → ArePutAway split locks [] firsts []
-none_put_away split locks firsts taken hold = record {
+-- no task was put away yet, and none has noted anything
+none_noted : (wanted : Bool) (count : ℕ) (trace : Option (Vec Noted)) → IsRoomForTrace wanted count trace → HaveNoted [] trace
+none_noted wanted count None room = tt
+none_noted wanted count (Some list) room = record { lens = ap length room.1.0; each = λ place x y lt. absurd (omega (arith, lt)) }
+
+pub none_put_away : (split : ℕ) (locks : Locks) (firsts : TaskSeats) (count : ℕ) (trace : Option (Vec Noted)) → TakenHold split locks [] firsts → FirstsHold locks firsts
+    → IsRoomForTrace locks.trace count trace → ArePutAway split locks [] firsts [] trace
+none_put_away split locks firsts count trace taken hold room = record {
   rans = [];
   are = refl;
   hold = λ k d lt. absurd (omega (arith, lt));
@@ -138,17 +147,65 @@ none_put_away split locks firsts taken hold = record {
   taken = taken;
   firsts_hold = hold;
   tasks = record { lens = refl; each = λ place x y lt. absurd (omega (arith, lt)) };
+  traced = room.0;
+  noted = none_noted locks.trace count trace room;
 }
 
-module _ (split : ℕ) (locks : Locks) (slots : List (Option RanState)) (old : TaskSeats) (closed : List ClosedTask) (are : ArePutAway split locks slots old closed) where
+-- a trace that has room for so many entries
+abbrev pub Fits : ℕ → Option (Vec Noted) → Type 0
+Fits count trace = IfSome trace (λ (list : Vec Noted). count ≤ vec_capacity list)
+
+pub fits : (wanted : Bool) (count : ℕ) (trace : Option (Vec Noted)) → IsRoomForTrace wanted count trace → Fits count trace
+fits wanted count None room = tt
+fits wanted count (Some list) room = room.1.1
+
+may_grow : (count : ℕ) (rans : List RanState) (trace : Option (Vec Noted)) → Fits count trace → HaveNoted rans trace → length rans < count → MayGrow trace
+may_grow count rans None room are lt = tt
+may_grow count rans (Some list) room are lt = let l = are.lens in omega (arith, room, l, lt)
+
+-- behind one more entry
+pub fits_still : (count : ℕ) (old : Option (Vec Noted)) (noted : Option Noted) (new : Option (Vec Noted)) → IsWithNoted old noted new → Fits count old → Fits count new
+fits_still count None noted None is room = tt
+fits_still count None noted (Some new) is room = absurd is
+fits_still count (Some old) None new is room = absurd is
+fits_still count (Some old) (Some noted) None is room = absurd is
+fits_still count (Some old) (Some noted) (Some new) is room = let more = is.1 in omega (arith, more, room)
+
+some_still : (old : Option (Vec Noted)) (noted : Option Noted) (new : Option (Vec Noted)) → IsWithNoted old noted new → is_some new ≡ is_some old
+some_still None noted None is = refl
+some_still None noted (Some new) is = absurd is
+some_still (Some old) None new is = absurd is
+some_still (Some old) (Some noted) None is = absurd is
+some_still (Some old) (Some noted) (Some new) is = refl
+
+one_noted : (rans : List RanState) (ran : RanState) (old : Option (Vec Noted)) (noted : Option Noted) (new : Option (Vec Noted)) → HaveNoted rans old → noted ≡ ran.noted
+    → IsWithNoted old noted new → HaveNoted (rans ++ ran ∷ []) new
+one_noted rans ran None noted None have same is = tt
+one_noted rans ran None noted (Some new) have same is = absurd is
+one_noted rans ran (Some old) None new have same is = absurd is
+one_noted rans ran (Some old) (Some noted) None have same is = absurd is
+one_noted rans ran (Some old) (Some noted) (Some new) have same is =
+    subst (Abreast (λ (r : RanState) (n : Noted). r.noted ≡ Some n) (rans ++ ran ∷ [])) (sym is.0)
+    (two_more (λ (r : RanState) (n : Noted). r.noted ≡ Some n) rans old.items ran noted have (sym same))
+
+module _ (split : ℕ) (locks : Locks) (slots : List (Option RanState)) (old : TaskSeats) (closed : List ClosedTask) (trace : Option (Vec Noted))
+    (are : ArePutAway split locks slots old closed trace) where
   pub as_many : (length are.rans ≡ length slots) × (length closed ≡ length slots)
   as_many =
       let l = ap length are.are in let m = length-map are.rans (λ (ran : RanState). Some ran) in let n = are.tasks.lens in (omega (arith, l, m), omega (arith, l, m, n))
 
+  -- a task has noted something where there is a trace, and that has room for it
+  pub one_listed : (ran : RanState) (noted : Option Noted) → RanHolds ran → ran.home ≡ locks → noted ≡ ran.noted → is_some noted ≡ is_some trace
+  one_listed ran noted holds home same = ap is_some same ∙ holds.listed ∙ ap (λ (h : Locks). h.trace) home ∙ sym are.traced
+
+  pub one_fits : (count : ℕ) → Fits count trace → length slots < count → MayGrow trace
+  one_fits count room lt = let l = as_many.0 in may_grow count are.rans trace room are.noted (omega (arith, l, lt))
+
   -- one more was put away
-  pub one_put_away : (new : TaskSeats) (ran : RanState) (task : ClosedTask) → RanHolds ran → ran.home ≡ locks → ran.seats.number ≡ length slots → IsPutAway ran task
-      → HasJoinedSeats locks old ran.seats new → FirstsHold locks new → ArePutAway split locks (slots ++ Some ran ∷ []) new (closed ++ task ∷ [])
-  one_put_away new ran task holds home number away joined firsts =
+  pub one_put_away : (new : TaskSeats) (ran : RanState) (task : ClosedTask) (noted : Option Noted) (more : Option (Vec Noted)) → RanHolds ran → ran.home ≡ locks
+      → ran.seats.number ≡ length slots → IsPutAway ran task → HasJoinedSeats locks old ran.seats new → FirstsHold locks new → noted ≡ ran.noted → IsWithNoted trace noted more
+      → ArePutAway split locks (slots ++ Some ran ∷ []) new (closed ++ task ∷ []) more
+  one_put_away new ran task noted more holds home number away joined firsts same adds =
       let seats_in : RanState → TaskSeats = λ (r : RanState). r.seats in
       let l = as_many.0 in let m = length-map are.rans seats_in in
       let held : SeatsHold locks ran.seats = subst (λ (h : Locks). SeatsHold h ran.seats) home holds.desk.seated in record {
@@ -160,4 +217,6 @@ module _ (split : ℕ) (locks : Locks) (slots : List (Option RanState)) (old : T
             (taken_more split locks (map seats_in are.rans) old ran.seats new are.taken (omega (arith, number, l, m)) are.firsts_hold held holds.pass joined);
         firsts_hold = firsts;
         tasks = two_more IsPutAway are.rans closed ran task are.tasks away;
+        traced = some_still trace noted more adds ∙ are.traced;
+        noted = one_noted are.rans ran trace noted more are.noted same adds;
       }

@@ -22,7 +22,7 @@ use Rattle.object_things.specs.Pools.{PoolServes, PoolLooks}
 use Rattle.object_things.specs.Tallies.{TallyServes, TallyLooks}
 use Rattle.run_machine.specs.Laws.{OfPool, OfRescuer, OfDisk, OfBook, OfTally, OfNone}
 use Rattle.shared_objects.specs.Closes.{Returned, ClosesAs}
-use Rattle.shared_objects.specs.Passes.{drawn_by, found_by}
+use Rattle.shared_objects.specs.Passes.{drawn_by, found_by, AreInRow}
 use Rattle.shared_objects.specs.Kinds.{ThingAt, chooses_at, looks_at, opened_at, serves_at, unasked}
 use Rattle.shared_objects.specs.Logs.{tickets_in, IsSeenIn, KnowsLast, HasPass, IsLogged}
 use Rattle.shared_objects.proofs.tickets.CallOwners.{split_at, first_there, at_all, IsCallOfTask, owner, logged, kept, IsInPlace, in_place}
@@ -115,10 +115,6 @@ end_is last end (call ∷ calls) rises = by_ticket call.told.drawn refl (end_is 
     by_ticket None t (inl is) = inl is
     by_ticket ticket t (inr (x, there, is)) = inr (x, Contains-append_right (call ∷ []) calls x there, is)
 
--- each of these numbers is 1, or one more than another one
-abbrev pub InRow : List ℕ → Type 0
-InRow drawn = (ticket : ℕ) → Contains drawn ticket → (ticket ≡ 1) ⊎ ((other : ℕ) × Contains drawn other × (ticket ≡ other + 1))
-
 module _ (set : Setup) (plain : Plain) (names : List Object) (history : Object → List Call) (left : (name : Object) → ThingState (ThingAt name)) (tasks : List Returned)
     (pass : PassState) (c : ClosesAs set plain names history left tasks pass) where
   pub drew_of : (place : ℕ) (task : Returned) → slice_get tasks place ≡ Some task → ticket_numbers (drawn_of task) ≡ tickets_in task.log
@@ -170,7 +166,7 @@ module _ (set : Setup) (plain : Plain) (names : List Object) (history : Object �
   behind ticket before is (inl none) = inl (omega (arith, is, none))
   behind ticket before is (inr there) = inr (before, there, is)
 
-  pub in_row : InRow (ticket_numbers pass.drawn)
+  pub in_row : AreInRow (ticket_numbers pass.drawn)
   in_row ticket there = by_ticket (map_from (λ (t : Ticket). t.number) pass.drawn ticket there)
     where
       by_more : (t : Ticket) → Contains pass.drawn t → t.number ≡ ticket → IsOneMore pass.drawn t

@@ -1,9 +1,9 @@
 use Rattle.std.proofs.Common.{◌-◌, ◌^◌, ◌∙◌, ap, arith, length, map, refl, subst, sym}
-use Rattle.std.specs.Prelude.{All, min, sum_by, vec_capacity}
+use Rattle.std.specs.Prelude.{min, sum_by, vec_capacity}
 use Rattle.shared_objects.specs.declared.closed.ClosedTask.{ClosedTask}
 use Rattle.task_core.specs.declared.ended.Ended.{Ended}
 use Rattle.run_merge.specs.Falling.{facts_left, row_of}
-use Rattle.run_merge.specs.Listing.{IsTrace, WholeRises}
+use Rattle.run_merge.specs.Listing.{IsTrace, TraceRises}
 use Rattle.run_merge.proofs.leaving.LeftByRun.{some_set, pools_fit, disks_fit, pools_in, bios_row, records_row, vecs_is}
 use Rattle.run_merge.proofs.leaving.MergeOfClosed.{is_merged}
 use Rattle.run_merge.proofs.leaving.TraceOfRun.{lists_rise}
@@ -30,7 +30,7 @@ pools_of-pools-requires-clause-some c =
 
 pub trace_of-requires : goal.trace_of-requires
 trace_of-requires c =
-    record { rising = subst (λ tasks. All (λ (task : ClosedTask). WholeRises task.noted) tasks.items) (sym c.parts-parts.ensures.tasks) (lists_rise c.args.closed c.requires.closed) }
+    record { rising = subst TraceRises (sym c.parts-parts.ensures.trace) (lists_rise c.args.closed c.requires.closed) }
 
 pub returns : goal.returns
 returns c =
@@ -47,7 +47,6 @@ returns c =
           (ap facts_left parts.vecs ∙ vecs_is closed has))
           (c.events_of-steps.ensures
           ∙ ap (λ tasks. min (sum_by (λ (task : ClosedTask). task.events) tasks) (2 ^ 64 - 1)) (c.deref.ensures.value ∙ ap (λ tasks. tasks.items) parts.tasks))
-          (subst (λ trace. IsTrace trace closed.tasks.items c.in_ok-events.events) parts.trace
-          (subst (λ tasks. IsTrace c.parts-parts.result.trace tasks.items c.in_ok-events.events) parts.tasks c.in_ok-events.ensures.traced));
+          (subst (λ trace. IsTrace trace c.in_ok-events.events) parts.trace c.in_ok-events.ensures.traced);
       untraced = λ none. refl;
     }
