@@ -4,7 +4,8 @@ use Rattle.std.specs.List.{range_with_len, flat_map}
 use Rattle.std.proofs.Math.Nat.{mod-add-mod}
 use Rattle.std.proofs.lemmas.Bool.{cases_lt}
 use Rattle.std.proofs.lemmas.List.{append-nil}
-use Rattle.bio_records.specs.Segments.{segment_at, segment_count, words_from, SegmentsAreTheRun}
+use Rattle.stack_base.specs.Segments.{segment_count}
+use Rattle.bio_records.specs.Segments.{segment_at, words_from, SegmentsAreTheRun}
 use Rattle.bio_records.proofs.RunLemmas.{map_moved, map_parts}
 
 -- the first words of the sectors from number a on, of which sector 0 has this first word

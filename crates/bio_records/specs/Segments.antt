@@ -1,11 +1,8 @@
 -- The segments of a write: pages of eight sectors, one after the other.
-use Rattle.std.specs.Prelude.{◌≡◌, ℕ, ◌+◌, ◌-◌, ◌*◌, ◌/◌, ◌%◌, ◌^◌, min, List, map}
+use Rattle.std.specs.Prelude.{◌≡◌, ℕ, ◌+◌, ◌-◌, ◌*◌, ◌%◌, ◌^◌, min, List, map}
 use Rattle.std.specs.List.{range_with_len, flat_map}
+use Rattle.stack_base.specs.Segments.{segment_count}
 use Rattle.bio_records.specs.declared.segment.Segment.{Segment}
-
--- how many segments so many sectors have, of which the last may be a part of one
-abbrev pub segment_count : ℕ → ℕ
-segment_count count = (count + 7) / 8
 
 -- segment i of a write with this first word and so many sectors: a sector has 64 words
 abbrev pub segment_at : ℕ → ℕ → ℕ → Segment

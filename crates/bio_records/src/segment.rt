@@ -1,6 +1,7 @@
 //! Segments of a write: pages of eight sectors.
 ghost use Rattle.std.specs.Prelude.{◌≡◌, ◌≤◌, length};
-ghost use Rattle.bio_records.specs.Segments.{segment_count, segments_of};
+ghost use Rattle.stack_base.specs.Segments.{segment_count};
+ghost use Rattle.bio_records.specs.Segments.{segments_of};
 
 use arrayvec::ArrayVec;
 

@@ -26,15 +26,20 @@ use Rattle.trace_replay.specs.Replay.{IsReplay}
 use Rattle.trace_replay.specs.declared.extents.Extent.{Extent}
 use Rattle.trace_replay.specs.declared.walk.Replayed.{Replayed}
 use Rattle.trace_replay.proofs.Exact.{from_start}
+use Rattle.biostack_words.specs.declared.order.Order.TheVariants.{Replay}
+use Rattle.biostack_top.specs.declared.ending.Ending.{Ending}
+use Rattle.biostack_top.specs.Ending.{EndsWritten, IsOutputOf, TextEndsBy, refusal_for}
 use Rattle.biostack_top.specs.Replaying.{ComeTo, TellsReplay, replay_refusal}
 use Rattle.biostack_top.specs.Scene.{SaysBy}
+use Rattle.biostack_top.specs.Streams.{SinkStream}
+use Rattle.biostack_top.proofs.ServeLemmas.{ends_written}
 
 -- a text that is not too long is refused, or is not, as its lines are
 pub not_long : {X : Type 0} (n : ℕ) (long short : X) → n ≤ most_bytes → (if nat_lt most_bytes n then long else short) ≡ short
 not_long n long short few = ap (λ b. if b then long else short) (le-ltb most_bytes n few)
 
 -- the scenario of a text is refused as the text is, where that is not too long
-pub refused_before : (text scenario events : List ℕ) (first : ℕ) → AreTextParts text scenario events first → length text ≤ most_bytes
+refused_before : (text scenario events : List ℕ) (first : ℕ) → AreTextParts text scenario events first → length text ≤ most_bytes
     → replay_refusal text ≡ text_refusal_by true scenario
 refused_before text scenario events first parts few =
     let shorter : length scenario ≤ most_bytes = omega (arith, few, length-append scenario events, ap length parts.joined) in
@@ -86,7 +91,7 @@ comes_if_ok (Ok replayed) text accepted work told core says named exact never op
 comes_if_ok (Err fault) text accepted work told core says named exact never opened is pools = tt
 
 -- what is told of a text
-pub tells_replay : (text scenario events : List ℕ) (first : ℕ) (accepted : Accepted) (work : Work) (replayed : Replayed) → AreTextParts text scenario events first
+tells_replay : (text scenario events : List ℕ) (first : ℕ) (accepted : Accepted) (work : Work) (replayed : Replayed) → AreTextParts text scenario events first
     → SaysBy true scenario accepted work → ComeTo accepted work (told_in first events) replayed
     → TellsReplay text (replay_text accepted.stack replayed) (is_none replayed.bad)
 tells_replay text scenario events first accepted work replayed parts says come = record {
@@ -100,3 +105,11 @@ tells_replay text scenario events first accepted work replayed parts says come =
   told_is = refl;
   well_is = refl;
 }
+
+-- and it ends the call by how it was written
+pub replay_ends : {text scenario events : List ℕ} {first : ℕ} {accepted : Accepted} {work : Work} {replayed : Replayed} {K : Type 0} (out : SinkStream K)
+    → AreTextParts text scenario events first → length text ≤ most_bytes → SaysBy true scenario accepted work → ComeTo accepted work (told_in first events) replayed
+    → (ending : Ending) → EndsWritten ending (replay_text accepted.stack replayed) (is_none replayed.bad) out → TextEndsBy ending Replay text out
+replay_ends {text} {scenario} {events} {first} {accepted} {work} {replayed} out parts few says come ending =
+    ends_written ending (refusal_for Replay text) (IsOutputOf Replay text) (replay_text accepted.stack replayed) (is_none replayed.bad) out
+    (refused_before text scenario events first parts few ∙ says.fine) (tells_replay text scenario events first accepted work replayed parts says come)

@@ -31,7 +31,7 @@ HasItsWord s bio = bio.word % 2 ^ 64 ≡ (tag_of s bio.write + 64 * offset_of bi
 abbrev pub lies_at : Fragment → ℕ → ℕ → Bool
 lies_at f disk at = f.disk.0 == disk && (nat_le f.at at && nat_lt at (f.at + f.len))
 
--- and no fault, so that the sector is written
+-- and no fault in any of its sectors, so that the sector is written
 abbrev pub writes_at : Scenario → Fragment → ℕ → ℕ → Bool
 writes_at s f disk at = lies_at f disk at && status_eq (fault_of s.stack f) status.Ok
 
@@ -44,8 +44,8 @@ abbrev pub held_after : Scenario → ℕ → ℕ → List Fragment → List ℕ 
 held_after s disk at [] held = held
 held_after s disk at (f ∷ fragments) held = held_after s disk at fragments (sector_after s disk at f held)
 
--- Each sector of each disk holds the data of the last fragment without a fault there that the run has completed, and zeros where there is
--- none.
+-- Each sector of each disk holds the data of the last fragment there without a fault in any of its sectors that the run has completed, and
+-- zeros where there is none.
 abbrev pub ImagesAreOfCompleted : Type 0
 ImagesAreOfCompleted = (s : Scenario) (ledger : ℕ → LedgerId) (events : List Event) (state : State) → IsScenario s → IsNaming ledger
     → (run : IsRun (scene s ledger) (start s) events state) (disk at : ℕ) → at < size (tree s.stack disk)

@@ -59,7 +59,7 @@ pub record IsSound (s : Scenario) (ledger : ℕ → LedgerId) (events : List Eve
       → IsOfScenario s f
   pub words : EachBio (λ item. HasItsWord s item.bio) (scene s ledger) state
   pub copied : EachCopied (λ bio master. HasItsWord s bio) (scene s ledger) state
-  -- each sector of each disk holds the data of the last fragment without a fault there that was completed, and zeros where there is none
+  -- each sector of each disk holds the data of the last fragment there without a fault in any of its sectors that was completed, and zeros where there is none
   pub images : (disk at : ℕ) → at < size (tree s.stack disk)
       → slice_index_or (state.objects.disk disk).image at [] ≡ held_after s disk at (completed (scene s ledger) (start s) events state run) zero_sector
   -- each round has as many unfinished writes as the tally says, and what is begun is of the present round

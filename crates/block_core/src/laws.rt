@@ -120,7 +120,7 @@ pub fn books_have_room()
 
 /// No task of any run of any scenario that is allowed meets a refusal. Where it asks a book next, the book has a vacant place for a new node, and
 /// each node that the task names is open; and where the keeper may change a reserve, every element is at home. So no task breaks off,
-/// and whatever is answered to a task is an event that comes next, or changes neither the task nor an object.
+/// and once its look lets a task ask, whatever it is answered is an event that comes next, or changes neither the task nor an object.
 pub fn no_task_breaks()
     ensures unrefused { NoTaskBreaks }
     ensures replies { RepliesAreEvents }
@@ -184,8 +184,8 @@ pub fn nothing_comes_where_all_is_home()
     ensures ended { NothingComesWhereEnded }
 {}
 
-/// In every run of every scenario each sector of each disk holds the data of the last fragment without a fault there that the run has
-/// completed, at that fragment's place in its write, and zeros where there is none.
+/// In every run of every scenario each sector of each disk holds the data of the last fragment there that has no fault in any of its sectors, of
+/// those that the run has completed, at that fragment's place in its write, and zeros where there is none.
 pub fn images_are_of_completed()
     ensures { ImagesAreOfCompleted }
 {}

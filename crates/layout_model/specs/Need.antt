@@ -1,7 +1,8 @@
 -- What a write needs: the elements that it takes and the nodes that it opens.
-use Rattle.std.specs.Prelude.{◌+◌, ◌/◌, ◌==◌, ◌&&◌, not, if◌then◌else◌, nat_lt, ℕ, length, sum_by}
+use Rattle.std.specs.Prelude.{◌+◌, ◌==◌, ◌&&◌, not, if◌then◌else◌, nat_lt, ℕ, length, sum_by}
 use Rattle.std.specs.List.{range_with_len}
 use Rattle.stack_base.specs.Mapping.{slot, head}
+use Rattle.stack_base.specs.Segments.{segment_count}
 use Rattle.stack_base.specs.Tree.{Tree, Leaf, Split, Mirrored}
 
 -- what begins at sector s of a run that starts at r, here and below: where a device cuts, a bio for each head but the run's first; where
@@ -29,9 +30,6 @@ fragments_begun (Mirrored number sizes members) r s = sum_by (λ k. fragments_be
 unfoldable pub fragments_in_run : Tree → ℕ → ℕ → ℕ
 fragments_in_run t r len = sum_by (λ s. fragments_begun t r s) (range_with_len r len)
 
--- segments of eight sectors; a bio keeps four of them itself
-abbrev pub segments : ℕ → ℕ
-segments count = (count + 7) / 8
-
+-- a vector for segments of which a bio keeps four itself
 abbrev pub vectors : ℕ → ℕ
-vectors count = if nat_lt 4 (segments count) then 1 else 0
+vectors count = if nat_lt 4 (segment_count count) then 1 else 0

@@ -5,6 +5,7 @@ use Rattle.elem_ledger.specs.Ledger.{LedgerId}
 use Rattle.fail_script.specs.Script.{Answers}
 use Rattle.stack_base.specs.declared.ids.PoolId.{PoolId}
 use Rattle.stack_base.specs.declared.ids.PoolId.TheVariants.{FsBios, FsVecs, Bios, Records}
+use Rattle.stack_base.specs.declared.ids.Status.TheVariants.{Ok}
 use Rattle.stack_base.specs.declared.stack.Stack.{Stack}
 use Rattle.stack_base.specs.Tree.{tree, size}
 use Rattle.layout_model.specs.May.{bads_of}
@@ -31,6 +32,10 @@ objects_by setup reserve scripts tally = record {
 
 abbrev pub state_by : Objects → List TaskState → State
 state_by objects tasks = record { objects = objects; task = λ place. slice_index_or tasks place no_task }
+
+-- the tally of one write, which is not done
+abbrev pub one_left : TallyState
+one_left = record { round = 0; left = 1 ∷ []; statuses = Ok ∷ [] }
 
 -- a run from what is written out is one of the scenario
 pub runs_as : (scene other : Scene) (start first : State) (events : List Event) (end : State) → scene ≡ other → start ≡ first

@@ -88,20 +88,24 @@ module _ (setup : Setup) where
   writer_stays : (number : ℕ) (todos : List Todo) (taken : Gathered) (doing : Doing) (lists : TaskLists) (reply : Reply)
       → IsIdle (request setup (Writer number todos taken (record { doing = doing; lists = lists }))) reply
       → answered setup (Writer number todos taken (record { doing = doing; lists = lists })) reply ≡ Writer number todos taken (record { doing = doing; lists = lists })
+  -- a writer at rest, by what it has gathered
   writer_stays number [] taken Rests lists reply idle = absurd idle
   writer_stays number (todo ∷ later) NoBio Rests lists (requests.Missed used) idle = refl
   writer_stays number (todo ∷ later) NoBio Rests lists _ idle = absurd idle
   writer_stays number (todo ∷ later) (HasBio bio) Rests lists reply idle =
       bio_stays (needs_vector todo.write) number todo later bio (record { doing = Rests; lists = lists }) reply refl idle
   writer_stays number (todo ∷ later) (HasBoth bio vector) Rests lists reply idle = absurd idle
+  -- one that submits
   writer_stays number todos taken (Drives bio ask) lists reply idle = ap (Writer number todos taken) (submission_stays (Drives bio ask) lists reply idle)
   writer_stays number todos taken (Copies bio master leg want) lists reply idle = ap (Writer number todos taken) (submission_stays (Copies bio master leg want) lists reply idle)
   writer_stays number todos taken (Breaks breach kept) lists reply idle = absurd idle
 
   rescuer_stays : (dev : DevId) (doing : Doing) (lists : TaskLists) (reply : Reply) → IsIdle (request setup (Rescuer dev (record { doing = doing; lists = lists }))) reply
       → answered setup (Rescuer dev (record { doing = doing; lists = lists })) reply ≡ Rescuer dev (record { doing = doing; lists = lists })
+  -- a rescuer at rest finds nothing where its list is empty
   rescuer_stays dev Rests lists requests.Nothing idle = refl
   rescuer_stays dev Rests lists _ idle = absurd idle
+  -- one that submits
   rescuer_stays dev (Drives bio ask) lists reply idle = ap (Rescuer dev) (submission_stays (Drives bio ask) lists reply idle)
   rescuer_stays dev (Copies bio master leg want) lists reply idle = ap (Rescuer dev) (submission_stays (Copies bio master leg want) lists reply idle)
   rescuer_stays dev (Breaks breach kept) lists reply idle = absurd idle

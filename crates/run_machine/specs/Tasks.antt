@@ -9,7 +9,8 @@ use Rattle.layout_model.specs.declared.write.Write as write
 use Rattle.bio_records.specs.declared.bio.Bio.{Bio}
 use Rattle.bio_records.specs.declared.bio.Pad.{Pad}
 use Rattle.bio_records.specs.Items.{Item}
-use Rattle.bio_records.specs.Segments.{segment_count, segments_of}
+use Rattle.stack_base.specs.Segments.{segment_count}
+use Rattle.bio_records.specs.Segments.{segments_of}
 use Rattle.bio_books.specs.Books.{VectorItem, SlipItem}
 use Rattle.bio_books.specs.Drops.{Closed, DropOutcome}
 use Rattle.bio_books.specs.Drops as end

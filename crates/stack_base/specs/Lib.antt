@@ -1,5 +1,6 @@
 pub mod PoolId
 pub mod Words
+pub mod Segments
 pub mod Mapping
 pub mod Tree
 pub mod Stack

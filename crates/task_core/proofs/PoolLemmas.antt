@@ -11,24 +11,20 @@ use Rattle.task_steps.specs.Stage.{is_bios, is_slips}
 use Rattle.task_core.specs.declared.plain.Plain.{Plain}
 use Rattle.run_machine.specs.Maps.{upd}
 use Rattle.run_machine.specs.Objects.{MovesPool}
-use Rattle.task_core.specs.Plains.{Holds, is_bios_number, pool_at, objects_of, stage_of}
+use Rattle.task_core.specs.Plains.{Holds, is_bios_number, pool_at, objects_of, stage_of, by_kind}
 
 not_64 : (m n : ℕ) → m ≡ n → n ≢ 64 → (m == 64) ≡ false
 not_64 m n e apart = grind (arith, nat_tests)
 
--- what a number stands for among things of pools, as of pools themselves
-abbrev pub by_number : {X : Type 0} → X → (ℕ → X) → (ℕ → X) → ℕ → X
-by_number vecs bios records number = if number == 64 then vecs else if is_bios_number number then bios number else records number
-
-pub stands_for_bios : {X : Type 0} (vecs : X) (bios records : ℕ → X) (n : ℕ) → n ≢ 64 → is_bios_number n ≡ true → by_number vecs bios records n ≡ bios n
+pub stands_for_bios : {X : Type 0} (vecs : X) (bios records : ℕ → X) (n : ℕ) → n ≢ 64 → is_bios_number n ≡ true → by_kind vecs bios records n ≡ bios n
 stands_for_bios vecs bios records n apart kind = let other : (n == 64) ≡ false = not_64 n n refl apart in rw (other, kind) refl
 
-pub stands_for_records : {X : Type 0} (vecs : X) (bios records : ℕ → X) (n : ℕ) → n ≢ 64 → is_bios_number n ≡ false → by_number vecs bios records n ≡ records n
+pub stands_for_records : {X : Type 0} (vecs : X) (bios records : ℕ → X) (n : ℕ) → n ≢ 64 → is_bios_number n ≡ false → by_kind vecs bios records n ≡ records n
 stands_for_records vecs bios records n apart kind = let other : (n == 64) ≡ false = not_64 n n refl apart in rw (other, kind) refl
 
 -- one of each kind changes
 module _ {X : Type 0} (vecs : X) (bios records : ℕ → X) (n : ℕ) (x : X) where
-  bios_at : n ≢ 64 → is_bios_number n ≡ true → (m : ℕ) (b : Bool) → (m == n) ≡ b → by_number vecs (upd bios n x) records m ≡ upd (by_number vecs bios records) n x m
+  bios_at : n ≢ 64 → is_bios_number n ≡ true → (m : ℕ) (b : Bool) → (m == n) ≡ b → by_kind vecs (upd bios n x) records m ≡ upd (by_kind vecs bios records) n x m
   unfolding upd
   bios_at apart kind m true q =
       let other : (m == 64) ≡ false = not_64 m n (eqb-true m n q) apart in
@@ -36,11 +32,11 @@ module _ {X : Type 0} (vecs : X) (bios records : ℕ → X) (n : ℕ) (x : X) wh
       rw (q, other, of_set) refl
   bios_at apart kind m false q = rw (q) refl
 
-  pub bios_change : n ≢ 64 → is_bios_number n ≡ true → by_number vecs (upd bios n x) records ≡ upd (by_number vecs bios records) n x
+  pub bios_change : n ≢ 64 → is_bios_number n ≡ true → by_kind vecs (upd bios n x) records ≡ upd (by_kind vecs bios records) n x
   bios_change apart kind = λ k m. bios_at apart kind m (m == n) refl k
 
   records_at : n ≢ 64 → is_bios_number n ≡ false → (m : ℕ) (b : Bool) → (m == n) ≡ b
-      → by_number vecs bios (upd records n x) m ≡ upd (by_number vecs bios records) n x m
+      → by_kind vecs bios (upd records n x) m ≡ upd (by_kind vecs bios records) n x m
   unfolding upd
   records_at apart kind m true q =
       let other : (m == 64) ≡ false = not_64 m n (eqb-true m n q) apart in
@@ -48,16 +44,16 @@ module _ {X : Type 0} (vecs : X) (bios records : ℕ → X) (n : ℕ) (x : X) wh
       rw (q, other, of_set) refl
   records_at apart kind m false q = rw (q) refl
 
-  pub records_change : n ≢ 64 → is_bios_number n ≡ false → by_number vecs bios (upd records n x) ≡ upd (by_number vecs bios records) n x
+  pub records_change : n ≢ 64 → is_bios_number n ≡ false → by_kind vecs bios (upd records n x) ≡ upd (by_kind vecs bios records) n x
   records_change apart kind = λ k m. records_at apart kind m (m == n) refl k
 
 module _ {X : Type 0} (vecs : X) (bios records : ℕ → X) (x : X) where
-  vecs_at : (m : ℕ) (b : Bool) → (m == 64) ≡ b → by_number x bios records m ≡ upd (by_number vecs bios records) 64 x m
+  vecs_at : (m : ℕ) (b : Bool) → (m == 64) ≡ b → by_kind x bios records m ≡ upd (by_kind vecs bios records) 64 x m
   unfolding upd
   vecs_at m true q = rw (q) refl
   vecs_at m false q = rw (q) refl
 
-  pub vecs_change : by_number x bios records ≡ upd (by_number vecs bios records) 64 x
+  pub vecs_change : by_kind x bios records ≡ upd (by_kind vecs bios records) 64 x
   vecs_change = λ k m. vecs_at m (m == 64) refl k
 
 -- the numbers of pools by their kinds, where there are 32 devices at most

@@ -158,7 +158,8 @@ impl Writer {
     }
 
     /// Its next step: it asks one object once, for what its submission or its next write needs, and goes on with the reply. Before the
-    /// first take of a write it looks at the present round, and waits where the write is of a later one.
+    /// first take of a write it looks at the present round, and waits where the write is of a later one. Where it has broken off, or has no
+    /// more writes and ends, it asks nothing.
     #[inline(always)] // as `Task::step`
     pub fn step<O: Objects>(&mut self, objects: &mut O, routes: &Routes) -> Step
         requires routing { (O.stage objects.old).routing ≡ routes.now }

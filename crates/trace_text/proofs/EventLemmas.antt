@@ -101,18 +101,22 @@ AreUnbroken [] = Unit {0}
 AreUnbroken (word ∷ words) = (is_unbroken word ≡ true) × AreUnbroken words
 
 what_unbroken : (stack : Stack) (one : What) → DevicesAreNamed stack → IsWhat stack one → AreUnbroken (what_words stack one)
+-- elements: takes, tries and gives
 what_unbroken stack (what.Take pool got) named is = (refl, (pool_unbroken stack pool named is.0, (got_unbroken got, tt)))
 what_unbroken stack (what.Try pool got) named is = (refl, (pool_unbroken stack pool named is.0, (got_unbroken got, tt)))
 what_unbroken stack (what.Give pool) named is = (refl, (pool_unbroken stack pool named is.0, tt))
+-- bios at devices: punts, pops, pushes and completions
 what_unbroken stack (what.Punt dev moved) named is = (refl, (name_unbroken stack dev named is.0, (number_unbroken moved is.1, tt)))
 what_unbroken stack (what.Pop dev) named is = (refl, (name_unbroken stack dev named is.0, tt))
 what_unbroken stack (what.Push disk at len leg) named is =
     (refl, (name_unbroken stack disk named (any_of is_disk_kind stack disk is.0), (number_unbroken at is.1.0, (number_unbroken len is.1.1, (refl, (short_unbroken leg is.1.2, tt))))))
 what_unbroken stack (what.Complete disk index status) named is =
     (refl, (name_unbroken stack disk named (any_of is_disk_kind stack disk is.0), (number_unbroken index is.1, (status_unbroken status, tt))))
+-- nodes: links and drops
 what_unbroken stack (what.Link writer how node) named is = (refl, (short_unbroken writer is.1.0, (how_unbroken how, (short_unbroken node is.1.1, tt))))
 what_unbroken stack (what.Drop writer node status end) named is =
     (refl, (short_unbroken writer is.1.0, (short_unbroken node is.1.1, (status_unbroken status, (end_unbroken end, tt)))))
+-- writes that are done, reserves and rounds
 what_unbroken stack (what.Done write status) named is = (refl, (short_unbroken write is.1, (status_unbroken status, tt)))
 what_unbroken stack (what.Resize pool min) named is = (refl, (pool_unbroken stack pool named is.0, (short_unbroken min is.1, tt)))
 what_unbroken stack (what.Round round) named is = (refl, (short_unbroken round is.1, tt))

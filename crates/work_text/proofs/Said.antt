@@ -1,14 +1,14 @@
 -- Lines that are made of words, as they are read.
-use Rattle.std.proofs.Common.{◌≡◌, ◌∙◌, ◌≤◌, ◌<◌, ◌^◌, ◌==◌, ◌&&◌, ℕ, Bool, true, false, not, zero, suc, List, [], ◌∷◌, ◌++◌, map, length, decimal, refl, sym, ap, append_assoc, arith, rules, Some, true≢false}
+use Rattle.std.proofs.Common.{◌≡◌, ◌∙◌, ◌≤◌, ◌<◌, ◌^◌, ◌==◌, ◌&&◌, ℕ, Bool, true, false, not, zero, suc, List, [], ◌∷◌, ◌++◌, map, length, decimal, refl, sym, ap, append_assoc, arith, Some, true≢false}
 use Rattle.std.specs.List.{All, list_all, list_any, slice_split, filter}
 use Rattle.std.specs.Char.{is_ascii_digit}
 use Rattle.std.specs.Str.Parse.{digits_value}
 use Rattle.std.proofs.lemmas.Bool.Decides.{nat_tests}
 use Rattle.std.proofs.lemmas.Fmt.{decimal_is_IsNumeral, length-decimal-le}
 use Rattle.std.proofs.lemmas.List.Splits.{slice_split_at, slice_split_none}
-use Rattle.std.proofs.lemmas.Str.Parse.{IsNumeralModel, IsDigitsTest, numerals_by_value}
 use Rattle.std.proofs.lemmas.Bool.{and_parts, not-true}
 use Rattle.stack_base.proofs.ListLemmas.{Each}
+use Rattle.stack_base.proofs.NumeralLemmas.{AllAreDigits, numerals}
 use Rattle.decl_text.specs.Text.{is_blank, is_option, is_some_text, is_text, is_text_byte, lines, number_of, without_empty_end, words}
 use Rattle.decl_text.proofs.SplitLemmas.{no_lines}
 use Rattle.work_text.specs.Generated.{line_of, text_of}
@@ -119,28 +119,19 @@ text_lines (line ∷ all) are =
 
 -- ---- numbers
 
-abbrev pub AreDigits : List ℕ → Type 0
-AreDigits word = list_all is_ascii_digit word ≡ true
-
-digits_test : IsDigitsTest AreDigits
-digits_test = search rules
-
-pub numerals : IsNumeralModel AreDigits (digits_value 10)
-numerals = numerals_by_value AreDigits digits_test
-
-decimal_digits : (n : ℕ) → n < 2 ^ 64 → AreDigits (decimal n)
+decimal_digits : (n : ℕ) → n < 2 ^ 64 → AllAreDigits (decimal n)
 decimal_digits n small = numerals.from (decimal n) (decimal_is_IsNumeral n small).0.1
 
 digit_byte : (byte : ℕ) → is_ascii_digit byte ≡ true → IsWordByte byte
 digit_byte byte digit = record { blank = grind (arith, nat_tests); end = grind (arith, nat_tests); text = grind (arith, nat_tests) }
 
-digit_bytes : (word : List ℕ) → AreDigits word → Each IsWordByte word
+digit_bytes : (word : List ℕ) → AllAreDigits word → Each IsWordByte word
 digit_bytes [] digits = tt
 digit_bytes (byte ∷ word) digits =
     let parts = and_parts (is_ascii_digit byte) (list_all is_ascii_digit word) digits in
     (digit_byte byte parts.0, digit_bytes word parts.1)
 
-no_equals : (word : List ℕ) → AreDigits word → list_any (λ byte. byte == 61) word ≡ false
+no_equals : (word : List ℕ) → AllAreDigits word → list_any (λ byte. byte == 61) word ≡ false
 no_equals [] digits = refl
 no_equals (byte ∷ word) digits =
     let parts = and_parts (is_ascii_digit byte) (list_all is_ascii_digit word) digits in
@@ -159,7 +150,7 @@ some_of_length : (word : List ℕ) → 0 < length word → is_some_text word ≡
 some_of_length [] lt = absurd (omega (arith, lt))
 some_of_length (byte ∷ word) lt = refl
 
-number_is : (word : List ℕ) (n : ℕ) → AreDigits word → 0 < length word → length word ≤ 20 → digits_value 10 word ≡ n → n < 2 ^ 64 → number_of word ≡ Some n
+number_is : (word : List ℕ) (n : ℕ) → AllAreDigits word → 0 < length word → length word ≤ 20 → digits_value 10 word ≡ n → n < 2 ^ 64 → number_of word ≡ Some n
 unfolding number_of
 number_is word n digits some few value small = grind (arith, nat_tests)
 

@@ -26,7 +26,7 @@ use Rattle.block_core.proofs.moves.SubmissionWeights.{IsBlind}
 use Rattle.block_core.proofs.moves.Landings.{AreThere, IsLanding, copies_there}
 use Rattle.block_core.proofs.sound.SumParts.{unless}
 use Rattle.block_core.proofs.unrefused.NodeNeeds.{Needs}
-use Rattle.block_core.proofs.images.FragmentCounts.{Divided, worth, legs_none}
+use Rattle.block_core.proofs.images.FragmentCounts.{Divided, fragments_worth, legs_none}
 use Rattle.block_core.proofs.images.MasterRecords.{bare_slip}
 use Rattle.block_core.proofs.sound.OwnParts.{brought}
 use Rattle.block_core.proofs.bound.RoleHoldings.{odd_holding}
@@ -37,7 +37,7 @@ one_each f = 1
 
 -- four events a node that a bio still needs, and three a fragment that it comes to
 abbrev pub run_due : Setup → Bio → ℕ
-run_due setup bio = 4 * need_at setup bio + 3 * worth setup one_each bio
+run_due setup bio = 4 * need_at setup bio + 3 * fragments_worth setup one_each bio
 
 abbrev pub bio_due : Setup → Spot → Item Pad → ℕ
 bio_due setup (Lined limit) item = run_due setup item.bio

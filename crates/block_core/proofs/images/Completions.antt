@@ -101,12 +101,14 @@ module _ (setup : Setup) where
   -- what a task's reply brings
   pub reply_brings : (x : TaskState) (reply : Reply) (what : What) → what_of (request setup x) reply ≡ Some what
       → completed_by reply ≡ brought x (answered setup x reply)
+  -- completers: one that had nothing comes to bring a bio, and no other does
   reply_brings (Completer disk Empty) (requests.Completed index bio status) what told = refl
   reply_brings (Completer disk Empty) _ what told = refl
   reply_brings (Completer disk (Brings bio status)) reply what told = other_brings (Completer disk (Brings bio status)) reply what tt (λ y. refl) told
   reply_brings (Completer disk (Carries writer closed)) reply what told =
       other_brings (Completer disk (Carries writer closed)) reply what (closed_other writer closed closed.held.vector closed.held.bio closed.held.slip closed.parent) (λ y. refl) told
   reply_brings (Completer disk (Fails breach kept)) reply what told = other_brings (Completer disk (Fails breach kept)) reply what tt (λ y. refl) told
+  -- the other tasks: none brings a bio
   reply_brings (Writer number todos taken submission) reply what told =
       other_brings (Writer number todos taken submission) reply what (writer_other setup number todos taken submission.doing submission) (λ y. refl) told
   reply_brings (Rescuer dev submission) reply what told = other_brings (Rescuer dev submission) reply what (rescuer_other setup dev submission.doing submission.lists) (λ y. refl) told

@@ -31,7 +31,7 @@ use Rattle.block_core.specs.Dones.{done_in}
 use Rattle.block_core.specs.Fragments.{offset_of, fragment_of, leg_fragments, todo_fragments, bio_comes, legs_come, to_come, completed_by, completed, is_it}
 use Rattle.block_core.proofs.sound.Strays.{strays}
 use Rattle.block_core.specs.DoneWrites.{DoneIsCompleted}
-use Rattle.block_core.proofs.moves.Sums.{one-same}
+use Rattle.block_core.proofs.moves.Sums.{one-same, yes}
 use Rattle.block_core.proofs.sound.Invariant.{LedgersAreNumbered, Invariant}
 use Rattle.block_core.proofs.moves.SumsCompared.{under_in_all}
 use Rattle.block_core.proofs.stuck.Idle.{GoesDown, open_at, node_part}
@@ -49,7 +49,7 @@ use Rattle.block_core.proofs.moves.StepMoves.{step_is_move}
 use Rattle.block_core.proofs.moves.Misfits.{Follows, misfits, no_misfits}
 use Rattle.block_core.proofs.images.StillToCome.{over}
 use Rattle.block_core.proofs.images.Completed.{over_follows, fragments_add_up, runs_come, start_counted}
-use Rattle.block_core.proofs.images.PlannedOnce.{is_planned, no_other_is_completed, not_same, if_so}
+use Rattle.block_core.proofs.images.PlannedOnce.{is_planned, no_other_is_completed, not_same}
 
 flat_none : {X Y : Type 0} (value : Y → ℕ) (f : X → List Y) (xs : List X) → ((x : X) → sum_by value (f x) ≡ 0) → sum_by value (flat_map f xs) ≡ 0
 flat_none value f [] none = refl
@@ -211,7 +211,7 @@ done_is_completed s ledger events state good naming run event new happens w stat
         fragments_add_up s ledger events state good naming run (is_it f),
         is_planned s good ledger f is,
         none_left s ledger events state good naming run event new happens w status tells (is_it f)
-            (λ g ne. ap if_so (not_same f g (λ e. ne (ap (λ (x : Fragment). x.write) (sym e) ∙ of)))),
+            (λ g ne. ap yes (not_same f g (λ e. ne (ap (λ (x : Fragment). x.write) (sym e) ∙ of)))),
       );
   only = λ f of lt. no_other_is_completed s ledger events state good naming run f lt;
 }

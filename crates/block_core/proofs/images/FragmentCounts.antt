@@ -30,8 +30,8 @@ use Rattle.block_core.proofs.moves.Geometry.{IsThere, IsWhole, falls, goes, memb
 use Rattle.block_core.proofs.moves.LegTrees.{GoesDown, legs_go_down}
 use Rattle.block_core.proofs.sound.Orders.{AskFits}
 
-abbrev pub worth : Setup → (Fragment → ℕ) → Bio → ℕ
-worth setup value bio = sum_by value (bio_fragments setup bio)
+abbrev pub fragments_worth : Setup → (Fragment → ℕ) → Bio → ℕ
+fragments_worth setup value bio = sum_by value (bio_fragments setup bio)
 
 abbrev pub leg_worth : Setup → (Fragment → ℕ) → Bio → ℕ → ℕ
 leg_worth setup value bio leg = sum_by value (leg_fragments (tree_at setup bio.dev) bio leg)
@@ -42,14 +42,14 @@ IsCounted bio = offset_of bio + bio.range.len ≤ 2 ^ 35
 
 -- what is known of fragments at the devices of a stack
 pub record Divided (setup : Setup) (value : Fragment → ℕ) : Type 0 where
-  pub lands : (bio : Bio) → IsThere setup bio → worth setup value (landed (tree_at setup bio.dev) bio) ≡ worth setup value bio
+  pub lands : (bio : Bio) → IsThere setup bio → fragments_worth setup value (landed (tree_at setup bio.dev) bio) ≡ fragments_worth setup value bio
   pub cut : (bio hand : Item Pad) (key number : ℕ) (kind : Kind) (sizes : List ℕ) (members : ℕ → Tree) → IsThere setup bio.bio → IsCounted bio.bio
       → tree_at setup bio.bio.dev ≡ Split number kind sizes members → IsTrue (is_cut (Split number kind sizes members) bio.bio.range)
-      → worth setup value bio.bio ≡ worth setup value (piece bio hand (first_length kind sizes bio.bio.range) key kind sizes members).bio
-      + worth setup value (split_rest bio (first_length kind sizes bio.bio.range)).bio
+      → fragments_worth setup value bio.bio ≡ fragments_worth setup value (piece bio hand (first_length kind sizes bio.bio.range) key kind sizes members).bio
+      + fragments_worth setup value (split_rest bio (first_length kind sizes bio.bio.range)).bio
   pub leg : (bio : Bio) (hand : Item Pad) (leg key : ℕ) → IsThere setup bio → leg < legs_of (tree_at setup bio.dev)
-      → worth setup value (leg_at bio hand leg key (tree_at setup bio.dev)).bio ≡ leg_worth setup value bio leg
-  pub disk : (bio : Bio) → IsThere setup bio → AskFits (tree_at setup bio.dev) bio.range bio.dev.0 ToPush → worth setup value bio ≡ value (fragment_of bio)
+      → fragments_worth setup value (leg_at bio hand leg key (tree_at setup bio.dev)).bio ≡ leg_worth setup value bio leg
+  pub disk : (bio : Bio) → IsThere setup bio → AskFits (tree_at setup bio.dev) bio.range bio.dev.0 ToPush → fragments_worth setup value bio ≡ value (fragment_of bio)
 
 -- a place that does not wrap
 pub place_on : (p n : ℕ) → p + n < 2 ^ 35 → place_number (place_at ((p + n) % 2 ^ 35)) ≡ p + n
@@ -99,11 +99,11 @@ module _ (stack : Stack) (good : IsStack stack) (places : ℕ → ℕ) (value : 
   listed : Bio → ℕ
   listed bio = sum_by value (frags (tree stack bio.dev.0) bio.write (offset_of bio) bio.range.start bio.range.len)
 
-  worth_is : (bio : Bio) → worth setup value bio ≡ listed bio
+  worth_is : (bio : Bio) → fragments_worth setup value bio ≡ listed bio
   unfolding listed
   worth_is bio = ap (sum_by value) (leaves_plan (tree stack bio.dev.0) bio.write (offset_of bio) bio.range.start bio.range.len)
 
-  whole_run : IsWhole stack good places (worth setup value)
+  whole_run : IsWhole stack good places (fragments_worth setup value)
   unfolding listed
   whole_run bio device found cuts_it to whole =
       let range = bio.range in
@@ -126,18 +126,18 @@ module _ (stack : Stack) (good : IsStack stack) (places : ℕ → ℕ) (value : 
       omega (arith, worth_is next, worth_is bio, a, b, c, d)
 
   leg_of : (bio : Bio) (hand : Item Pad) (leg key : ℕ) → IsThere setup bio → leg < legs_of (tree stack bio.dev.0)
-      → worth setup value (leg_at bio hand leg key (tree stack bio.dev.0)).bio ≡ sum_by value (leg_fragments (tree stack bio.dev.0) bio leg)
+      → fragments_worth setup value (leg_at bio hand leg key (tree stack bio.dev.0)).bio ≡ sum_by value (leg_fragments (tree stack bio.dev.0) bio leg)
   leg_of bio hand leg key is lt = by_tree (tree stack bio.dev.0) (legs_go_down stack good bio.dev.0 leg is.device) lt
     where
-      by_tree : (t : Tree) → GoesDown stack t leg → leg < legs_of t → worth setup value (leg_at bio hand leg key t).bio ≡ sum_by value (leg_fragments t bio leg)
+      by_tree : (t : Tree) → GoesDown stack t leg → leg < legs_of t → fragments_worth setup value (leg_at bio hand leg key t).bio ≡ sum_by value (leg_fragments t bio leg)
       by_tree (Mirrored number sizes members) goes lt = ap (λ t. sum_by value (leaves (plan t bio.write (offset_of bio) bio.range.start bio.range.len))) (goes lt)
       by_tree (Leaf number sectors) goes lt = absurd (omega arith)
       by_tree (Split number kind sizes members) goes lt = absurd (omega arith)
 
   CutOf : Item Pad → Item Pad → ℕ → Tree → Type 0
   CutOf bio hand key (Split number kind sizes members) = IsTrue (is_cut (Split number kind sizes members) bio.bio.range)
-      → worth setup value bio.bio ≡ worth setup value (piece bio hand (first_length kind sizes bio.bio.range) key kind sizes members).bio
-      + worth setup value (split_rest bio (first_length kind sizes bio.bio.range)).bio
+      → fragments_worth setup value bio.bio ≡ fragments_worth setup value (piece bio hand (first_length kind sizes bio.bio.range) key kind sizes members).bio
+      + fragments_worth setup value (split_rest bio (first_length kind sizes bio.bio.range)).bio
   CutOf bio hand key (Leaf number sectors) = Unit {0}
   CutOf bio hand key (Mirrored number sizes members) = Unit {0}
 
@@ -147,9 +147,9 @@ module _ (stack : Stack) (good : IsStack stack) (places : ℕ → ℕ) (value : 
     where
       here : (device : Device) → slice_get stack.devices.items bio.bio.dev.0 ≡ Some device → shape_of device.kind ≡ Cuts
           → IsTrue (is_cut (Split bio.bio.dev.0 device.kind (sizes_at stack device) (members_at stack bio.bio.dev.0 device)) bio.bio.range)
-          → worth setup value bio.bio
-          ≡ worth setup value (piece bio hand (first_length device.kind (sizes_at stack device) bio.bio.range) key device.kind (sizes_at stack device) (members_at stack bio.bio.dev.0 device)).bio
-          + worth setup value (split_rest bio (first_length device.kind (sizes_at stack device) bio.bio.range)).bio
+          → fragments_worth setup value bio.bio
+          ≡ fragments_worth setup value (piece bio hand (first_length device.kind (sizes_at stack device) bio.bio.range) key device.kind (sizes_at stack device) (members_at stack bio.bio.dev.0 device)).bio
+          + fragments_worth setup value (split_rest bio (first_length device.kind (sizes_at stack device) bio.bio.range)).bio
       here device found e many =
           let range = bio.bio.range in
           let sizes = sizes_at stack device in
@@ -186,7 +186,7 @@ module _ (stack : Stack) (good : IsStack stack) (places : ℕ → ℕ) (value : 
   pub divided : Divided setup value
   unfolding CutOf DiskOf
   divided = record {
-    lands = λ bio is. (falls stack good places (worth setup value) whole_run (bio.dev.0 + 1) bio (omega arith) is).same;
+    lands = λ bio is. (falls stack good places (fragments_worth setup value) whole_run (bio.dev.0 + 1) bio (omega arith) is).same;
     cut = λ bio hand key number kind sizes members is counted at many.
         let a : CutOf bio hand key (Split number kind sizes members) = subst (CutOf bio hand key) at (cut_of bio hand key is counted) in a many;
     leg = λ bio hand leg key is lt. leg_of bio hand leg key is lt;

@@ -31,6 +31,7 @@ use Rattle.block_core.specs.Fragments.{completed, fragment_count, IsOfScenario, 
 use Rattle.block_core.specs.Images.{tag_of, writes_at, sector_after, held_after, round_at, OneARound, ComeInRounds}
 use Rattle.block_core.proofs.moves.Sums.{same_or_not}
 use Rattle.block_core.proofs.start.InvariantAtStart.{todos_all, all_map}
+use Rattle.block_core.proofs.start.TallyAtStart.{todo_numbered}
 use Rattle.block_core.proofs.images.PlannedOnce.{some_times, times_some, no_other_is_completed, each_is_completed_once}
 use Rattle.block_core.proofs.images.BioData.{own_writes}
 use Rattle.block_core.proofs.images.ImageData.{images_are_of_completed}
@@ -94,11 +95,8 @@ module _ (s : Scenario) (disk at : ℕ) where
   ]
 
 -- each write is among those that are to begin
-abbrev todo_at : ℕ × (ℕ × Write) → Todo
-todo_at x = record { number = x.0; round = x.1.0; write = x.1.1 }
-
 in_todos : (a n : ℕ) (rs : List ℕ) (ws : List Write) (i : ℕ) (write : Write) → slice_get ws i ≡ Some write → i < n → length rs ≡ length ws
-    → (round : ℕ) × Contains (map todo_at (zip (range_with_len a n) (zip rs ws))) (record { number = a + i; round = round; write = write })
+    → (round : ℕ) × Contains (map todo_numbered (zip (range_with_len a n) (zip rs ws))) (record { number = a + i; round = round; write = write })
 in_todos a zero rs ws i write is lt same = absurd (omega (arith, lt))
 in_todos a (suc n) rs [] i write is lt same = absurd (let within = slice_get_within [] i write is in omega (arith, within))
 in_todos a (suc n) [] (w ∷ ws) i write is lt same = absurd (omega (arith, same))
@@ -106,15 +104,15 @@ in_todos a (suc n) (r ∷ rs) (w ∷ ws) zero write is lt same =
     let here : w ≡ write = search is in
     let first : a + 0 ≡ a = omega arith in (
       r,
-      subst (λ k. Contains (map todo_at (zip (range_with_len a (suc n)) (zip (r ∷ rs) (w ∷ ws)))) (record { number = k; round = r; write = write })) (sym first)
+      subst (λ k. Contains (map todo_numbered (zip (range_with_len a (suc n)) (zip (r ∷ rs) (w ∷ ws)))) (record { number = k; round = r; write = write })) (sym first)
           (0, omega arith, ap (λ v. record { number = a; round = r; write = v }) here),
     )
 in_todos a (suc n) (r ∷ rs) (w ∷ ws) (suc i) write is lt same =
     let rest = in_todos (a + 1) n rs ws i write is (omega (arith, lt)) (omega (arith, same)) in
     let on : a + 1 + i ≡ a + suc i = omega arith in
-    let there : Contains (map todo_at (zip (range_with_len (a + 1) n) (zip rs ws))) (record { number = a + suc i; round = rest.0; write = write }) =
-    subst (λ k. Contains (map todo_at (zip (range_with_len (a + 1) n) (zip rs ws))) (record { number = k; round = rest.0; write = write })) on rest.1 in
-    (rest.0, Contains-append_right (todo_at (a, (r, w)) ∷ []) (map todo_at (zip (range_with_len (a + 1) n) (zip rs ws))) (record { number = a + suc i; round = rest.0; write = write }) there)
+    let there : Contains (map todo_numbered (zip (range_with_len (a + 1) n) (zip rs ws))) (record { number = a + suc i; round = rest.0; write = write }) =
+    subst (λ k. Contains (map todo_numbered (zip (range_with_len (a + 1) n) (zip rs ws))) (record { number = k; round = rest.0; write = write })) on rest.1 in
+    (rest.0, Contains-append_right (todo_numbered (a, (r, w)) ∷ []) (map todo_numbered (zip (range_with_len (a + 1) n) (zip rs ws))) (record { number = a + suc i; round = rest.0; write = write }) there)
 
 -- each of them is served
 pub served : (s : Scenario) → IsScenario s → (todo : Todo) → Contains (todos s) todo → IsWrite s.stack todo.write

@@ -20,7 +20,7 @@ use Rattle.block_core.specs.Weights.{Weight, Pending, Rescued, one_if_same, tota
 use Rattle.block_core.specs.Scenarios.{IsScenario}
 use Rattle.block_core.specs.Fragments.{todo_fragments, to_come, planned, equal_fragments, is_it, fragment_count, IsOfScenario, SubmitsNothing, NothingComes, NoneIsCompletedTwice, NoOtherIsCompleted, EachIsCompletedOnce}
 use Rattle.block_core.proofs.stuck.Idle.{sum_none}
-use Rattle.block_core.proofs.moves.Sums.{one-same, same_or_not}
+use Rattle.block_core.proofs.moves.Sums.{one-same, same_or_not, yes}
 use Rattle.block_core.proofs.start.InvariantAtStart.{sum_at-zero, todos_all, all_map}
 use Rattle.block_core.proofs.start.StagesAtStart.{once, begins_sum}
 use Rattle.block_core.proofs.images.StillToCome.{carried_none}
@@ -34,9 +34,6 @@ same_fragment f g is = grind (arith, is)
 same_itself : (f : Fragment) → equal_fragments f f ≡ true
 same_itself f = rw (eq-eqb f.write f.write refl, eq-eqb f.offset f.offset refl, eq-eqb f.len f.len refl, eq-eqb f.disk.0 f.disk.0 refl, eq-eqb f.at f.at refl) refl
 
-abbrev pub if_so : Bool → ℕ
-if_so b = if b then 1 else 0
-
 -- where none of a list is the fragment
 none_times : (f : Fragment) (gs : List Fragment) → All (λ g. equal_fragments f g ≡ false) gs → fragment_count f gs ≡ 0
 none_times f [] none = refl
@@ -44,7 +41,7 @@ none_times f (g ∷ gs) none =
     omega (
       arith,
       sum_by-cons (is_it f) g gs,
-      ap if_so (All-head (λ g. equal_fragments f g ≡ false) g gs none),
+      ap yes (All-head (λ g. equal_fragments f g ≡ false) g gs none),
       none_times f gs (All-tail (λ g. equal_fragments f g ≡ false) g gs none),
     )
 
@@ -72,10 +69,10 @@ at_most_once f (g ∷ gs) pairs = by_test (equal_fragments f g) refl (at_most_on
 
     by_test : (v : Bool) → equal_fragments f g ≡ v → fragment_count f gs ≤ 1 → fragment_count f (g ∷ gs) ≤ 1
     by_test true is rest =
-        let here : is_it f g ≡ 1 = ap if_so is in
+        let here : is_it f g ≡ 1 = ap yes is in
         omega (arith, sum_by-cons (is_it f) g gs, here, none_times f gs (others (same_fragment f g is)))
     by_test false is rest =
-        let here : is_it f g ≡ 0 = ap if_so is in
+        let here : is_it f g ≡ 0 = ap yes is in
         omega (arith, sum_by-cons (is_it f) g gs, here, rest)
 
 -- and only among those of its own write
@@ -95,14 +92,14 @@ some_times f (g ∷ gs) lt = by_test (equal_fragments f g) refl (some_times f gs
     by_test : (v : Bool) → equal_fragments f g ≡ v → (0 < fragment_count f gs → Contains gs f) → Contains (g ∷ gs) f
     by_test true is rest = (0, omega arith, sym (same_fragment f g is))
     by_test false is rest =
-        let here : is_it f g ≡ 0 = ap if_so is in
+        let here : is_it f g ≡ 0 = ap yes is in
         Contains-append_right (g ∷ []) gs f (rest (omega (arith, lt, sum_by-cons (is_it f) g gs, here)))
 
 pub term_in : {X : Type 0} (h : X → ℕ) (xs : List X) (x : X) → Contains xs x → h x ≤ sum_by h xs
 term_in h xs x (k, within, is) = subst (λ y. h y ≤ sum_by h xs) is (get_or-le-sum_by h xs k x within)
 
 pub times_some : (f : Fragment) (gs : List Fragment) → Contains gs f → 1 ≤ fragment_count f gs
-times_some f gs c = let here : is_it f f ≡ 1 = ap if_so (same_itself f) in omega (arith, here, term_in (is_it f) gs f c)
+times_some f gs c = let here : is_it f f ≡ 1 = ap yes (same_itself f) in omega (arith, here, term_in (is_it f) gs f c)
 
 some_sum : {X : Type 0} (h : X → ℕ) (xs : List X) → 0 < sum_by h xs → (x : X) × Contains xs x × (0 < h x)
 some_sum h [] lt = absurd (omega (arith, lt))

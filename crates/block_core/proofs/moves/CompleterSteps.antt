@@ -86,6 +86,7 @@ module _ (scene : Scene) (s : State) (f : LedgersAreNumbered scene) (i : Invaria
   pub carries : (disk : DevId) (writer : ℕ) (vector : Option VectorItem) (bio : Option (Item Pad)) (slip : Option SlipItem) (parent : Option ℕ) (write : ℕ) (status : Status)
       → s.task place ≡ Completer disk (Carries writer (record { held = record { bio = bio; vector = vector; slip = slip }; parent = parent; write = write; status = status }))
       → (reply : Reply) → Moved scene s place what new (Completer disk (Carries writer (record { held = record { bio = bio; vector = vector; slip = slip }; parent = parent; write = write; status = status }))) reply
+  -- gives: what the node held goes back, a vector, a bio and a record
   carries disk writer (Some v) bio slip parent write status is requests.Did told_it serves goes =
       record {
         move = moves.Gives place disk writer v.share.no (record { held = record { bio = bio; vector = Some v; slip = slip }; parent = parent; write = write; status = status }) (record { bio = bio; vector = None; slip = slip });
@@ -113,9 +114,11 @@ module _ (scene : Scene) (s : State) (f : LedgersAreNumbered scene) (i : Invaria
         touches = sym (ap touch_in told_it);
         pays = λ was_master. sym (ap (paid_in (its_end s place was_master)) told_it);
       }
+  -- tells: the parent of the node is told of its end
   carries disk writer None None None (Some parent) write status is (requests.DroppedTo ended) told_it serves goes =
       tells disk (Carries writer (record { held = record { bio = None; vector = None; slip = None }; parent = Some parent; write = write; status = status })) writer parent status None ended is
       (refl, refl, refl, refl, refl) told_it serves goes
+  -- ends: the write of a node without a parent is done
   carries disk writer None None None None write status is requests.Did told_it serves goes =
       record {
         move = moves.Ends place disk writer (record { held = record { bio = None; vector = None; slip = None }; parent = None; write = write; status = status });
@@ -125,6 +128,7 @@ module _ (scene : Scene) (s : State) (f : LedgersAreNumbered scene) (i : Invaria
         touches = sym (ap touch_in told_it);
         pays = λ was_master. sym (ap (paid_in (its_end s place was_master)) told_it);
       }
+  -- nothing else is answered
   carries disk writer (Some v) bio slip parent write status is _ told_it serves goes = absurd serves
   carries disk writer None (Some b) slip parent write status is _ told_it serves goes = absurd serves
   carries disk writer None None (Some r) parent write status is _ told_it serves goes = absurd serves

@@ -1,5 +1,5 @@
 -- Sums over maps and books when one place changes.
-use Rattle.std.proofs.Common.{◌≡◌, ◌≢◌, ◌+◌, ◌-◌, ◌*◌, ◌<◌, ◌≤◌, ℕ, zero, suc, length, Option, None, Some, inl, inr, refl, sym, ◌∙◌, ap, subst, arith}
+use Rattle.std.proofs.Common.{◌≡◌, ◌≢◌, ◌+◌, ◌-◌, ◌*◌, ◌<◌, ◌≤◌, if◌then◌else◌, ℕ, Bool, zero, suc, length, Option, None, Some, inl, inr, refl, sym, ◌∙◌, ap, subst, arith}
 use Rattle.std.proofs.lemmas.Bool.{eq-eqb, ne_eqb}
 pub use Rattle.std.proofs.lemmas.Bool.{cases_eq as same_or_not, cases_lt as below_or}
 use Rattle.std.proofs.lemmas.List.{length-set, get_or-set_same, get_or-set_other, get_or_past}
@@ -7,6 +7,10 @@ use Rattle.bio_books.specs.Books.{Node, BookState, node_at, with_node}
 use Rattle.run_machine.specs.Maps.{upd}
 pub use Rattle.run_machine.proofs.Frames.{upd_same as upd-same, upd_other as upd-other}
 use Rattle.block_core.specs.Weights.{Weight, sum_at, one_if_same, weigh_option, book_weight}
+
+-- 1 where so, and 0 else
+abbrev pub yes : Bool → ℕ
+yes b = if b then 1 else 0
 
 -- how far two numbers are apart
 abbrev pub apart : ℕ → ℕ → ℕ

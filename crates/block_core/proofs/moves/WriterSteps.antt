@@ -62,6 +62,7 @@ module _ (scene : Scene) (s : State) (f : LedgersAreNumbered scene) (i : Invaria
       → what_of (with_bio number b todo) reply ≡ Some what
       → Serves scene.ledger s.objects (with_bio number b todo) reply new.objects
       → Goes s place new (answered scene.setup (Writer number (todo ∷ later) (HasBio item) rests) reply) → IsMove scene s place what new
+  -- takes and misses of a vector
   goes_with true number todo later item needs is lt (requests.HadVec got.Ordinary vector) told serves goes =
       record {
         move = moves.TakesVector place number todo later item takes_ordinary;
@@ -84,6 +85,7 @@ module _ (scene : Scene) (s : State) (f : LedgersAreNumbered scene) (i : Invaria
   goes_with true number todo later item needs is lt (requests.Missed used) told serves goes =
       record { move = moves.MissesOne place (Writer number (todo ∷ later) (HasBio item) rests) 64 used; can = (here, is, serves.0, subst (λ b. IsTaking (with_bio number b todo)) (sym needs) tt, used_told used FsVecs what told, inr (omega arith)); is = state_is new _ _ serves.1 goes; at = refl; touches = sym (ap touch_in told) ∙ miss_passes true used FsVecs; pays = λ was_master. miss_pays (its_end s place was_master) used FsVecs what told }
   goes_with true number todo later item needs is lt _ told serves goes = absurd serves
+  -- links: a write without a vector begins
   goes_with false number todo later item needs is lt (requests.LinkedTo (Made key)) told serves goes =
       let objects = serves.1 ∙ ap (λ b. record s.objects { book = upd s.objects.book number b }) serves.0.1 in
       record { move = moves.Begins place number todo later item None key; can = (here, is, lt, serves.0.0, needs); is = state_is new _ _ objects goes; at = refl; touches = sym (ap touch_in told); pays = λ was_master. sym (ap (paid_in (its_end s place was_master)) told) }

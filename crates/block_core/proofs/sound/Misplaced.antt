@@ -17,10 +17,10 @@ use Rattle.run_machine.specs.Tasks.{Todo}
 use Rattle.run_machine.specs.Runs.{State}
 use Rattle.block_core.specs.Weights.{Weight, total_weight, task_weight, carried_weight, under, no_weight}
 use Rattle.block_core.specs.Touches.{is_master}
-use Rattle.block_core.proofs.status.Marks.{yes, mismatch}
+use Rattle.block_core.proofs.status.Marks.{mismatch}
 use Rattle.block_core.proofs.moves.Moves.{Move, Can, after, lost, gained, limit_of, filled_of, cut_lists}
 use Rattle.block_core.proofs.moves.Moves as moves
-use Rattle.block_core.proofs.moves.Sums.{upd-same, upd-other}
+use Rattle.block_core.proofs.moves.Sums.{upd-same, upd-other, yes}
 use Rattle.block_core.proofs.sound.Invariant.{TaskIsSound, Invariant}
 use Rattle.block_core.proofs.sound.TaskSubmissions.{submission_fits}
 use Rattle.block_core.proofs.moves.Deltas.{other_place, delta}

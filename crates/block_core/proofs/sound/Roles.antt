@@ -15,8 +15,8 @@ use Rattle.block_core.proofs.moves.References.{references, awaited_ends}
 use Rattle.block_core.specs.EachBio.{EachBio, EachCopied}
 use Rattle.block_core.specs.Touches.{is_master}
 use Rattle.block_core.specs.Roles.{is_leg, named, masters, children, legs_to_make, WaitsForParts, IsUnderOpen, HasRoles}
-use Rattle.block_core.proofs.status.Marks.{yes, mismatch, kind_is}
-use Rattle.block_core.proofs.moves.Sums.{same_or_not, one-same, one-other}
+use Rattle.block_core.proofs.status.Marks.{mismatch, kind_is}
+use Rattle.block_core.proofs.moves.Sums.{same_or_not, one-same, one-other, yes}
 use Rattle.block_core.proofs.sound.Invariant.{own_part, own_of, Invariant}
 use Rattle.block_core.proofs.moves.BookMaps.{made}
 use Rattle.block_core.proofs.sound.Splitting.{total_sum}

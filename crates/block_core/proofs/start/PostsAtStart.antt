@@ -34,7 +34,7 @@ use Rattle.block_core.proofs.stuck.NothingWaits.{IsPool}
 use Rattle.block_core.proofs.moves.Geometry.{at_device}
 use Rattle.block_core.proofs.sound.Posts.{ByRounds, Mins, starts, Manned, Posted}
 use Rattle.block_core.proofs.start.StartTotals.{writer_tasks, rescuer_tasks, completer_tasks}
-use Rattle.block_core.proofs.start.TallyAtStart.{numbered, each_passed, each_image, keeper_place}
+use Rattle.block_core.proofs.start.TallyAtStart.{todo_numbered, each_passed, each_image, keeper_place}
 use Rattle.block_core.proofs.stuck.Stuck.{Crew}
 
 -- tasks, one after the other, from this place on
@@ -85,13 +85,13 @@ in_range f p a (suc n) d le lt is = by_here (same_or_not a d) (λ more. in_range
     by_here (inr ne) again = by_test (p a) refl (again (omega (arith, le, ne)))
 
 -- writes go by their rounds
-later_all : (r a n : ℕ) (rs : List ℕ) (ws : List Write) → All (λ later. r ≤ later) rs → Each (λ (t : Todo). r ≤ t.round) (map numbered (zip (range_with_len a n) (zip rs ws)))
+later_all : (r a n : ℕ) (rs : List ℕ) (ws : List Write) → All (λ later. r ≤ later) rs → Each (λ (t : Todo). r ≤ t.round) (map todo_numbered (zip (range_with_len a n) (zip rs ws)))
 later_all r a zero rs ws all = tt
 later_all r a (suc n) [] ws all = tt
 later_all r a (suc n) (x ∷ rs) [] all = tt
 later_all r a (suc n) (x ∷ rs) (w ∷ ws) all = (All-head (λ later. r ≤ later) x rs all, later_all r (a + 1) n rs ws (All-tail (λ later. r ≤ later) x rs all))
 
-in_order : (a n : ℕ) (rs : List ℕ) (ws : List Write) → AreSorted rs → ByRounds (map numbered (zip (range_with_len a n) (zip rs ws)))
+in_order : (a n : ℕ) (rs : List ℕ) (ws : List Write) → AreSorted rs → ByRounds (map todo_numbered (zip (range_with_len a n) (zip rs ws)))
 in_order a zero rs ws all = tt
 in_order a (suc n) [] ws all = tt
 in_order a (suc n) (x ∷ rs) [] all = tt

@@ -71,10 +71,10 @@ sum_from rounds a (suc n) =
     )
 
 -- each write by its number and round
-abbrev pub numbered : ℕ × (ℕ × Write) → Todo
-numbered x = record { number = x.0; round = x.1.0; write = x.1.1 }
+abbrev pub todo_numbered : ℕ × (ℕ × Write) → Todo
+todo_numbered x = record { number = x.0; round = x.1.0; write = x.1.1 }
 
-todos_fit : (rounds : List ℕ) (a n : ℕ) (rs : List ℕ) (ws : List Write) → ((i : ℕ) → round_of rounds (a + i) ≡ get_or rs i 0) → TodosFit rounds (map numbered (zip (range_with_len a n) (zip rs ws)))
+todos_fit : (rounds : List ℕ) (a n : ℕ) (rs : List ℕ) (ws : List Write) → ((i : ℕ) → round_of rounds (a + i) ≡ get_or rs i 0) → TodosFit rounds (map todo_numbered (zip (range_with_len a n) (zip rs ws)))
 todos_fit rounds a zero rs ws h = tt
 todos_fit rounds a (suc n) [] ws h = tt
 todos_fit rounds a (suc n) (r ∷ rs) [] h = tt
@@ -94,7 +94,7 @@ counted x rs r = by_test (x == r)
 
 -- as many writes are to be begun of a round as are of it
 todos_worth : (rounds : List ℕ) (r a n : ℕ) (rs : List ℕ) (ws : List Write) → n ≡ length rs → length rs ≡ length ws → ((i : ℕ) → round_of rounds (a + i) ≡ get_or rs i 0)
-    → all_worth (is_of_round rounds r) (map numbered (zip (range_with_len a n) (zip rs ws))) ≡ in_round rs r
+    → all_worth (is_of_round rounds r) (map todo_numbered (zip (range_with_len a n) (zip rs ws))) ≡ in_round rs r
 todos_worth rounds r a zero [] ws few same h = refl
 todos_worth rounds r a zero (x ∷ rs) ws few same h = absurd (omega (arith, few))
 todos_worth rounds r a (suc n) [] ws few same h = refl

@@ -31,13 +31,13 @@ use Rattle.block_core.specs.Touches.{is_master}
 use Rattle.block_core.specs.AtWork.{IsBrought, IsInDisk}
 use Rattle.block_core.specs.Values.{BioMayEnd, LegMayEnd, TodoMayEnd, IsAllowed, Decides, BioComes, LegComes, NodeComes, ClosedComes, Comes, NodeIsValued, EndsAsItsFragment, IsValued}
 use Rattle.block_core.specs.Weights.{Weight, one_if_same, names_node, under, legs_left, doing_weight, total_weight}
-use Rattle.block_core.proofs.moves.Sums.{apart}
+use Rattle.block_core.proofs.moves.Sums.{apart, yes}
 use Rattle.block_core.proofs.moves.Totals.{task_part}
 use Rattle.block_core.proofs.sound.Invariant.{Invariant}
 use Rattle.block_core.proofs.stuck.Idle.{node_part}
 use Rattle.block_core.proofs.stuck.NothingWaits.{both, one-eq}
 use Rattle.block_core.proofs.status.PartsWeigh.{in_range, some_in_range, in_disk, is_brought, submission_within, at_work, Weighs, IsOfWork, some_weighs}
-use Rattle.block_core.proofs.status.Marks.{yes, is, may, bio_may, leg_may, todo_may, write_may, Mark, allowed_by, allowed, decides, lack, mismatch, kind_is, above, unallowed, deciding, IsMarked}
+use Rattle.block_core.proofs.status.Marks.{is, may, bio_may, leg_may, todo_may, write_may, Mark, allowed_by, allowed, decides, lack, mismatch, kind_is, above, unallowed, deciding, IsMarked}
 use Rattle.block_core.proofs.status.NodeBios.{AreOfBios}
 use Rattle.block_core.proofs.status.NodeValues.{is_itself}
 

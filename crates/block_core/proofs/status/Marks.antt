@@ -1,5 +1,5 @@
 -- Marks of nodes: how their runs may end, as numbers that are 1 where they may, so that sums over all places say what comes to which node.
-use Rattle.std.specs.Prelude.{◌≡◌, ◌≢◌, ◌+◌, ◌-◌, ◌*◌, ◌≤◌, if◌then◌else◌, not, ℕ, Bool, true, false, Option, None, Some, slice_get, sum_by}
+use Rattle.std.specs.Prelude.{◌≡◌, ◌≢◌, ◌+◌, ◌-◌, ◌*◌, ◌≤◌, not, ℕ, Bool, true, false, Option, None, Some, slice_get, sum_by}
 use Rattle.std.specs.List.{range_with_len}
 use Rattle.std.proofs.Common.{refl, arith}
 use Rattle.std.specs.Option.{option_map_or}
@@ -22,10 +22,7 @@ use Rattle.run_machine.specs.Runs.{State}
 use Rattle.block_core.specs.Touches.{is_master}
 use Rattle.block_core.specs.Weights.{Weight, Spot, Lined, Rescued, Pending, Brought, total_weight, one_if_same, names_node, under, legs_left}
 use Rattle.block_core.specs.Fragments.{offset_of, fragment_of}
-use Rattle.block_core.proofs.moves.Sums.{apart}
-
-abbrev pub yes : Bool → ℕ
-yes b = if b then 1 else 0
+use Rattle.block_core.proofs.moves.Sums.{apart, yes}
 
 -- 1 where a status is this one
 abbrev pub is : Status → Status → ℕ

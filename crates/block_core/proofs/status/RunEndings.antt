@@ -27,8 +27,8 @@ use Rattle.bio_books.specs.Books.{SlipItem}
 use Rattle.run_machine.specs.Scene.{Setup, tree_at, tree_number, setup_of}
 use Rattle.run_machine.specs.Submissions.{ToPush, ToMaster, first_length, landed, legs_of, leg_at, is_cut}
 use Rattle.block_core.specs.Fragments.{offset_of, fragment_of}
-use Rattle.block_core.proofs.moves.Sums.{same_or_not}
-use Rattle.block_core.proofs.status.Marks.{yes, may, bio_may, leg_may}
+use Rattle.block_core.proofs.moves.Sums.{same_or_not, yes}
+use Rattle.block_core.proofs.status.Marks.{may, bio_may, leg_may}
 use Rattle.block_core.proofs.moves.Moves.{piece}
 use Rattle.run_machine.proofs.TreeNumbers.{number_of_tree}
 use Rattle.block_core.proofs.moves.Geometry.{IsThere, IsWhole, falls, goes, members_at, of_each_shape, heads_cut}

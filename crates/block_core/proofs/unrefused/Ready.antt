@@ -69,21 +69,26 @@ not_full book (place, vacant) full =
 -- and its answer is no refusal
 module _ (ledger : ℕ → LedgerId) (old : Objects) (new : Objects) where
   no_spent : (request : Request) → Serves ledger old request requests.NoTicket new → ⊥
+  -- takes and gives
   no_spent (requests.TakeBio set waits) h = h
   no_spent requests.TakeVec h = h
   no_spent (requests.TakeSlip dev) h = h
   no_spent (requests.GiveBio bio) h = h
   no_spent (requests.GiveVec vector) h = h
   no_spent (requests.GiveSlip slip) h = h
+  -- punts, pops, pushes and completions
   no_spent (requests.Punt dev moved) h = h
   no_spent (requests.Pop dev) h = h
   no_spent (requests.Push bio) h = h
   no_spent (requests.Complete disk) h = h
+  -- links and drops
   no_spent (requests.Link writer opening) h = h
   no_spent (requests.Drop writer node status part) h = h
+  -- what is asked of the tally and of reserves
   no_spent (requests.Done write status) h = h
   no_spent (requests.Resize pool min) h = h
   no_spent (requests.NextRound round) h = h
+  -- looks, and no request
   no_spent requests.LookRound h = h
   no_spent requests.LookLeft h = h
   no_spent requests.Rest h = h

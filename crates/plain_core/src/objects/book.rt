@@ -201,8 +201,8 @@ impl Book {
         Ok(())
     }
 
-    /// Opens a master, which stands for the own part of an open node, and which keeps that part (`raid1_write_request`,
-    /// `drivers/md/raid1.c`), and makes room in the lists for what comes of it.
+    /// Opens a master, which stands for the own part of an open node, and the open node keeps that part meanwhile (`raid1_write_request`,
+    /// `drivers/md/raid1.c`). It also makes room in the lists for what comes of it.
     ///
     /// # Errors
     /// `NotEnabled` where it can't be opened, and `Memory` where only room lacks. Nothing is changed then.

@@ -91,6 +91,10 @@ impl Objects {
     }
 
     /// The node of a leg is opened. Where it is, the lists have room for what comes of it.
+    ///
+    /// # Errors
+    /// `NotEnabled` where the event tells something else or the leg can't be opened, and `Memory` where only room in the lists lacks. Nothing is
+    /// changed then.
     pub fn open_leg(
         &mut self,
         writer: u32,

@@ -118,7 +118,8 @@ pub fn open_books(alloc: Global, routes: &Routes) -> Result<Vec<Book>, AllocErro
     Ok(books)
 }
 
-/// Opens the objects of a stack, where the books of writers have the places of its routes and so many writes are of each round.
+/// Opens the objects of a stack, where the books of writers have the places of its routes, each pool has its script of these, and so many
+/// writes are left of each round, the writes of all rounds being `writes`.
 ///
 /// # Errors
 /// Where there is no memory.

@@ -63,7 +63,8 @@ pub fn pop(objects: &mut Objects, dev: DevId, what: &What) -> Result<PlainBioEle
     objects.pop(dev, what)
 }
 
-/// A disk ends a bio.
+/// A disk ends a bio, where the event tells that this one does: the call answers its place among those that wait, the bio, and how it ends.
+/// Else it answers `NotEnabled`, and nothing is changed.
 pub fn complete(
     objects: &mut Objects,
     disk: DevId,
@@ -88,7 +89,7 @@ pub fn tell(
     objects.tell(writer, place, status, part, what)
 }
 
-/// A write is done.
+/// A write is done, with this status, where the event tells so. Else the call answers `NotEnabled`, and nothing is changed.
 pub fn done(objects: &mut Objects, write: u32, status: Status, what: &What) -> Result<(), CoreFault>
     ensures { AnswersRequest objects.old (Done write status) what.now (λ done. Did) result objects.new }
 {

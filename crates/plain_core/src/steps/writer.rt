@@ -21,7 +21,7 @@ use layout_model::Write;
 use stack_base::{PoolId, SetId};
 use task_core::{Got, Routes, Todo, What, first_bio, needs_vector};
 
-// A bio is submitted.
+// A bio is submitted, and its submission begins anew: what it had before is gone.
 pub(crate) fn start(routes: &Routes, part: PlainBioElement, submission: &mut PlainSubmission)
     requires { IsWithinDevice routes.now.stack part.bio }
     ensures { submission_of_plain submission.new ≡ settled (routing_setup routes.now) (part ∷ []) }

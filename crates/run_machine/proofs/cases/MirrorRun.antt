@@ -40,10 +40,10 @@ use Rattle.run_machine.specs.Objects.{clear_bio, clear_slip, done_one}
 use Rattle.run_machine.specs.Runs.{State, IsRun, HasEnded}
 pub use Rattle.run_machine.proofs.cases.OneDisk.{a}
 pub use Rattle.run_machine.proofs.cases.OneMirror.{b, m, mirror, setup, write, todo, reserve, scripts, objects, stack, scenario, setup_is, objects_are}
-use Rattle.run_machine.proofs.Beginnings.{state_by}
+use Rattle.run_machine.proofs.Beginnings.{state_by, one_left}
 use Rattle.run_machine.proofs.Texts.{says_of}
 use Rattle.run_machine.proofs.TextRuns.{IsRunOfText, run_of_text}
-use Rattle.run_machine.proofs.cases.OneMirror.{tally, is_of_scenario}
+use Rattle.run_machine.proofs.cases.OneMirror.{is_of_scenario}
 use Rattle.run_machine.proofs.Turns.{Turn, follow, AreTurns, turns_run, takes, rescues, on_disk, in_book, all_home}
 
 abbrev pub tasks : List TaskState
@@ -254,5 +254,5 @@ module _ (memory : Global) where
   is_of_text : IsRunOfText text (scenario memory true) ledger events (λ some. follow (setup true) start (turns some))
   unfolding refusal without_empty_end first_found command_of is_name number_of meaning pool_at tree_below over_shape size_of smallest needed begins
   is_of_text =
-      run_of_text (setup true) reserve tally tasks text (scenario memory true) (is_of_scenario memory true) refl
+      run_of_text (setup true) reserve one_left tasks text (scenario memory true) (is_of_scenario memory true) refl
       (says_of text (scenario memory true) refl (refl, (refl, (refl, tt))) refl) ledger events (λ some. follow (setup true) start (turns some)) mirror_runs

@@ -6,7 +6,6 @@ use Rattle.fail_script.specs.Script.{Answers, only_tail}
 use Rattle.stack_base.specs.declared.ids.DevId.{DevId}
 use Rattle.stack_base.specs.declared.ids.PoolId.{PoolId}
 use Rattle.stack_base.specs.declared.ids.PoolId.TheVariants.{FsBios, FsVecs, Bios, Records}
-use Rattle.stack_base.specs.declared.ids.Status.TheVariants.{Ok}
 use Rattle.stack_base.specs.declared.stack.Kind.TheVariants.{Mirror}
 use Rattle.stack_base.specs.declared.stack.Stack.{Stack}
 use Rattle.stack_base.specs.Tree.{Tree, Leaf, Mirrored, tree, tree_below, over_shape, member_at}
@@ -16,10 +15,10 @@ use Rattle.layout_model.specs.Need.{needed, elements_begun as begins}
 use Rattle.layout_model.specs.NeedCounts.{nodes as nodes_of}
 use Rattle.run_machine.specs.Scene.{Setup}
 use Rattle.run_machine.specs.Tasks.{Todo}
-use Rattle.run_machine.specs.Objects.{Objects, TallyState}
+use Rattle.run_machine.specs.Objects.{Objects}
 use Rattle.run_machine.specs.Opened.{Scenario, device_at, reserve_of}
 use Rattle.run_machine.specs.Opened as texts
-use Rattle.run_machine.proofs.Beginnings.{IsOfScenario, objects_by, reserves_are, first_places}
+use Rattle.run_machine.proofs.Beginnings.{IsOfScenario, objects_by, reserves_are, first_places, one_left}
 use Rattle.run_machine.proofs.Beginnings as begins
 use Rattle.run_machine.proofs.Texts.{device, disk as disk_of, stack_of}
 
@@ -63,12 +62,9 @@ scripts =
     ∷ (Bios m, only_tail false)
     ∷ []
 
-abbrev pub tally : TallyState
-tally = record { round = 0; left = 1 ∷ []; statuses = Ok ∷ [] }
-
 -- the objects as runs begin with them, with a rescuer and without
 abbrev pub objects : Objects
-objects = objects_by (setup true) reserve scripts tally
+objects = objects_by (setup true) reserve scripts one_left
 
 -- The scenario with a rescuer for the mirror's set, and without one: runs of both begin with these objects.
 module _ (memory : Global) where
@@ -117,7 +113,7 @@ module _ (memory : Global) where
     records_are (suc (suc zero)) = refl
     records_are (suc (suc (suc n))) = refl
 
-    pub is_of_scenario : IsOfScenario (setup rescuer) reserve tally (scenario rescuer)
+    pub is_of_scenario : IsOfScenario (setup rescuer) reserve one_left (scenario rescuer)
     is_of_scenario = record {
       count_is = refl;
       tree_is = tree_is;
@@ -129,7 +125,7 @@ module _ (memory : Global) where
     }
 
     pub setup_is : setup rescuer ≡ texts.setup_in (scenario rescuer)
-    setup_is = begins.setup_is (setup rescuer) reserve tally (scenario rescuer) is_of_scenario
+    setup_is = begins.setup_is (setup rescuer) reserve one_left (scenario rescuer) is_of_scenario
 
     pub objects_are : objects ≡ texts.objects (scenario rescuer)
-    objects_are = begins.objects_are (setup rescuer) reserve tally (scenario rescuer) is_of_scenario
+    objects_are = begins.objects_are (setup rescuer) reserve one_left (scenario rescuer) is_of_scenario

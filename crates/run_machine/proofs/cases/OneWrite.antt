@@ -37,10 +37,10 @@ use Rattle.run_machine.specs.Scene.{Setup, Scene}
 use Rattle.run_machine.specs.Requests.{HadBio, LinkedTo, Did, Completed, DroppedTo, Present}
 use Rattle.run_machine.specs.Submissions.{rests}
 use Rattle.run_machine.specs.Tasks.{Todo, TaskState, Writer, Completer, NoBio, Empty, filled_short}
-use Rattle.run_machine.specs.Objects.{clear_bio, done_one, TallyState}
+use Rattle.run_machine.specs.Objects.{clear_bio, done_one}
 use Rattle.run_machine.specs.Opened.{Scenario}
 use Rattle.run_machine.specs.Runs.{State, IsRun, HasEnded}
-use Rattle.run_machine.proofs.Beginnings.{objects_by, state_by, first_places}
+use Rattle.run_machine.proofs.Beginnings.{objects_by, state_by, first_places, one_left}
 use Rattle.run_machine.proofs.Texts.{says_of}
 use Rattle.run_machine.proofs.cases.OneDisk.{setup_over, reserve, stack, is_of_scenario, a}
 use Rattle.run_machine.proofs.TextRuns.{IsRunOfText, run_of_text}
@@ -62,11 +62,8 @@ tasks = Writer 0 (todo ∷ []) NoBio rests ∷ Completer a Empty ∷ []
 abbrev scripts : List (PoolId × Answers)
 scripts = (FsBios, only_tail true) ∷ (FsVecs, only_tail true) ∷ []
 
-abbrev pub tally : TallyState
-tally = record { round = 0; left = 1 ∷ []; statuses = Ok ∷ [] }
-
 abbrev pub start : State
-start = state_by (objects_by setup reserve scripts tally) tasks
+start = state_by (objects_by setup reserve scripts one_left) tasks
 
 module _ (some : LedgerId) where
   abbrev ledger : ℕ → LedgerId
@@ -162,6 +159,6 @@ module _ (memory : Global) where
   is_of_text : IsRunOfText text scenario ledger events (λ some. follow setup start (turns some))
   unfolding refusal without_empty_end first_found command_of is_name number_of meaning pool_at tree_below over_shape needed elements_begun
   is_of_text =
-      run_of_text setup reserve tally tasks text scenario
-      (is_of_scenario memory 64 scripts (write ∷ []) (0 ∷ []) [] setup.places (first_places (stack memory 64) todo 1 one_node) tally refl)
+      run_of_text setup reserve one_left tasks text scenario
+      (is_of_scenario memory 64 scripts (write ∷ []) (0 ∷ []) [] setup.places (first_places (stack memory 64) todo 1 one_node) one_left refl)
       refl (says_of text scenario refl (refl, tt) refl) ledger events (λ some. follow setup start (turns some)) one_write_runs

@@ -46,11 +46,11 @@ use Rattle.run_machine.specs.Scene.{Setup, Scene}
 use Rattle.run_machine.specs.Requests.{HadBio, LinkedTo, Did, Completed, DroppedTo, Present}
 use Rattle.run_machine.specs.Submissions.{rests}
 use Rattle.run_machine.specs.Tasks.{Todo, TaskState, Writer, Completer, NoBio, Empty}
-use Rattle.run_machine.specs.Objects.{clear_bio, done_one, TallyState}
+use Rattle.run_machine.specs.Objects.{clear_bio, done_one}
 use Rattle.run_machine.specs.Opened.{Scenario, device_at, reserve_of}
 use Rattle.run_machine.specs.Opened as texts
 use Rattle.run_machine.specs.Runs.{State, IsRun, HasEnded}
-use Rattle.run_machine.proofs.Beginnings.{IsOfScenario, objects_by, state_by, reserves_are, first_places}
+use Rattle.run_machine.proofs.Beginnings.{IsOfScenario, objects_by, state_by, reserves_are, first_places, one_left}
 use Rattle.run_machine.proofs.Texts.{device, disk as disk_of, stack_of, says_of}
 use Rattle.run_machine.proofs.TextRuns.{IsRunOfText, run_of_text}
 use Rattle.run_machine.proofs.Turns.{Turn, follow, AreTurns, turns_run, takes, on_disk, in_book, all_home}
@@ -95,11 +95,8 @@ scripts =
     ∷ (Bios (device_at 2), only_tail false)
     ∷ []
 
-abbrev pub tally : TallyState
-tally = record { round = 0; left = 1 ∷ []; statuses = Ok ∷ [] }
-
 abbrev pub start : State
-start = state_by (objects_by setup reserve scripts tally) tasks
+start = state_by (objects_by setup reserve scripts one_left) tasks
 
 module _ (some : LedgerId) where
   abbrev ledger : ℕ → LedgerId
@@ -329,7 +326,7 @@ module _ (memory : Global) where
   records_are (suc (suc (suc zero))) = refl
   records_are (suc (suc (suc (suc n)))) = refl
 
-  is_as_written : IsOfScenario setup reserve tally scenario
+  is_as_written : IsOfScenario setup reserve one_left scenario
   is_as_written = record {
     count_is = refl;
     tree_is = tree_is;
@@ -343,5 +340,5 @@ module _ (memory : Global) where
   is_of_text : IsRunOfText text scenario ledger events (λ some. follow setup start (turns some))
   unfolding refusal without_empty_end first_found command_of is_name number_of meaning pool_at tree_below over_shape size_of smallest needed elements_begun head slot among piece_end next_member
   is_of_text =
-      run_of_text setup reserve tally tasks text scenario is_as_written refl
+      run_of_text setup reserve one_left tasks text scenario is_as_written refl
       (says_of text scenario refl (refl, (refl, (refl, (refl, tt)))) refl) ledger events (λ some. follow setup start (turns some)) split_runs

@@ -102,14 +102,19 @@ is_event (Stepped event) = true
 is_event step = false
 
 silent_is_none : (setup : Setup) (request : Request) (reply : Reply) → is_event (silent_step setup request reply) ≡ false
+-- no ticket
 silent_is_none setup request requests.NoTicket = refl
+-- misses
 silent_is_none setup (requests.TakeBio set waits) (requests.Missed used) = refl
 silent_is_none setup requests.TakeVec (requests.Missed used) = refl
 silent_is_none setup (requests.TakeSlip dev) (requests.Missed used) = refl
+-- refusals of a book
 silent_is_none setup (requests.Link writer opening) (requests.LinkedTo (NoRoom back)) = refl
 silent_is_none setup (requests.Link writer opening) (requests.LinkedTo (Stray back)) = refl
 silent_is_none setup (requests.Drop writer node status part) (requests.DroppedTo (end.Stray back)) = refl
+-- a pool that has elements out
 silent_is_none setup (requests.Resize pool min) (requests.OutIs out) = refl
+-- and every other reply
 silent_is_none setup request reply = refl
 
 rest_is_none : (breach : Option Breach) → is_event (resting_step breach) ≡ false

@@ -19,19 +19,19 @@ use Rattle.task_steps.specs.Routed.{Routing, routing_setup}
 use Rattle.task_steps.specs.TaskViews.{TaskOf, task_of}
 use Rattle.run_machine.specs.Submissions.{rests}
 use Rattle.run_machine.specs.Tasks.{Todo, NoBio, Duty, Starts, TaskState, Writer}
-use Rattle.run_machine.specs.Opened.{todos_by, nodes_of, writers_of, rescuers_of, completers_of, rounds_in, changes_at, duties_in, keepers}
+use Rattle.run_machine.specs.Opened.{todos_by, nodes_of, writers_of, rescuers_of, completers_of, rounds_in, changes_at, duties_in, keepers, most_writers}
 use Rattle.run_machine.specs.Scenario.{change_of}
 
 -- Writes that a stack can serve, by writers of small numbers, each with its round, which open few nodes together.
 pub record AreServableWrites (stack : Stack) (rounds : List ℕ) (writes : List Write) : Type 0 where
   pub served : All (IsWrite stack) writes
-  pub writers : All (λ (write : Write). write.task < 8) writes
+  pub writers : All (λ (write : Write). write.task < most_writers) writes
   pub paired : length rounds ≡ length writes
   pub few : sum_by (λ write. nodes stack write) writes < 2 ^ 32
 
 -- the books of the first writers have as many places
 pub record ArePlaced (stack : Stack) (rounds : List ℕ) (writes : List Write) (bound : ℕ) (places : List ℕ) : Type 0 where
-  pub eight : length places ≡ 8
+  pub eight : length places ≡ most_writers
   pub each : (writer : ℕ) → writer < bound → slice_index_or places writer 0 ≡ nodes_of stack (todos_by rounds writes writer)
 
 -- tasks that were added to others
@@ -51,7 +51,7 @@ abbrev pub writers_among : Work → List ℕ → List TaskState
 writers_among work numbers = writers_of work.rounds.items work.writes.items numbers
 
 abbrev pub writers_in : Work → List TaskState
-writers_in work = writers_among work (range_with_len 0 8)
+writers_in work = writers_among work (range_with_len 0 most_writers)
 
 -- how many places the book of a writer of a work has: its writes open so many nodes
 abbrev pub book_places : Stack → Work → ℕ → ℕ
@@ -59,7 +59,7 @@ book_places stack work writer = nodes_of stack (todos_by work.rounds.items work.
 
 -- what tasks know of the devices of a stack, with the places of these books
 abbrev pub IsRoutingFor : Stack → Work → Routing → Type 0
-IsRoutingFor stack work routing = (routing.stack ≡ stack) × ArePlaced stack work.rounds.items work.writes.items 8 routing.places
+IsRoutingFor stack work routing = (routing.stack ≡ stack) × ArePlaced stack work.rounds.items work.writes.items most_writers routing.places
 
 -- the tasks of these devices, of one kind, and those of all devices of a stack
 abbrev pub device_tasks : DeviceTasks → Setup → List ℕ → List TaskState

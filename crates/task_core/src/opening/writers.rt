@@ -2,7 +2,7 @@
 ghost use Rattle.std.specs.Prelude.{◌≡◌, ◌+◌, ◌<◌, ◌^◌, ◌++◌, [], ◌∷◌, All, IfOk, OnOk, filter, length, slice_set};
 ghost use Rattle.stack_base.specs.Stack.{IsStack};
 ghost use Rattle.layout_model.specs.Writes.{IsWrite};
-ghost use Rattle.run_machine.specs.Opened.{is_by, todos_by, nodes_of};
+ghost use Rattle.run_machine.specs.Opened.{is_by, most_writers, todos_by, nodes_of};
 ghost use Rattle.task_core.specs.opened.NewTasks.{book_places, writer_with, writers_among, writers_in, AddsTasks, AreServableWrites, ArePlaced};
 
 use layout_model::need;
@@ -96,7 +96,7 @@ pub(crate) fn open_writers(
     requires stack { IsStack stack.now }
     requires shared { AreServableWrites stack.now work.now.rounds.items work.now.writes.items }
     ensures kinds { OnOk result (AddsTasks kinds.old.items (writers_in work.now) kinds.new.items) }
-    ensures places { OnOk result (ArePlaced stack.now work.now.rounds.items work.now.writes.items 8 places.new) }
+    ensures places { OnOk result (ArePlaced stack.now work.now.rounds.items work.now.writes.items most_writers places.new) }
 {
     'opening: for writer in 0..8 {
         open_writer(alloc, stack, work, writer, kinds, places)?;

@@ -2,7 +2,8 @@
 ghost use Rattle.std.specs.Prelude.{◌≡◌, ◌≤◌, false};
 ghost use Rattle.stack_base.specs.declared.ids.SetId.TheVariants.{Fs};
 ghost use Rattle.bio_records.specs.Items.{item_of, IsAlone};
-ghost use Rattle.bio_records.specs.Segments.{segment_count, segments_of};
+ghost use Rattle.stack_base.specs.Segments.{segment_count};
+ghost use Rattle.bio_records.specs.Segments.{segments_of};
 ghost use Rattle.run_machine.specs.Tasks.{needs_vector, first_bio, filled, filled_short, filled_vector};
 ghost use Rattle.task_steps.specs.Views.{vec_item};
 

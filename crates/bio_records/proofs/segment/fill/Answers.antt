@@ -1,7 +1,8 @@
 use Rattle.std.proofs.Common.{arith}
 use Rattle.std.proofs.lemmas.List.FromFn.{fill_by_all}
 use Rattle.bio_records.specs.declared.segment.Segment.{Segment}
-use Rattle.bio_records.specs.Segments.{segment_at, segment_count}
+use Rattle.stack_base.specs.Segments.{segment_count}
+use Rattle.bio_records.specs.Segments.{segment_at}
 use Rattle.bio_records.proofs.segment.fill.Goals as goal
 
 -- at the end a segment stands at each place

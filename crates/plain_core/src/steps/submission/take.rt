@@ -54,7 +54,7 @@ pub(crate) fn take_slip(
     }
 }
 
-// Behind a miss.
+// Behind a miss: an attempt that waits is made again, and one that does not is followed by a punt.
 fn after_miss(waits: bool) -> PlainWant
     ensures { want_of_plain result ≡ after_miss waits }
 {
