@@ -1,6 +1,6 @@
 mod Keys
 mod Slots
-mod Placed
+mod ContainersStaySound
 mod Numbered
 mod Ends
 mod Examples

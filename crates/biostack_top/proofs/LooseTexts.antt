@@ -2,7 +2,7 @@
 use Rattle.std.proofs.Common.{◌≡◌, ◌+◌, ◌==◌, if◌then◌else◌, not, ℕ, Bool, true, false, List, [], ◌∷◌, filter, Option, None, Some, refl, ap, ◌∙◌}
 use Rattle.std.specs.Option.{option_map, option_or}
 use Rattle.decl_text.specs.Items.{said}
-use Rattle.decl_text.specs.Known.{Declarations, after_line, nothing}
+use Rattle.decl_text.specs.Known.{Declarations, after_line, nothing_declared}
 use Rattle.decl_text.specs.Reasons.{number_of_reason}
 use Rattle.decl_text.specs.Refusals.{Check, first_found, line_reason, refusal, refused, said_reason}
 use Rattle.decl_text.specs.Text.{words}
@@ -40,5 +40,5 @@ module _ (keeps : Check Item → Bool) where
       ∙ lines_pass checks (after_line known (said (words line))) (number + 1) left parts.1
 
 -- the loose ones are all but that of rescuers
-pub loosely : (all : List (List ℕ)) → refusal all_checks nothing 1 all ≡ None → refusal (checks_by true) nothing 1 all ≡ None
-loosely all none = lines_pass (λ check. not (number_of_reason check.reason == 10)) all_checks nothing 1 all none
+pub loosely : (all : List (List ℕ)) → refusal all_checks nothing_declared 1 all ≡ None → refusal (checks_by true) nothing_declared 1 all ≡ None
+loosely all none = lines_pass (λ check. not (number_of_reason check.reason == 10)) all_checks nothing_declared 1 all none

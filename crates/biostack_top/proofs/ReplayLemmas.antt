@@ -3,7 +3,7 @@ use Rattle.std.proofs.Common.{◌≡◌, ◌≤◌, ℕ, Bool, true, false, true
 use Rattle.std.specs.Prelude.{if◌then◌else◌, is_none, is_some, map, not, nat_lt, IfOk, Result, Ok, Err}
 use Rattle.std.proofs.lemmas.Bool.{le-ltb}
 use Rattle.decl_text.specs.Text.{lines, most_bytes}
-use Rattle.decl_text.specs.Known.{nothing}
+use Rattle.decl_text.specs.Known.{nothing_declared}
 use Rattle.decl_text.specs.Refusals.{refusal, refused}
 use Rattle.decl_text.specs.declared.accepted.Accepted.{Accepted}
 use Rattle.decl_text.specs.declared.reason.Reason.TheVariants.{TooLong}
@@ -43,9 +43,9 @@ refused_before : (text scenario events : List ℕ) (first : ℕ) → AreTextPart
     → replay_refusal text ≡ text_refusal_by true scenario
 refused_before text scenario events first parts few =
     let shorter : length scenario ≤ most_bytes = omega (arith, few, length-append scenario events, ap length parts.joined) in
-    not_long (length text) (Some (refused 0 TooLong)) (refusal (checks_by true) nothing 1 _) few
-    ∙ ap (refusal (checks_by true) nothing 1) (sym parts.scenario_is)
-    ∙ sym (not_long (length scenario) (Some (refused 0 TooLong)) (refusal (checks_by true) nothing 1 (lines scenario)) shorter)
+    not_long (length text) (Some (refused 0 TooLong)) (refusal (checks_by true) nothing_declared 1 _) few
+    ∙ ap (refusal (checks_by true) nothing_declared 1) (sym parts.scenario_is)
+    ∙ sym (not_long (length scenario) (Some (refused 0 TooLong)) (refusal (checks_by true) nothing_declared 1 (lines scenario)) shorter)
 
 -- what the loose checks let pass can be run
 pub read_loosely : (text : List ℕ) (accepted : Accepted) (work : Work) → SaysBy true text accepted work → IsReadBehind accepted work

@@ -12,7 +12,7 @@ use Rattle.stack_check.specs.Accept.{AcceptsBy}
 use Rattle.work_text.specs.Work.{all_checks, kept_resizes, known_of, last_round, change_of}
 use Rattle.work_text.specs.Reading.{ReadsWork, work_lines}
 use Rattle.work_text.specs.Whole.{RestDecides, known_of_text, text_refusal_by, work_of}
-use Rattle.work_text.proofs.Wholes.{refused_first, rest_decides}
+use Rattle.work_text.proofs.WholeRefusals.{refused_first, rest_decides}
 use Rattle.std.proofs.lemmas.List.{length-map}
 use Rattle.layout_model.specs.Bound.{IsBound}
 use Rattle.decl_text.specs.Known.{Declarations}

@@ -6,7 +6,7 @@ use Rattle.std.proofs.lemmas.List.{length-map}
 use Rattle.stack_base.specs.declared.stack.Stack.{Stack}
 use Rattle.layout_model.specs.declared.write.Write.{Write}
 use Rattle.decl_text.specs.Accepting.{MeansStack}
-use Rattle.decl_text.specs.Known.{Declarations, Written, nothing}
+use Rattle.decl_text.specs.Known.{Declarations, Written, nothing_declared}
 use Rattle.decl_text.specs.Refusals.{known_after, refusal, refused}
 use Rattle.decl_text.specs.Text.{lines, most_bytes}
 use Rattle.decl_text.specs.declared.accepted.Accepted.{Accepted}
@@ -119,8 +119,8 @@ module _ (stacks_named : AcceptedStacksAreNamed) (replays : TracesReplay) (no_ev
 
   pub not_refused : length (with_run text told) ≤ most_bytes → replay_refusal (with_run text told) ≡ None
   not_refused few =
-      not_long (length (with_run text told)) (Some (refused 0 TooLong)) (refusal (checks_by true) nothing 1 (scenario_lines (with_run text told))) few
-      ∙ ap (refusal (checks_by true) nothing 1) scenario_is
+      not_long (length (with_run text told)) (Some (refused 0 TooLong)) (refusal (checks_by true) nothing_declared 1 (scenario_lines (with_run text told))) few
+      ∙ ap (refusal (checks_by true) nothing_declared 1) scenario_is
       ∙ loosely (lines text) (text_lines text says.fine).1
 
   module _ (answer : List ℕ) (good : Bool) (again : TellsReplay (with_run text told) answer good) where
@@ -129,7 +129,7 @@ module _ (stacks_named : AcceptedStacksAreNamed) (replays : TracesReplay) (no_ev
 
     -- what is read of the scenario is what was read of the text
     same_known : known_of_text again.scenario ≡ known_of_text text
-    same_known = ap (known_after nothing) (again.before ∙ scenario_is)
+    same_known = ap (known_after nothing_declared) (again.before ∙ scenario_is)
 
     means : MeansStack (known_of_text text) other.stack other.scripts.items
     means = subst (λ (known : Declarations). MeansStack known other.stack other.scripts.items) same_known again.says.means

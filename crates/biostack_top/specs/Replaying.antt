@@ -3,7 +3,7 @@ use Rattle.std.specs.Prelude.{◌≡◌, ◌≢◌, if◌then◌else◌, nat_lt,
 use Rattle.std.specs.Bool.{Decides}
 use Rattle.stack_base.specs.Stack.{HasRescuers}
 use Rattle.decl_text.specs.Text.{lines, most_bytes}
-use Rattle.decl_text.specs.Known.{nothing}
+use Rattle.decl_text.specs.Known.{nothing_declared}
 use Rattle.decl_text.specs.Refusals.{refusal, refused}
 use Rattle.decl_text.specs.declared.accepted.Accepted.{Accepted}
 use Rattle.decl_text.specs.declared.reason.Reason.TheVariants.{TooLong}
@@ -24,7 +24,7 @@ use Rattle.biostack_top.specs.Scene.{SaysBy}
 -- loose checks refuse. Behind the first line of an event nothing is.
 abbrev pub replay_refusal : List ℕ → Option Refusal
 replay_refusal text =
-    if nat_lt most_bytes (length text) then Some (refused 0 TooLong) else refusal (checks_by true) nothing 1 (scenario_lines text)
+    if nat_lt most_bytes (length text) then Some (refused 0 TooLong) else refusal (checks_by true) nothing_declared 1 (scenario_lines text)
 
 -- Lines of events come to this over a scenario: a replay, with no bad line exactly where they are those of a run, and
 -- not stuck where each mirror of two members or more has a rescuer.

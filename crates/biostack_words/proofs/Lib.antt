@@ -4,6 +4,6 @@ pub mod Turns
 pub mod Standing
 pub mod Walks
 pub mod Rows
-pub mod Wholes
+pub mod ParserAnswers
 pub mod Few
 mod Examples

@@ -33,5 +33,5 @@ pub mod LegLists
 pub mod ListOrder
 pub mod Positions
 pub mod Soundness
-pub mod Sayings
+pub mod DoneAndRoundEvents
 pub mod Dones

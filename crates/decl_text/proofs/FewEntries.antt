@@ -18,7 +18,7 @@ use Rattle.decl_text.specs.Accepting.{IsDeclaredSo, declared_form, device_pools,
 use Rattle.decl_text.specs.Text.{words}
 use Rattle.decl_text.specs.Items.{said}
 use Rattle.decl_text.specs.Checks.{is_of_pool, too_large}
-use Rattle.decl_text.specs.Known.{Declarations, Declared, Scripted, after, after_line, nothing, declared_pool}
+use Rattle.decl_text.specs.Known.{Declarations, Declared, Scripted, after, after_line, nothing_declared, declared_pool}
 use Rattle.decl_text.specs.Refusals.{check, first_found, known_after, refusal, said_reason}
 use Rattle.decl_text.specs.declared.item.Item.{Item}
 use Rattle.decl_text.specs.declared.item.Item.TheVariants as item
@@ -57,10 +57,10 @@ line_few : (known : Declarations) (o : Option Item) → said_reason loose_checks
 line_few known None none few = few
 line_few known (Some said) none few = after_few known said (not_large known said none) few
 
-lines_few : (all : List (List ℕ)) → refusal loose_checks nothing 1 all ≡ None → declared_entries (known_after nothing all).scripts ≤ 65536
+lines_few : (all : List (List ℕ)) → refusal loose_checks nothing_declared 1 all ≡ None → declared_entries (known_after nothing_declared all).scripts ≤ 65536
 lines_few all none =
     kept_behind loose_checks (λ known. declared_entries known.scripts ≤ 65536)
-    (λ known line fine few. line_few known (said (words line)) (line_passes loose_checks known line fine).1 few) nothing 1 all none (omega arith)
+    (λ known line fine few. line_few known (said (words line)) (line_passes loose_checks known line fine).1 few) nothing_declared 1 all none (omega arith)
 
 found_by : (b : Bool) (s : Scripted) (p : Scripted → Bool) (scripts : List Scripted) (tail : Bool)
     → length (unwrap_or (option_map (λ (s : Scripted). s.script) (find p scripts)) (record { entries = []; tail = tail })).entries ≤ declared_entries scripts
@@ -120,7 +120,7 @@ entries_few stack scripts good so =
       | inl few ↦ omega (arith, few)
       | inr large ↦
           absurd (not_there so (λ declared.
-          let known = known_after nothing declared.0 in
+          let known = known_after nothing_declared declared.0 in
           let means = declared.3 in
           let entries : declared_entries known.scripts ≤ 65536 = lines_few declared.0 declared.2 in
           let devices : length known.devices ≤ 32 = omega (arith, ap length means.devices, length-map stack.devices.items declared_form, good.few) in

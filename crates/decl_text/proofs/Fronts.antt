@@ -3,7 +3,7 @@ use Rattle.std.proofs.Common.{◌≡◌, ℕ, ◌+◌, false, List, [], ◌∷�
 use Rattle.std.specs.Option.{option_map, option_or}
 use Rattle.decl_text.specs.Text.{words}
 use Rattle.decl_text.specs.Items.{said}
-use Rattle.decl_text.specs.Known.{Declarations, nothing, after, after_line}
+use Rattle.decl_text.specs.Known.{Declarations, nothing_declared, after, after_line}
 use Rattle.decl_text.specs.Read.{IsDeclaration}
 use Rattle.decl_text.specs.Stands.{misplaced, stand_of}
 use Rattle.decl_text.specs.declared.stand.Stand.TheVariants.{Front}
@@ -25,7 +25,7 @@ pub record IsFront (known : Declarations) : Type 0 where
   pub syncs : known.syncs ≡ 0
   pub resizes : known.resizes ≡ []
 
-pub nothing_front : IsFront nothing
+pub nothing_front : IsFront nothing_declared
 nothing_front = record { writes = refl; rounds = refl; syncs = refl; resizes = refl }
 
 pub front_stand : (known : Declarations) → IsFront known → stand_of known ≡ Front
@@ -67,10 +67,10 @@ pub front_refused : (checks : List (Check Item)) (known : Declarations) (number 
 unfolding refusal formed refusal_of_items
 front_refused checks known number [] front others = refl
 front_refused checks known number (line ∷ lines) front others =
-    let same = same_found known nothing line (front_stand known front) in
+    let same = same_found known nothing_declared line (front_stand known front) in
     ap (λ f. option_or (option_map (refused number) (option_or f (said_reason checks known (said (words line)))))
     (refusal checks (after_line known (said (words line))) (number + 1) lines)) same
-    ∙ front_step checks known number lines (formed (number + 1) lines) (first_found line_checks nothing line) (said (words line))
+    ∙ front_step checks known number lines (formed (number + 1) lines) (first_found line_checks nothing_declared line) (said (words line))
     (λ none.
     front_refused checks (after_line known (said (words line))) (number + 1) lines
     (line_front known (said (words line)) (front_declares known line front others.0 (same ∙ none)) front) others.1)
@@ -88,7 +88,7 @@ pub front_known : (known : Declarations) (number : ℕ) (lines : List (List ℕ)
 unfolding formed
 front_known known number [] fault = refl
 front_known known number (line ∷ lines) fault =
-    known_step known number lines (formed (number + 1) lines) (first_found line_checks nothing line) (said (words line))
+    known_step known number lines (formed (number + 1) lines) (first_found line_checks nothing_declared line) (said (words line))
     (λ k. front_known k (number + 1) lines) fault
 
 -- items that are not refused have no faulty line behind them

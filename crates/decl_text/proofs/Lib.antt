@@ -12,4 +12,4 @@ mod StepLemmas
 mod ShortNumbers
 pub mod ShownTrees
 pub mod FewEntries
-pub mod Fits
+pub mod DeclarationsFit

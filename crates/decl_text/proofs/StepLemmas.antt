@@ -5,7 +5,7 @@ use Rattle.std.proofs.lemmas.List.{drop-append-le, drop_all}
 use Rattle.std.proofs.lemmas.List.Elements.{All-push}
 use Rattle.decl_text.specs.Text.{lines, words}
 use Rattle.decl_text.specs.Items.{said}
-use Rattle.decl_text.specs.Known.{nothing}
+use Rattle.decl_text.specs.Known.{nothing_declared}
 use Rattle.decl_text.specs.Read.{AreDeclarations, IsDeclaration, Read}
 use Rattle.decl_text.specs.Reading.{IsReadDecl, Formed, added, formed, formed_by, with_item, declarations, is_work_line, is_wrong, read_lines, right_lines}
 use Rattle.decl_text.specs.Refusals.{first_found, line_checks, refused}
@@ -60,11 +60,11 @@ ended text read so_far starts = record {
 
 -- the next line is read
 one_more : (number : ℕ) (line : List ℕ) (left : List (List ℕ)) → is_work_line line ≡ false
-    → formed number (declarations (line ∷ left)) ≡ formed_by (first_found line_checks nothing line) number (said (words line)) (formed (number + 1) (declarations left))
+    → formed number (declarations (line ∷ left)) ≡ formed_by (first_found line_checks nothing_declared line) number (said (words line)) (formed (number + 1) (declarations left))
 unfolding formed
 one_more number line left other = rw (more is_work_line line left other) refl
 
-fault_read : (read : Read) (line : List ℕ) (left : List (List ℕ)) (reason : Reason) (all : Formed) → is_work_line line ≡ false → first_found line_checks nothing line ≡ Some reason
+fault_read : (read : Read) (line : List ℕ) (left : List (List ℕ)) (reason : Reason) (all : Formed) → is_work_line line ≡ false → first_found line_checks nothing_declared line ≡ Some reason
     → read_in_the_end read (line ∷ left) ≡ all → record { items = read.items; fault = Some (refused read.line reason) } ≡ all
 fault_read read line left reason all other found is =
     sym (ap (λ items. record { items = items; fault = Some (refused read.line reason) }) (append-nil read.items))
@@ -72,7 +72,7 @@ fault_read read line left reason all other found is =
 
 -- a line that is wrong ends the reading
 pub wrong_line : (text : List ℕ) (read : Read) (line : List ℕ) (left : List (List ℕ)) (reason : Reason) → IsSoFar text read → lines (drop read.rest text) ≡ line ∷ left
-    → is_work_line line ≡ false → first_found line_checks nothing line ≡ Some reason → IsReadDecl text (record read { fault = Some (refused read.line reason) })
+    → is_work_line line ≡ false → first_found line_checks nothing_declared line ≡ Some reason → IsReadDecl text (record read { fault = Some (refused read.line reason) })
 wrong_line text read line left reason so_far next other found = record {
   formed = fault_read read line left reason (formed 1 (declarations (lines text))) other found (subst (λ lines_left. read_in_the_end read lines_left ≡ formed 1 (declarations (lines text))) next so_far.whole);
   within = so_far.within;
@@ -88,7 +88,7 @@ added_item : (items : List Numbered) (number : ℕ) (item : Option Item) (more :
 added_item items number None more = ap (λ all. record more { items = all }) (sym (append_assoc items [] more.items))
 added_item items number (Some said) more = ap (λ all. record more { items = all }) (sym (append_assoc items (record { line = number; item = said } ∷ []) more.items))
 
-passed_read : (read : Read) (line : List ℕ) (left : List (List ℕ)) (item : Option Item) (all : Formed) → is_work_line line ≡ false → first_found line_checks nothing line ≡ None → said (words line) ≡ item
+passed_read : (read : Read) (line : List ℕ) (left : List (List ℕ)) (item : Option Item) (all : Formed) → is_work_line line ≡ false → first_found line_checks nothing_declared line ≡ None → said (words line) ≡ item
     → read_in_the_end read (line ∷ left) ≡ all → added (read.items ++ numbered read.line item) (formed (read.line + 1) (declarations left)) ≡ all
 passed_read read line left item all other found says is =
     sym (added_item read.items read.line item (formed (read.line + 1) (declarations left)))
@@ -100,10 +100,10 @@ one_declared items number (Some said) all one = All-push (λ (next : Numbered). 
 
 -- a line that is right is passed
 pub passed_line : (text : List ℕ) (read : Read) (line : List ℕ) (item : Option Item) (place : ℕ) → IsSoFar text read → lines (drop read.rest text) ≡ line ∷ lines (drop place text)
-    → is_work_line line ≡ false → first_found line_checks nothing line ≡ None → said (words line) ≡ item → read.rest < place → place ≤ length text
+    → is_work_line line ≡ false → first_found line_checks nothing_declared line ≡ None → said (words line) ≡ item → read.rest < place → place ≤ length text
     → IsSoFar text (record { items = read.items ++ numbered read.line item; fault = read.fault; rest = place; line = read.line + 1 })
 passed_line text read line item place so_far next other found says on within =
-    let parts = told_parts nothing line found in
+    let parts = told_parts nothing_declared line found in
     record {
       fine = so_far.fine;
       within = within;
@@ -128,12 +128,12 @@ at_write text read at line left is next write so_far =
     (ended text read so_far (subst (FirstPasses is_work_line) (sym next ∙ ap (λ n. lines (drop n text)) is) write), so_far.items)
 
 pub at_wrong : (text : List ℕ) (read : Read) (at : ℕ) (line : List ℕ) (left : List (List ℕ)) (reason : Reason) → at ≡ read.rest → lines (drop at text) ≡ line ∷ left → is_work_line line ≡ false
-    → first_found line_checks nothing line ≡ Some reason → IsSoFar text read → IsReadDecl text (record read { fault = Some (refused read.line reason) }) × AreDeclarations read.items
+    → first_found line_checks nothing_declared line ≡ Some reason → IsSoFar text read → IsReadDecl text (record read { fault = Some (refused read.line reason) }) × AreDeclarations read.items
 at_wrong text read at line left reason is next other found so_far =
     (wrong_line text read line left reason so_far (ap (λ n. lines (drop n text)) (sym is) ∙ next) other found, so_far.items)
 
 pub at_line : (text : List ℕ) (read : Read) (at place : ℕ) (line : List ℕ) (item : Option Item) → at ≡ read.rest → lines (drop at text) ≡ line ∷ lines (drop place text) → is_work_line line ≡ false
-    → first_found line_checks nothing line ≡ None → said (words line) ≡ item → at < place → place ≤ length text → IsSoFar text read
+    → first_found line_checks nothing_declared line ≡ None → said (words line) ≡ item → at < place → place ≤ length text → IsSoFar text read
     → IsSoFar text (record { items = read.items ++ numbered read.line item; fault = read.fault; rest = place; line = read.line + 1 })
 at_line text read at place line item is next other found says on within so_far =
     passed_line text read line item place so_far (ap (λ n. lines (drop n text)) (sym is) ∙ next) other found says (subst (λ n. n < place) is on) within

@@ -13,7 +13,7 @@ use Rattle.stack_base.specs.declared.stack.Kind.{Kind}
 use Rattle.stack_base.specs.declared.stack.Kind.TheVariants as kind
 use Rattle.stack_base.specs.declared.stack.Device.{Device}
 use Rattle.stack_base.specs.declared.stack.Stack.{Stack}
-use Rattle.decl_text.specs.Known.{Declarations, Declared, Reserves, nothing}
+use Rattle.decl_text.specs.Known.{Declarations, Declared, Reserves, nothing_declared}
 use Rattle.stack_base.specs.Stack.{HasShape, IsStack}
 use Rattle.stack_base.specs.Fault.{bads_of_kind}
 use Rattle.decl_text.specs.Reasons.{number_of_reason}
@@ -95,7 +95,7 @@ checks_for false = item_checks
 -- some lines before all writes and `sync` lines, which have no refusal but perhaps that of rescuers, mean this stack and these scripts
 abbrev pub IsDeclaredSo : Stack → List (PoolId × Answers) → Type 0
 IsDeclaredSo stack pool_scripts =
-    (all : List (List ℕ)) × NonePass is_work_line all × (refusal loose_checks nothing 1 all ≡ None) × MeansStack (known_after nothing all) stack pool_scripts
+    (all : List (List ℕ)) × NonePass is_work_line all × (refusal loose_checks nothing_declared 1 all ≡ None) × MeansStack (known_after nothing_declared all) stack pool_scripts
 
 pub HasShape-prop : (kind : Kind) (members : ℕ) → IsProp (HasShape kind members)
 HasShape-prop (kind.Disk sectors bad) members = hlevel (ℕ_set, le_prop)

@@ -62,8 +62,8 @@ pub record Declarations : Type 0 where
   pub syncs : ℕ
   pub resizes : List Change
 
-abbrev pub nothing : Declarations
-nothing = record { devices = []; fs = None; bad = []; scripts = []; no_memory = false; writes = []; rounds = []; syncs = 0; resizes = [] }
+abbrev pub nothing_declared : Declarations
+nothing_declared = record { devices = []; fs = None; bad = []; scripts = []; no_memory = false; writes = []; rounds = []; syncs = 0; resizes = [] }
 
 -- the device with this name
 abbrev pub device_of : List Declared → List ℕ → Option ℕ

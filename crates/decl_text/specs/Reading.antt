@@ -4,7 +4,7 @@ use Rattle.std.specs.List.{before_first}
 use Rattle.std.specs.Option.{option_map, option_or}
 use Rattle.decl_text.specs.Text.{lines, words, most_bytes}
 use Rattle.decl_text.specs.Items.{said, begins_work}
-use Rattle.decl_text.specs.Known.{Declarations, nothing, after}
+use Rattle.decl_text.specs.Known.{Declarations, nothing_declared, after}
 use Rattle.decl_text.specs.Refusals.{Check, first_found, line_checks, refused}
 use Rattle.decl_text.specs.declared.reason.Reason.{Reason}
 use Rattle.decl_text.specs.declared.reason.Reason.TheVariants.{TooLong}
@@ -30,7 +30,7 @@ declarations all = before_first is_work_line all
 
 -- a line is wrong by itself, whatever stands before it
 abbrev pub is_wrong : List ℕ → Bool
-is_wrong line = is_some (first_found line_checks nothing line)
+is_wrong line = is_some (first_found line_checks nothing_declared line)
 
 -- these lines up to the first that is wrong by itself
 abbrev pub right_lines : List (List ℕ) → List (List ℕ)
@@ -56,7 +56,7 @@ formed_by (Some reason) number said more = record { items = []; fault = Some (re
 -- these lines, the first of which has this number
 unfoldable pub formed : ℕ → List (List ℕ) → Formed
 formed number [] = record { items = []; fault = None }
-formed number (line ∷ lines) = formed_by (first_found line_checks nothing line) number (said (words line)) (formed (number + 1) lines)
+formed number (line ∷ lines) = formed_by (first_found line_checks nothing_declared line) number (said (words line)) (formed (number + 1) lines)
 
 -- lines of which none is a write or a `sync` line say these items, and the first that is wrong by itself has this fault
 abbrev pub AreOfLines : List Numbered → Option Refusal → Type 0

@@ -13,7 +13,7 @@ use Rattle.layout_model.specs.Plan.{frags}
 use Rattle.layout_model.proofs.Sound.{Sound, cut_of_split, sound_piece, sound_leg}
 use Rattle.layout_model.proofs.Cutting.{frags_none, frags_first}
 use Rattle.layout_model.proofs.Lists.{all_pairs_append, all_pairs_flat}
-use Rattle.layout_model.proofs.Whole.{frags_are}
+use Rattle.layout_model.proofs.PiecesGiveFragments.{frags_are}
 
 -- a disk of this number stands somewhere below; what stands behind the members of a device counts too
 unfoldable pub HasDisk : Tree → ℕ → Type 0

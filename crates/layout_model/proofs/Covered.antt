@@ -13,7 +13,7 @@ use Rattle.layout_model.specs.Laws.{FragmentsCover}
 use Rattle.layout_model.proofs.Sound.{Sound, cut_of_split, sound_piece, sound_leg}
 use Rattle.layout_model.proofs.PieceInduction.{by_pieces}
 use Rattle.layout_model.proofs.Parts.{fits_here, from_piece, from_rest}
-use Rattle.layout_model.proofs.Whole.{from_disk, from_leg}
+use Rattle.layout_model.proofs.PiecesGiveFragments.{from_disk, from_leg}
 
 -- a sector with choices that lead it is in a fragment by these
 InSome : Tree → ℕ → ℕ → ℕ → ℕ → List ℕ → ℕ → Type 0

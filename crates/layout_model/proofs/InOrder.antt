@@ -15,7 +15,7 @@ use Rattle.layout_model.specs.declared.fragment.Fragment.{Fragment}
 use Rattle.layout_model.specs.Fragments.{IsFragmentOf, AreOther, fragment_order, AreFragments}
 use Rattle.layout_model.specs.Plan.{frags}
 use Rattle.layout_model.proofs.Sound.{Sound}
-use Rattle.layout_model.proofs.Whole.{frags_are}
+use Rattle.layout_model.proofs.PiecesGiveFragments.{frags_are}
 use Rattle.layout_model.proofs.Apart.{HasDisk, Apart, frags_have, frags_distinct}
 
 -- fragments that differ in offset or disk differ in their order, where disks have numbers of 32 bits

@@ -2,7 +2,7 @@ pub mod Sound
 pub mod Lists
 pub mod Cutting
 pub mod Parts
-pub mod Whole
+pub mod PiecesGiveFragments
 pub mod Covered
 pub mod RangeSums
 pub mod Counted

@@ -8,7 +8,7 @@ use Rattle.stack_base.proofs.Heads.{piece_only}
 use Rattle.layout_model.specs.Fragments.{IsFragmentOf, AreOther}
 use Rattle.layout_model.specs.Laws.{IsCutOff, PlanOfPieces, PlanOfLegs, PlanOfDisk, PlanGivesFragments, PlanKeepsOrder, PlanTakesNeeded, FragmentsAreCounted, TreesAreSound, PlanFragmentsDiffer}
 use Rattle.layout_model.proofs.Sound.{cut_of_split}
-use Rattle.layout_model.proofs.Whole.{frags_are}
+use Rattle.layout_model.proofs.PiecesGiveFragments.{frags_are}
 use Rattle.layout_model.proofs.Apart.{frags_distinct}
 use Rattle.layout_model.proofs.CountFrags.{fragments_of_is_length}
 use Rattle.layout_model.proofs.Stacks.{tree_sound, tree_apart}

@@ -35,7 +35,7 @@ use Rattle.work_text.specs.Generated.{word, behind}
 use Rattle.serial_run.specs.Schedule.{PicksByWord}
 use Rattle.serial_run.specs.Turning.{GoesWell, HandsEvent, Tried}
 use Rattle.serial_run.proofs.Breaks.{unbroken}
-use Rattle.serial_run.proofs.Completes.{IsNoCompleter, is_complete, has_round, none_completed}
+use Rattle.serial_run.proofs.OnlyCompleters.{IsNoCompleter, is_complete, has_round, none_completed}
 
 -- one task has gone on
 module _ (tasks : List TaskOf) (place : ℕ) (lt : place < length tasks) (next : TaskOf) where

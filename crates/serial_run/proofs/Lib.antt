@@ -1,5 +1,5 @@
 pub mod Follows
-pub mod Completes
+pub mod OnlyCompleters
 pub mod Breaks
 pub mod Attempts
 pub mod Sweeps

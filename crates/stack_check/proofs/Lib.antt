@@ -9,7 +9,7 @@ pub mod PoolLemmas
 pub mod ScriptLemmas
 pub mod BadLemmas
 pub mod Passing
-pub mod Kept
+pub mod DeviceTallies
 pub mod Chains
 pub mod DeviceLemmas
 pub mod TreeLemmas

@@ -2,7 +2,7 @@
 use Rattle.std.proofs.Common.{◌≡◌, ◌∙◌, Bool, true, false, List, Option, None, Ok, ap, sym}
 use Rattle.std.proofs.Math.Logic.{∥∥₁_elim, ∥∥₁_prop}
 use Rattle.std.proofs.lemmas.Grind.{merely}
-use Rattle.decl_text.specs.Known.{Declarations, nothing}
+use Rattle.decl_text.specs.Known.{Declarations, nothing_declared}
 use Rattle.decl_text.specs.Reading.{AreOfLines, Formed, formed, known_of_items, refusal_of_items}
 use Rattle.decl_text.specs.declared.decl.Numbered.{Numbered}
 use Rattle.decl_text.specs.declared.reason.Refusal.{Refusal}
@@ -18,11 +18,11 @@ lines_declare loose items fault known lines drafts none =
     let right : (formed 1 all).fault ≡ None = ap (λ (f : Formed). f.fault) (sym lines.2) ∙ none in (
       all,
       lines.1,
-      front_refused (checks_for loose) nothing 1 all nothing_front lines.1
-          ∙ ap (λ (f : Formed). refusal_of_items (checks_for loose) nothing f.items f.fault) (sym lines.2)
-          ∙ ap (refusal_of_items (checks_for loose) nothing items) none
+      front_refused (checks_for loose) nothing_declared 1 all nothing_front lines.1
+          ∙ ap (λ (f : Formed). refusal_of_items (checks_for loose) nothing_declared f.items f.fault) (sym lines.2)
+          ∙ ap (refusal_of_items (checks_for loose) nothing_declared items) none
           ∙ drafts.0,
-      front_known nothing 1 all right ∙ ap (λ (f : Formed). known_of_items nothing f.items) (sym lines.2) ∙ drafts.1,
+      front_known nothing_declared 1 all right ∙ ap (λ (f : Formed). known_of_items nothing_declared f.items) (sym lines.2) ∙ drafts.1,
     )
 
 pub declared_by : (loose : Bool) (items : List Numbered) (fault : Option Refusal) (known : Declarations) → ∥ AreOfLines items fault ∥₁ → Drafts loose items (Ok known) → fault ≡ None → ∥ IsDeclaredBy loose known ∥₁

@@ -4,7 +4,7 @@ use Rattle.std.specs.Prelude.{filter}
 use Rattle.std.specs.Option.{option_map, option_or}
 use Rattle.decl_text.specs.Text.{words}
 use Rattle.decl_text.specs.Items.{said}
-use Rattle.decl_text.specs.Known.{Declarations, after_line, nothing}
+use Rattle.decl_text.specs.Known.{Declarations, after_line, nothing_declared}
 use Rattle.decl_text.specs.Reasons.{number_of_reason}
 use Rattle.decl_text.specs.Refusals.{Check, first_found, item_checks, line_reason, refusal, refused, said_reason}
 use Rattle.decl_text.specs.Accepting.{loose_checks}
@@ -53,5 +53,5 @@ some_pass keeps checks known number (line ∷ lines) none =
     ∙ some_pass keeps checks (after_line known (said (words line))) (number + 1) lines parts.1
 
 -- all checks but that of rescuers find nothing where all do
-pub passes_loose : (all : List (List ℕ)) → refusal item_checks nothing 1 all ≡ None → refusal loose_checks nothing 1 all ≡ None
-passes_loose all passes = some_pass (λ check. not (number_of_reason check.reason == 10)) item_checks nothing 1 all passes
+pub passes_loose : (all : List (List ℕ)) → refusal item_checks nothing_declared 1 all ≡ None → refusal loose_checks nothing_declared 1 all ≡ None
+passes_loose all passes = some_pass (λ check. not (number_of_reason check.reason == 10)) item_checks nothing_declared 1 all passes

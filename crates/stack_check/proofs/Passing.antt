@@ -20,7 +20,7 @@ use Rattle.stack_check.specs.Rows.{device_reason, has_no_room, is_large, size_wi
 use Rattle.stack_check.specs.Sound.{AreSound, IsFit, HasNumbers, records_of_what}
 use lib.Dec.{eqb}
 use Rattle.stack_check.proofs.DeviceLemmas.{names_known}
-use Rattle.stack_check.proofs.Kept.{all_members_push}
+use Rattle.stack_check.proofs.DeviceTallies.{all_members_push}
 use Rattle.decl_text.proofs.Unrefused.{cond_none}
 use Rattle.stack_check.proofs.TreeLemmas.{trees_push}
 

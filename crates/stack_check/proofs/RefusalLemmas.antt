@@ -2,7 +2,7 @@
 use Rattle.std.proofs.Common.{◌≡◌, Bool, true, false, List, [], ◌∷◌, Option, None, Some, Result, Ok, Err, refl, ap, ◌∙◌, sym, subst}
 use Rattle.std.proofs.Math.Logic.{∥∥₁_elim}
 use Rattle.std.specs.Option.{option_map, option_or}
-use Rattle.decl_text.specs.Known.{Declarations, after, nothing}
+use Rattle.decl_text.specs.Known.{Declarations, after, nothing_declared}
 use Rattle.decl_text.specs.Refusals.{Check, first_found, refused}
 use Rattle.decl_text.specs.Reading.{AreOfLines, refusal_of_items}
 use Rattle.decl_text.specs.declared.decl.Numbered.{Numbered}
@@ -57,7 +57,7 @@ module _ (checks : List (Check Item)) where
 -- what a line that is not added makes of all
 pub drafts_fault :
     (loose : Bool) (known new : Declarations) (next : Numbered) (items all : List Numbered) (wrong : ReadFault) → AddsLine loose known next new (Err wrong)
-    → ((fault : Option Refusal) → refusal_of_items (checks_for loose) known (next ∷ items) fault ≡ refusal_of_items (checks_for loose) nothing all fault)
+    → ((fault : Option Refusal) → refusal_of_items (checks_for loose) known (next ∷ items) fault ≡ refusal_of_items (checks_for loose) nothing_declared all fault)
     → Drafts loose all (Err wrong)
 drafts_fault loose known new next items all (Refused refusal) wrong same = λ fault. sym (same fault) ∙ refusal_now (checks_for loose) known next items fault refusal wrong
 drafts_fault loose known new next items all Memory wrong same = tt
@@ -74,11 +74,11 @@ pub accepts_closed :
     (loose : Bool) (decl : Read) (known : Declarations) (result : Result Accepted ReadFault) → ∥ AreOfLines decl.items decl.fault ∥₁
     → Drafts loose decl.items (Ok known) → Closes known decl.fault decl.rest decl.line result → AcceptsBy loose decl result
 accepts_closed loose decl known (Ok accepted) lines drafted closed = (
-  fault_left (checks_for loose) nothing decl.items decl.fault drafted.0 ∙ closed.0,
+  fault_left (checks_for loose) nothing_declared decl.items decl.fault drafted.0 ∙ closed.0,
   subst (λ (k : Declarations). MeansStack k accepted.stack accepted.scripts.items) (sym drafted.1) closed.1,
   helped loose known accepted.stack accepted.scripts.items (declared_by loose decl.items decl.fault known lines drafted closed.0) closed.1,
   closed.2,
   closed.3,
 )
-accepts_closed loose decl known (Err (Refused refusal)) lines drafted closed = fault_left (checks_for loose) nothing decl.items decl.fault drafted.0 ∙ closed
+accepts_closed loose decl known (Err (Refused refusal)) lines drafted closed = fault_left (checks_for loose) nothing_declared decl.items decl.fault drafted.0 ∙ closed
 accepts_closed loose decl known (Err Memory) lines drafted closed = tt

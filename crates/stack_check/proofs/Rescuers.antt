@@ -14,14 +14,14 @@ use Rattle.fail_script.specs.Script.{Answers}
 use Rattle.stack_base.specs.declared.ids.PoolId.{PoolId}
 use Rattle.decl_text.specs.Text.{words}
 use Rattle.decl_text.specs.Items.{said}
-use Rattle.decl_text.specs.Known.{Declarations, Declared, after_line, declared, declares_mirror, nothing, number_in}
+use Rattle.decl_text.specs.Known.{Declarations, Declared, after_line, declared, declares_mirror, nothing_declared, number_in}
 use Rattle.decl_text.specs.Checks.{needs_rescuer}
 use Rattle.decl_text.specs.Accepting.{MeansStack, declared_form, what_of_kind}
 use Rattle.decl_text.specs.Refusals.{check, item_checks, known_after, refusal, said_reason}
 use Rattle.decl_text.specs.declared.item.Item.{Item}
 use Rattle.decl_text.specs.declared.item.Item.TheVariants as item
 use Rattle.decl_text.specs.declared.reason.Reason.TheVariants as reason
-use Rattle.decl_text.proofs.Fits.{Pushed, before, last, pushed}
+use Rattle.decl_text.proofs.DeclarationsFit.{Pushed, before, last, pushed}
 use Rattle.decl_text.proofs.Unrefused.{finds_nothing, kept_behind, line_passes}
 
 -- a device that copies to two members or more has a rescuer
@@ -57,15 +57,15 @@ after_helped known (Some (item.Write task dev range tag)) none all = all
 after_helped known (Some item.Sync) none all = all
 after_helped known (Some (item.Resize pool min)) none all = all
 
-lines_helped : (all : List (List ℕ)) → refusal item_checks nothing 1 all ≡ None → AreHelped (known_after nothing all)
+lines_helped : (all : List (List ℕ)) → refusal item_checks nothing_declared 1 all ≡ None → AreHelped (known_after nothing_declared all)
 lines_helped all none =
-    kept_behind item_checks AreHelped (λ known line fine helped. after_helped known (said (words line)) (line_passes item_checks known line fine).1 helped) nothing 1 all none
+    kept_behind item_checks AreHelped (λ known line fine helped. after_helped known (said (words line)) (line_passes item_checks known line fine).1 helped) nothing_declared 1 all none
     (λ number device found. absurd (grind arith))
 
-pub stack_helped : (all : List (List ℕ)) (stack : Stack) (scripts : List (PoolId × Answers)) → refusal item_checks nothing 1 all ≡ None → MeansStack (known_after nothing all) stack scripts
+pub stack_helped : (all : List (List ℕ)) (stack : Stack) (scripts : List (PoolId × Answers)) → refusal item_checks nothing_declared 1 all ≡ None → MeansStack (known_after nothing_declared all) stack scripts
     → HasRescuers stack
 stack_helped all stack scripts none means = λ number records device found mirror many.
-    let here : slice_get (known_after nothing all).devices number ≡ Some (declared_form device) =
+    let here : slice_get (known_after nothing_declared all).devices number ≡ Some (declared_form device) =
     ap (λ (ds : List Declared). slice_get ds number) (sym means.devices) ∙ slice_get-map declared_form stack.devices.items number ∙ ap (option_map declared_form) found in
     lines_helped all none number (declared_form device) here (ap (λ (k : Kind). declares_mirror (what_of_kind k)) mirror) (omega (arith, many, length-map device.members.items (λ (m : DevId). m.0)))
 

@@ -12,7 +12,7 @@ use Rattle.stack_base.proofs.ListLemmas.{map_same}
 use Rattle.decl_text.specs.declared.item.What.{What}
 use Rattle.decl_text.specs.declared.item.What.TheVariants as what
 use Rattle.decl_text.specs.Known.{Declared, trees, tree_of, tree_over, device_tree, sectors_of}
-use Rattle.decl_text.proofs.Fits.{first_stay, one_more}
+use Rattle.decl_text.proofs.DeclarationsFit.{first_stay, one_more}
 use Rattle.stack_check.specs.Sound.{what_size}
 use Rattle.stack_check.specs.Rows.{size_with}
 use Rattle.std.proofs.lemmas.Simd.{map-map}

@@ -3,7 +3,7 @@ use Rattle.std.specs.Prelude.{◌≡◌, Bool, true, false, Result, Ok, Err, Non
 use Rattle.stack_base.specs.declared.stack.Stack.{Stack}
 use Rattle.stack_base.specs.Stack.{HasRescuers}
 use Rattle.decl_text.specs.Read.{Read}
-use Rattle.decl_text.specs.Known.{nothing}
+use Rattle.decl_text.specs.Known.{nothing_declared}
 use Rattle.decl_text.specs.Reading.{refusal_of_items, known_of_items}
 use Rattle.decl_text.specs.declared.accepted.Accepted.{Accepted}
 use Rattle.decl_text.specs.declared.reason.ReadFault.{ReadFault}
@@ -18,10 +18,10 @@ HasRescuersAsked false stack = HasRescuers stack
 -- no check refuses a line, and they mean this, with the rescuers that are asked for; or this is the first refusal
 abbrev pub AcceptsBy : Bool → Read → Result Accepted ReadFault → Type 0
 AcceptsBy loose decl (Ok accepted) =
-    (refusal_of_items (checks_for loose) nothing decl.items decl.fault ≡ None)
-    × MeansStack (known_of_items nothing decl.items) accepted.stack accepted.scripts.items
+    (refusal_of_items (checks_for loose) nothing_declared decl.items decl.fault ≡ None)
+    × MeansStack (known_of_items nothing_declared decl.items) accepted.stack accepted.scripts.items
     × HasRescuersAsked loose accepted.stack × (accepted.rest ≡ decl.rest) × (accepted.line ≡ decl.line)
-AcceptsBy loose decl (Err (Refused refusal)) = refusal_of_items (checks_for loose) nothing decl.items decl.fault ≡ Some refusal
+AcceptsBy loose decl (Err (Refused refusal)) = refusal_of_items (checks_for loose) nothing_declared decl.items decl.fault ≡ Some refusal
 AcceptsBy loose decl (Err Memory) = Unit {0}
 
 -- by all checks

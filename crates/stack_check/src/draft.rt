@@ -1,6 +1,6 @@
 //! What the lines so far have declared.
 ghost use Rattle.std.specs.Prelude.{◌≡◌, ◌==◌, ◌+◌, ◌||◌, false, nat_lt};
-ghost use Rattle.decl_text.specs.Known.{nothing};
+ghost use Rattle.decl_text.specs.Known.{nothing_declared};
 ghost use Rattle.decl_text.specs.Read.{IsDeclaration};
 ghost use Rattle.stack_check.specs.Adding.{Adds};
 
@@ -83,7 +83,7 @@ impl<'a> Model for Draft<'a> {
 impl<'a> Draft<'a> {
     /// Nothing.
     pub(crate) fn new(alloc: Global) -> Draft<'a>
-        ensures { result ≡ nothing }
+        ensures { result ≡ nothing_declared }
     {
         Draft {
             devices: Devices::new(alloc),

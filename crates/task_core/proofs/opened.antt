@@ -11,4 +11,4 @@ pub mod Sharing
 pub mod Rounding
 pub mod Setups
 pub mod Opens
-pub mod Rooms
+pub mod LeftCounts

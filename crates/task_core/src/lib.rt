@@ -7,7 +7,7 @@ mod opening;
 mod plain;
 
 pub use ended::Ended;
-pub use opening::objects::{bads_of, is_disk, open_objects};
+pub use opening::objects::{bads_of, keeps_data, open_objects};
 pub use opening::pools::{copy_of, is_mirror, records_of, script_of};
 pub use opening::rounds::open_tally;
 pub use opening::{Opened, drop_tasks, open, open_tasks};

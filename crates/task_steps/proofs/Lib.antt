@@ -1,11 +1,11 @@
-pub mod Landing
+pub mod DevicesReached
 pub mod Waiting
 pub mod StripeSizes
 pub mod Devices
-pub mod Fits
+pub mod StaysWithin
 pub mod TaskStays
 pub mod RouteOf
-pub mod Opening
+pub mod RoutesMade
 pub mod PartsWithin
 pub mod SubmissionHomes
 pub mod TaskHomes

@@ -10,7 +10,7 @@ use Rattle.bio_records.specs.declared.bio.Bio.{Bio}
 use Rattle.task_steps.specs.declared.routes.Route.{Route}
 use Rattle.task_steps.specs.Within.{IsWithinDevice}
 use Rattle.task_steps.specs.Routed.{IsRouted, IsRouteOf, MapOf, map_of, MapHas, IsFirstPiece, IsFirstCut, HasNoFirst}
-use Rattle.task_steps.proofs.Landing.{no_first, piece_there, is_first}
+use Rattle.task_steps.proofs.DevicesReached.{no_first, piece_there, is_first}
 use Rattle.task_steps.proofs.Devices.{goes_by, other_shape}
 
 -- each device has its route

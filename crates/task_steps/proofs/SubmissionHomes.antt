@@ -35,8 +35,8 @@ use Rattle.task_steps.specs.Stage.{Stage, has_book, is_bios, IsHome, IsServed, A
 use Rattle.task_steps.specs.Homes.{IsOwned, WantFits, DoingIsHome, IsSubmissionOf, SubmissionsStayHome}
 use Rattle.task_steps.proofs.Waiting.{BothHave, all_ordered, all_submitted, all_punted, all_unpunted}
 use Rattle.task_steps.proofs.Devices.{cut_is, cut_not_none, mirror_legs}
-use Rattle.task_steps.proofs.Landing.{first_at, lands_within}
-use Rattle.task_steps.proofs.Fits.{settled_fits, parts_within, leg_within}
+use Rattle.task_steps.proofs.DevicesReached.{first_at, lands_within}
+use Rattle.task_steps.proofs.StaysWithin.{settled_fits, parts_within, leg_within}
 
 -- a bio keeps its writer wherever it lands
 pub landed_writer : (t : Tree) (bio : Bio) → (landed t bio).writer ≡ bio.writer

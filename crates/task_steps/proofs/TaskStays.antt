@@ -15,7 +15,7 @@ use Rattle.run_machine.specs.Submissions.{Doing, Rests, Submission}
 use Rattle.run_machine.specs.Tasks.{Todo, Gathered, NoBio, HasBio, HasBoth, Carried, Empty, Brings, Carries, Fails, Duty, Resizes, Starts, Keeping, Keeps, Stops, TaskState, Writer, Rescuer, Completer, Keeper, needs_vector, filled, filled_short, with_bio, write_request, writer_request, rescuer_request, closed_request, carried_request, keeper_request, duty_request, request, begins, write_answered, writer_answered, rescuer_answered, answered}
 use Rattle.run_machine.specs.Requests.{Reply, HadBio, HadVec, Popped, LinkedTo, NoTicket}
 use Rattle.task_steps.specs.Within.{IsWithinDevice, IsItemWithin, SubmissionIsWithin, DoingFits, TaskIsWithin, AskedFits, ReplyFits, TasksStayWithin}
-use Rattle.task_steps.proofs.Fits.{settled_fits, submission_fits, submission_asks}
+use Rattle.task_steps.proofs.StaysWithin.{settled_fits, submission_fits, submission_asks}
 
 -- the writes of a task
 abbrev IsTodo : Stack → Todo → Type 0

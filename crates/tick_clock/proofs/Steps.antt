@@ -16,7 +16,7 @@ use Rattle.tick_clock.specs.declared.ticking.PassRank.TheVariants.{First, Other,
 use Rattle.tick_clock.specs.declared.ticking.Ticket.{Ticket}
 use Rattle.tick_clock.specs.declared.ticking.PassView.{PassView}
 use Rattle.tick_clock.specs.Tickets.{is_first_pass, one_more_pass, last_of, IsRising}
-use Rattle.tick_clock.specs.Ticking.{is_live_pass, first_in, other_in, split_in, first_passes, other_passes, passes_split, passes_joined, all_drawn, IsTidy, IsTicking, spent_view, split_more, fresh_view, joined_with, after_try, ShowsView, TriesToDraw, Looks}
+use Rattle.tick_clock.specs.Ticking.{is_live_pass, first_in, other_in, split_in, first_passes, other_passes, passes_split, passes_joined, all_drawn, IsTidy, IsTicking, spent_pass_view, split_pass_view, fresh_pass_view, joined_pass_view, after_try, ShowsView, TriesToDraw, Looks}
 use Rattle.tick_clock.proofs.Rows.{rises, ends_with}
 use Rattle.tick_clock.proofs.Views.{sum_by-put, put_at, parted, put_shared, one_drawn, drawn-last, join_shared, put_tidy, last_tidy, live_tidy, none_split, all_spent}
 
@@ -32,21 +32,21 @@ width_set (x ∷ words) n h = h
 shows : (s : State ℕ PassView) (id : ℕ) (v : PassView) → IsTicking s → get_elem? s.views id ≡ some v → v.known ≡ slice_index s.words 0 → slice_index s.words 0 < 18446744073709551616 → ShowsView v
 shows s id v rule e found fits = record {
   row = rule.row;
-  elsewhere = all_drawn (set s.views id spent_view);
+  elsewhere = all_drawn (set s.views id spent_pass_view);
   rising = rule.rising;
   ends = found ∙ rule.ends;
   fits = omega (arith, found, fits);
-  parted = IsPermutation-trans rule.row (all_drawn s.views) (v.drawn ++ all_drawn (set s.views id spent_view)) rule.shared (parted s.views id v e);
+  parted = IsPermutation-trans rule.row (all_drawn s.views) (v.drawn ++ all_drawn (set s.views id spent_pass_view)) rule.shared (parted s.views id v e);
   whole = λ first.
-      let at = λ (f : PassView → ℕ). sum_by-put f s.views id v spent_view e in
-      let gone : List PassView = set s.views id spent_view in
+      let at = λ (f : PassView → ℕ). sum_by-put f s.views id v spent_pass_view e in
+      let gone : List PassView = set s.views id spent_pass_view in
       let one : first_passes v ≡ 1 = ap first_in first in
       let split : passes_split v ≡ v.joined = ap split_in first in
       let other : other_passes v ≡ 0 = ap other_in first in
       let no_first : sum_by first_passes gone ≡ 0 = omega (arith, at first_passes, rule.one_first, one) in
       let no_split : sum_by passes_split gone ≡ 0 = none_split gone no_first in
       let no_other : sum_by other_passes gone ≡ 0 = omega (arith, at other_passes, at passes_split, at passes_joined, rule.counted, no_split, split, other) in
-      all_spent (slice_index s.words 0) gone (put_tidy (slice_index s.words 0) s.views id spent_view rule.tidy (omega arith, λ _. refl)) no_first no_other;
+      all_spent (slice_index s.words 0) gone (put_tidy (slice_index s.words 0) s.views id spent_pass_view rule.tidy (omega arith, λ _. refl)) no_first no_other;
 }
 
 -- the word becomes n, which is not less, and one view and the row change
@@ -129,11 +129,11 @@ split_tells (First split) h = (refl, refl, refl, refl)
 split_tells Other h = absurd (false_not h)
 split_tells Spent h = absurd (false_not h)
 
-pub splits : (id : ℕ) (v : PassView) → is_first_pass v.rank ≡ true → Splits IsTicking id v (split_more v) (fresh_view v)
+pub splits : (id : ℕ) (v : PassView) → is_first_pass v.rank ≡ true → Splits IsTicking id v (split_pass_view v) (fresh_pass_view v)
 splits id v first s rule e =
-    let now : List PassView = set s.views id (split_more v) in
-    let at = λ (f : PassView → ℕ). sum_by-put f s.views id v (split_more v) e in
-    let last = λ (f : PassView → ℕ). sum_by-append f now (fresh_view v ∷ []) in
+    let now : List PassView = set s.views id (split_pass_view v) in
+    let at = λ (f : PassView → ℕ). sum_by-put f s.views id v (split_pass_view v) e in
+    let last = λ (f : PassView → ℕ). sum_by-append f now (fresh_pass_view v ∷ []) in
     let tells = split_tells v.rank first in
     let found = (rule.tidy id v e).0 in
     let word : ℕ = slice_index s.words 0 in
@@ -142,8 +142,8 @@ splits id v first s rule e =
       width = rule.width;
       rising = rule.rising;
       ends = rule.ends;
-      shared = subst (IsPermutation rule.row) (sym (drawn-last now (fresh_view v) ∙ append-nil (all_drawn now))) (put_shared rule.row rule.row s.views id v (split_more v) e rule.shared (λ rest p. p));
-      tidy = last_tidy word now (fresh_view v) (put_tidy word s.views id (split_more v) rule.tidy (live_tidy word (split_more v) found tells.3)) (live_tidy word (fresh_view v) found refl);
+      shared = subst (IsPermutation rule.row) (sym (drawn-last now (fresh_pass_view v) ∙ append-nil (all_drawn now))) (put_shared rule.row rule.row s.views id v (split_pass_view v) e rule.shared (λ rest p. p));
+      tidy = last_tidy word now (fresh_pass_view v) (put_tidy word s.views id (split_pass_view v) rule.tidy (live_tidy word (split_pass_view v) found tells.3)) (live_tidy word (fresh_pass_view v) found refl);
       one_first = omega (arith, at first_passes, last first_passes, rule.one_first, tells.0);
       counted = omega (arith, at passes_split, at other_passes, at passes_joined, last passes_split, last other_passes, last passes_joined, rule.counted, tells.1, tells.2);
     }
@@ -153,12 +153,12 @@ other_tells (First split) h live = absurd (false_not (sym h))
 other_tells Other h live = (refl, refl, refl)
 other_tells Spent h live = absurd (false_not live)
 
-pub joins : (id other : ℕ) (v w : PassView) → is_live_pass v.rank ≡ true → is_first_pass w.rank ≡ false → is_live_pass w.rank ≡ true → Joins IsTicking id v other w (joined_with v w) spent_view
+pub joins : (id other : ℕ) (v w : PassView) → is_live_pass v.rank ≡ true → is_first_pass w.rank ≡ false → is_live_pass w.rank ≡ true → Joins IsTicking id v other w (joined_pass_view v w) spent_pass_view
 joins id other v w live plain alive s rule e apart e' =
-    let u : PassView = joined_with v w in
+    let u : PassView = joined_pass_view v w in
     let now : List PassView = set s.views id u in
     let at = λ (f : PassView → ℕ). sum_by-put f s.views id v u e in
-    let gone = λ (f : PassView → ℕ). sum_by-put f now other w spent_view e' in
+    let gone = λ (f : PassView → ℕ). sum_by-put f now other w spent_pass_view e' in
     let tells = other_tells w.rank plain alive in
     let word : ℕ = slice_index s.words 0 in
     let theirs : get_elem? s.views other ≡ some w = sym (set_else s.views id other u apart) ∙ e' in
@@ -168,7 +168,7 @@ joins id other v w live plain alive s rule e apart e' =
       rising = rule.rising;
       ends = rule.ends;
       shared = join_shared rule.row s.views id other v w u e apart e' refl rule.shared;
-      tidy = put_tidy word now other spent_view (put_tidy word s.views id u rule.tidy (live_tidy word u (omega (arith, (rule.tidy id v e).0, (rule.tidy other w theirs).0)) live)) (omega arith, λ _. refl);
+      tidy = put_tidy word now other spent_pass_view (put_tidy word s.views id u rule.tidy (live_tidy word u (omega (arith, (rule.tidy id v e).0, (rule.tidy other w theirs).0)) live)) (omega arith, λ _. refl);
       one_first = omega (arith, at first_passes, gone first_passes, rule.one_first, tells.0);
       counted = omega (arith, at passes_split, at other_passes, at passes_joined, gone passes_split, gone other_passes, gone passes_joined, rule.counted, tells.1, tells.2);
     }

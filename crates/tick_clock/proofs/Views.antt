@@ -11,7 +11,7 @@ use Rattle.tick_clock.specs.declared.ticking.PassRank.{PassRank}
 use Rattle.tick_clock.specs.declared.ticking.PassRank.TheVariants.{First, Other, Spent}
 use Rattle.tick_clock.specs.declared.ticking.Ticket.{Ticket}
 use Rattle.tick_clock.specs.declared.ticking.PassView.{PassView}
-use Rattle.tick_clock.specs.Ticking.{is_live_pass, first_in, other_in, split_in, first_passes, other_passes, passes_split, all_drawn, IsTidy, spent_view}
+use Rattle.tick_clock.specs.Ticking.{is_live_pass, first_in, other_in, split_in, first_passes, other_passes, passes_split, all_drawn, IsTidy, spent_pass_view}
 
 -- one view changes
 pub sum_by-put : (f : PassView → ℕ) (vs : List PassView) (i : ℕ) (v w : PassView) → get_elem? vs i ≡ some v → sum_by f (set vs i w) + f v ≡ sum_by f vs + f w
@@ -31,12 +31,12 @@ first_two_swapped xs ys zs =
     (subst (λ l. IsPermutation l ((ys ++ xs) ++ zs)) (append_assoc xs ys zs) (IsPermutation-append_left zs (xs ++ ys) (ys ++ xs) (IsPermutation-append_comm xs ys)))
 
 -- all tickets are those of one view and those of the others
-pub parted : (vs : List PassView) (i : ℕ) (v : PassView) → get_elem? vs i ≡ some v → IsPermutation (all_drawn vs) (v.drawn ++ all_drawn (set vs i spent_view))
+pub parted : (vs : List PassView) (i : ℕ) (v : PassView) → get_elem? vs i ≡ some v → IsPermutation (all_drawn vs) (v.drawn ++ all_drawn (set vs i spent_pass_view))
 parted [] i v e = absurd (some-ne-none v (sym e))
 parted (u ∷ vs) zero v e =
     subst (λ (w : PassView). IsPermutation (u.drawn ++ all_drawn vs) (w.drawn ++ all_drawn vs)) (some-injective u v e) (IsPermutation-refl (u.drawn ++ all_drawn vs))
 parted (u ∷ vs) (suc i) v e =
-    let rest : List Ticket = all_drawn (set vs i spent_view) in
+    let rest : List Ticket = all_drawn (set vs i spent_pass_view) in
     IsPermutation-trans (u.drawn ++ all_drawn vs) (u.drawn ++ (v.drawn ++ rest)) (v.drawn ++ (u.drawn ++ rest))
     (IsPermutation-append_right u.drawn (all_drawn vs) (v.drawn ++ rest) (parted vs i v e))
     (first_two_swapped u.drawn v.drawn rest)
@@ -45,10 +45,10 @@ parted (u ∷ vs) (suc i) v e =
 pub put_shared : (row now : List Ticket) (vs : List PassView) (i : ℕ) (v w : PassView) → get_elem? vs i ≡ some v → IsPermutation row (all_drawn vs)
     → ((rest : List Ticket) → IsPermutation row (v.drawn ++ rest) → IsPermutation now (w.drawn ++ rest)) → IsPermutation now (all_drawn (set vs i w))
 put_shared row now vs i v w e shared step =
-    let rest : List Ticket = all_drawn (set vs i spent_view) in
+    let rest : List Ticket = all_drawn (set vs i spent_pass_view) in
     let before : IsPermutation row (v.drawn ++ rest) = IsPermutation-trans row (all_drawn vs) (v.drawn ++ rest) shared (parted vs i v e) in
     let after : IsPermutation (all_drawn (set vs i w)) (w.drawn ++ rest) =
-    subst (λ l. IsPermutation (all_drawn (set vs i w)) (w.drawn ++ all_drawn l)) (set-set vs i w spent_view) (parted (set vs i w) i w (put_at vs i v w e)) in
+    subst (λ l. IsPermutation (all_drawn (set vs i w)) (w.drawn ++ all_drawn l)) (set-set vs i w spent_pass_view) (parted (set vs i w) i w (put_at vs i v w e)) in
     IsPermutation-trans now (w.drawn ++ rest) (all_drawn (set vs i w)) (step rest before) (IsPermutation-sym (all_drawn (set vs i w)) (w.drawn ++ rest) after)
 
 -- the row and a view have one ticket more
@@ -68,19 +68,19 @@ drawn-last (u ∷ vs) v = ap (λ l. u.drawn ++ l) (drawn-last vs v) ∙ sym (app
 
 -- a view takes in the tickets of another
 pub join_shared : (row : List Ticket) (vs : List PassView) (i j : ℕ) (v w u : PassView) → get_elem? vs i ≡ some v → j ≢ i → get_elem? (set vs i u) j ≡ some w
-    → u.drawn ≡ v.drawn ++ w.drawn → IsPermutation row (all_drawn vs) → IsPermutation row (all_drawn (set (set vs i u) j spent_view))
+    → u.drawn ≡ v.drawn ++ w.drawn → IsPermutation row (all_drawn vs) → IsPermutation row (all_drawn (set (set vs i u) j spent_pass_view))
 join_shared row vs i j v w u e apart e' both shared =
-    let one : List PassView = set vs i spent_view in
-    let rest : List Ticket = all_drawn (set one j spent_view) in
-    let last : List PassView = set (set vs i u) j spent_view in
-    let other : get_elem? one j ≡ some w = set_else vs i j spent_view apart ∙ sym (set_else vs i j u apart) ∙ e' in
+    let one : List PassView = set vs i spent_pass_view in
+    let rest : List Ticket = all_drawn (set one j spent_pass_view) in
+    let last : List PassView = set (set vs i u) j spent_pass_view in
+    let other : get_elem? one j ≡ some w = set_else vs i j spent_pass_view apart ∙ sym (set_else vs i j u apart) ∙ e' in
     let before : IsPermutation row (v.drawn ++ (w.drawn ++ rest)) =
     IsPermutation-trans row (v.drawn ++ all_drawn one) (v.drawn ++ (w.drawn ++ rest))
     (IsPermutation-trans row (all_drawn vs) (v.drawn ++ all_drawn one) shared (parted vs i v e))
     (IsPermutation-append_right v.drawn (all_drawn one) (w.drawn ++ rest) (parted one j w other)) in
-    let here : get_elem? last i ≡ some u = set_else (set vs i u) j i spent_view (λ s. apart (sym s)) ∙ put_at vs i v u e in
-    let same : set last i spent_view ≡ set one j spent_view =
-    set_comm (set vs i u) j i spent_view spent_view apart ∙ ap (λ l. set l j spent_view) (set-set vs i u spent_view) in
+    let here : get_elem? last i ≡ some u = set_else (set vs i u) j i spent_pass_view (λ s. apart (sym s)) ∙ put_at vs i v u e in
+    let same : set last i spent_pass_view ≡ set one j spent_pass_view =
+    set_comm (set vs i u) j i spent_pass_view spent_pass_view apart ∙ ap (λ l. set l j spent_pass_view) (set-set vs i u spent_pass_view) in
     let after : IsPermutation (all_drawn last) (u.drawn ++ rest) = subst (λ l. IsPermutation (all_drawn last) (u.drawn ++ all_drawn l)) same (parted last i u here) in
     let joined : u.drawn ++ rest ≡ v.drawn ++ (w.drawn ++ rest) = ap (λ l. l ++ rest) both ∙ append_assoc v.drawn w.drawn rest in
     IsPermutation-trans row (u.drawn ++ rest) (all_drawn last)

@@ -69,22 +69,22 @@ pub record IsTicking (s : State ℕ PassView) : Type 0 where
   pub counted : sum_by passes_split s.views ≡ sum_by other_passes s.views + sum_by passes_joined s.views
 
 -- the views of a first pass as it is made, and of a pass that was joined into another
-abbrev pub first_view : PassView
-first_view = record { rank = First 0; joined = 0; known = 0; drawn = [] }
+abbrev pub first_pass_view : PassView
+first_pass_view = record { rank = First 0; joined = 0; known = 0; drawn = [] }
 
-abbrev pub spent_view : PassView
-spent_view = record { rank = Spent; joined = 0; known = 0; drawn = [] }
+abbrev pub spent_pass_view : PassView
+spent_pass_view = record { rank = Spent; joined = 0; known = 0; drawn = [] }
 
 -- a pass is split off: the first one's view, and that of the pass
-abbrev pub split_more : PassView → PassView
-split_more v = record v { rank = one_more_pass v.rank }
+abbrev pub split_pass_view : PassView → PassView
+split_pass_view v = record v { rank = one_more_pass v.rank }
 
-abbrev pub fresh_view : PassView → PassView
-fresh_view v = record { rank = Other; joined = 0; known = v.known; drawn = [] }
+abbrev pub fresh_pass_view : PassView → PassView
+fresh_pass_view v = record { rank = Other; joined = 0; known = v.known; drawn = [] }
 
 -- a pass takes another in, and has found what both had found
-abbrev pub joined_with : PassView → PassView → PassView
-joined_with v w = record { rank = v.rank; joined = v.joined + w.joined + 1; known = max v.known w.known; drawn = v.drawn ++ w.drawn }
+abbrev pub joined_pass_view : PassView → PassView → PassView
+joined_pass_view v w = record { rank = v.rank; joined = v.joined + w.joined + 1; known = max v.known w.known; drawn = v.drawn ++ w.drawn }
 
 -- what a draw announces: the greatest ticket that the pass and the note had seen
 abbrev pub said_of : option.Option ℕ → ℕ

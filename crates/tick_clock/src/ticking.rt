@@ -1,5 +1,5 @@
 //! The rule of a clock's table, and its kinds of step: a draw, the split of a pass, the join of a pass, and the look after it.
-ghost use Rattle.tick_clock.specs.Ticking.{IsTicking, first_view, TriesToDraw, Looks, split_more, fresh_view, joined_with, spent_view};
+ghost use Rattle.tick_clock.specs.Ticking.{IsTicking, first_pass_view, TriesToDraw, Looks, split_pass_view, fresh_pass_view, joined_pass_view, spent_pass_view};
 
 use atomic_table::{Join, Play, Split, TableRule};
 use std::collections::LinkedList;
@@ -37,7 +37,7 @@ pub struct Ticking;
 impl TableRule<u64, PassView, ()> for Ticking {
     ghost holds = { λ _. IsTicking };
 
-    ghost first = { λ _. first_view };
+    ghost first = { λ _. first_pass_view };
 }
 
 /// A pass draws a ticket, or finds that another was drawn. The step announces what the pass and the note had seen.
@@ -58,16 +58,16 @@ impl Play<u64, PassView> for Look {
 pub struct SplitPass;
 
 impl Split<PassView> for SplitPass {
-    ghost left = { split_more };
+    ghost left = { split_pass_view };
 
-    ghost right = { fresh_view };
+    ghost right = { fresh_pass_view };
 }
 
 /// A pass takes another in, which is spent.
 pub struct JoinPass;
 
 impl Join<PassView> for JoinPass {
-    ghost both = { joined_with };
+    ghost both = { joined_pass_view };
 
-    ghost spent = { spent_view };
+    ghost spent = { spent_pass_view };
 }

@@ -6,7 +6,7 @@ use Rattle.std.proofs.lemmas.Slice.Eq.{bytes_eq-Decides}
 use Rattle.decl_text.specs.Checks.{bad_word}
 use Rattle.decl_text.specs.Commands.{command_of}
 use Rattle.decl_text.specs.Items.{malformed, said}
-use Rattle.decl_text.specs.Known.{Declarations, after_line, nothing}
+use Rattle.decl_text.specs.Known.{Declarations, after_line, nothing_declared}
 use Rattle.decl_text.specs.Reading.{NonePass}
 use Rattle.decl_text.specs.Refusals.{Check, check, line_checks, line_reason, refusal, refused}
 use Rattle.decl_text.specs.Stands.{stand_of, misplaced}
@@ -40,5 +40,5 @@ lines_none checks known number (line ∷ left) none =
 
 pub none_told_of : AcceptedTextsTellNoEvent
 none_told_of text (loose, fine) =
-    lines_none (checks_by loose) nothing 1 (lines text)
-    (cond_none (nat_lt most_bytes (length text)) (refused 0 TooLong) (refusal (checks_by loose) nothing 1 (lines text)) fine).1
+    lines_none (checks_by loose) nothing_declared 1 (lines text)
+    (cond_none (nat_lt most_bytes (length text)) (refused 0 TooLong) (refusal (checks_by loose) nothing_declared 1 (lines text)) fine).1

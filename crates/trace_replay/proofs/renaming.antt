@@ -8,6 +8,6 @@ pub mod Objects
 pub mod Serving
 pub mod Stepping
 pub mod Marking
-pub mod Room
+pub mod PlacesForNodes
 pub mod Runs
 pub mod NextPlaces

@@ -7,7 +7,7 @@ use Rattle.std.proofs.lemmas.Bool.Decides.{nat_tests}
 use Rattle.std.proofs.lemmas.Fmt.{length-decimal-le}
 use Rattle.stack_base.proofs.ListLemmas.{Each}
 use Rattle.decl_text.specs.Text.{lines, most_bytes}
-use Rattle.decl_text.specs.Known.{nothing}
+use Rattle.decl_text.specs.Known.{nothing_declared}
 use Rattle.decl_text.specs.Items.{number}
 use Rattle.decl_text.specs.Refusals.{refusal, refused}
 use Rattle.decl_text.specs.declared.reason.Reason.TheVariants.{TooLong}
@@ -269,7 +269,7 @@ module _ (number : ℕ) where
           (word_by (codes "memory") refl, (word_by (codes "none") refl, tt)) (memory m0 m1 m2 m3 c0 c1) ∙ behind_declarations true 13
 
   -- the declarations, one behind the other
-  none_refused : refusal all_checks nothing 1 (map body_of (generated_lines number)) ≡ None
+  none_refused : refusal all_checks nothing_declared 1 (map body_of (generated_lines number)) ≡ None
   none_refused =
       let short = declarations_short number g in
       let rest = map body_of (memory_words number ++ writes g) in
@@ -292,7 +292,7 @@ module _ (number : ℕ) where
       let rest1 = body_of (disk_words (codes "d1")) ∷ rest2 in
       let longest = λ (w : Lcg). (longest_some w).0 in
       let full = λ (w : Lcg). not_zero (stripe_of (decimal (chunk_in w))) (stripe_least w) in
-      one_line nothing 1 (disk_words (codes "d0")) rest1 (disk_item (codes "d0")) short.0.0.0 disk0
+      one_line nothing_declared 1 (disk_words (codes "d0")) rest1 (disk_item (codes "d0")) short.0.0.0 disk0
       ∙ one_line k1 2 (disk_words (codes "d1")) rest2 (disk_item (codes "d1")) short.1.0.0.0 disk1
       ∙ one_line k2 3 (disk_words (codes "d2")) rest3 (disk_item (codes "d2")) short.1.1.0.0.0 disk2
       ∙ one_line k3 4 (disk_words (codes "d3")) rest4 (disk_item (codes "d3")) short.1.1.1.0.0.0 disk3
@@ -307,5 +307,5 @@ module _ (number : ℕ) where
 
 pub never_refused : NoGeneratedTextIsRefused
 never_refused number =
-    ap (λ long. if long then Some (refused 0 TooLong) else refusal all_checks nothing 1 (lines (generated number))) (le-ltb most_bytes (length (generated number)) (is_short number))
-    ∙ ap (refusal all_checks nothing 1) (text_lines (generated_lines number) (are_lines number)) ∙ none_refused number
+    ap (λ long. if long then Some (refused 0 TooLong) else refusal all_checks nothing_declared 1 (lines (generated number))) (le-ltb most_bytes (length (generated number)) (is_short number))
+    ∙ ap (refusal all_checks nothing_declared 1) (text_lines (generated_lines number) (are_lines number)) ∙ none_refused number

@@ -5,7 +5,7 @@ use Rattle.std.proofs.lemmas.Bool.{le-leb}
 use Rattle.decl_text.specs.Text.{is_name, number_of, words}
 use Rattle.decl_text.specs.Items.{malformed, meaning, misnumbered, number, said}
 use Rattle.decl_text.specs.Commands.{command_of}
-use Rattle.decl_text.specs.Known.{Declarations, after, nothing}
+use Rattle.decl_text.specs.Known.{Declarations, after, nothing_declared}
 use Rattle.decl_text.specs.Stands.{misplaced, stand_of}
 use Rattle.decl_text.specs.Refusals.{first_found, line_reason, refusal}
 use Rattle.decl_text.specs.declared.item.Item.{Item}
@@ -60,7 +60,7 @@ abbrev pub stripe_line : List ℕ → List ℕ → List ℕ → List ℕ → Lis
 stripe_line name first second chunk = codes "stripe" ∷ name ∷ (codes "chunk=" ++ chunk) ∷ first ∷ second ∷ []
 
 abbrev pub k1 : Declarations
-k1 = after nothing (disk_item (codes "d0"))
+k1 = after nothing_declared (disk_item (codes "d0"))
 
 abbrev pub k2 : Declarations
 k2 = after k1 (disk_item (codes "d1"))
@@ -71,7 +71,7 @@ k3 = after k2 (disk_item (codes "d2"))
 abbrev pub k4 : Declarations
 k4 = after k3 (disk_item (codes "d3"))
 
-pub disk0 : Fine nothing (disk_words (codes "d0")) (disk_item (codes "d0"))
+pub disk0 : Fine nothing_declared (disk_words (codes "d0")) (disk_item (codes "d0"))
 unfolding first_found command_of is_name meaning number_of over_shape size_of smallest
 disk0 = record { formed = refl; placed = refl; numbered = refl; meant = refl; unfound = refl }
 

@@ -3,7 +3,7 @@ use Rattle.std.proofs.Common.{◌≡◌, List, [], ◌∷◌, ℕ, Option, Some,
 use Rattle.std.specs.Option.{option_or}
 use Rattle.decl_text.specs.Text.{words}
 use Rattle.decl_text.specs.Items.{said}
-use Rattle.decl_text.specs.Known.{Declarations, after_line, nothing}
+use Rattle.decl_text.specs.Known.{Declarations, after_line, nothing_declared}
 use Rattle.decl_text.specs.Stands.{stand_of}
 use Rattle.decl_text.specs.declared.stand.Stand.{Stand}
 use Rattle.decl_text.specs.declared.stand.Stand.TheVariants as stand
@@ -17,7 +17,7 @@ use Rattle.work_text.specs.Lines.{AddsWork, HasSectors, ReadsLine, CanStandAt, I
 use Rattle.work_text.specs.Work.{all_checks}
 use Rattle.work_text.specs.declared.told.Told.{Told}
 use Rattle.work_text.proofs.Rests.{IsPaired, step}
-use Rattle.work_text.proofs.Saying.{Works}
+use Rattle.work_text.proofs.WorkLines.{Works}
 
 -- a line that is wrong
 told_fault : (known : Declarations) (line : List ℕ) (fault : LineFault) → SaysBehind known line (Err fault) → TellsIn known line (Err fault)
@@ -58,9 +58,9 @@ read_some before line behind told (Err (Wrong r)) tells adds = reason_of before 
 
 -- something by which a line stands there
 known_at : Stand → Declarations
-known_at stand.Front = nothing
-known_at stand.BehindSync = record nothing { syncs = 1 }
-known_at stand.BehindWrite = record nothing { writes = record { task = 0; dev = 0; start = 0; count = 1; tag = 0 } ∷ []; rounds = 0 ∷ [] }
+known_at stand.Front = nothing_declared
+known_at stand.BehindSync = record nothing_declared { syncs = 1 }
+known_at stand.BehindWrite = record nothing_declared { writes = record { task = 0; dev = 0; start = 0; count = 1; tag = 0 } ∷ []; rounds = 0 ∷ [] }
 
 stands_so : (s : Stand) → stand_of (known_at s) ≡ s
 unfolding known_at

@@ -21,7 +21,7 @@ use Rattle.work_text.specs.Work.{all_checks, checks_by}
 use Rattle.work_text.specs.Whole.{work_of}
 use Rattle.work_text.specs.Lines.{CanStand}
 use Rattle.work_text.proofs.Rounds.{of_round, of_round_push}
-use Rattle.work_text.proofs.Saying.{Begins, Works, said_begins, said_begun, said_works}
+use Rattle.work_text.proofs.WorkLines.{Begins, Works, said_begins, said_begun, said_works}
 
 -- the same but for the work
 abbrev pub with_work : Declarations → Declarations → Declarations

@@ -14,7 +14,7 @@ use Rattle.decl_text.specs.Refusals.{check, said_reason}
 use Rattle.decl_text.specs.declared.item.Item.{Item}
 use Rattle.decl_text.specs.declared.item.Item.TheVariants as item
 use Rattle.decl_text.specs.declared.reason.Reason.TheVariants as reason
-use Rattle.decl_text.proofs.Fits.{Pushed, before, last, pushed}
+use Rattle.decl_text.proofs.DeclarationsFit.{Pushed, before, last, pushed}
 use Rattle.decl_text.proofs.Unrefused.{finds_nothing, kept_behind, line_passes}
 use Rattle.work_text.specs.Work.{all_checks, known_of}
 use Rattle.work_text.specs.Whole.{RoundsAreApart}

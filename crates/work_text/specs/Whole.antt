@@ -4,7 +4,7 @@ use Rattle.fail_script.specs.Script.{Answers}
 use Rattle.stack_base.specs.declared.ids.PoolId.{PoolId}
 use Rattle.stack_base.specs.declared.stack.Stack.{Stack}
 use Rattle.decl_text.specs.Text.{lines, most_bytes}
-use Rattle.decl_text.specs.Known.{Declarations, Written, nothing}
+use Rattle.decl_text.specs.Known.{Declarations, Written, nothing_declared}
 use Rattle.decl_text.specs.Checks.{shares}
 use Rattle.decl_text.specs.Refusals.{refusal, refused, known_after}
 use Rattle.decl_text.specs.Read.{Read}
@@ -16,25 +16,25 @@ use Rattle.work_text.specs.Work.{all_checks, checks_by, known_of}
 
 -- a text that is too long is refused as a whole, and another by its first line that is refused, where all checks are made or the loose ones
 abbrev pub text_refusal_by : Bool → List ℕ → Option Refusal
-text_refusal_by loose text = if nat_lt most_bytes (length text) then Some (refused 0 TooLong) else refusal (checks_by loose) nothing 1 (lines text)
+text_refusal_by loose text = if nat_lt most_bytes (length text) then Some (refused 0 TooLong) else refusal (checks_by loose) nothing_declared 1 (lines text)
 
 abbrev pub text_refusal : List ℕ → Option Refusal
 text_refusal text = text_refusal_by false text
 
 -- what a text declares, and its writes
 abbrev pub known_of_text : List ℕ → Declarations
-known_of_text text = known_after nothing (lines text)
+known_of_text text = known_after nothing_declared (lines text)
 
 -- the devices that are known, and the work
 abbrev pub work_of : Declarations → Declarations
 work_of known =
-    record nothing { devices = known.devices; writes = known.writes; rounds = known.rounds; syncs = known.syncs; resizes = known.resizes }
+    record nothing_declared { devices = known.devices; writes = known.writes; rounds = known.rounds; syncs = known.syncs; resizes = known.resizes }
 
 -- the declarations were read, and are refused so: so is the text
 abbrev pub DeclarationsRefuse : Type 0
 DeclarationsRefuse =
     (loose : Bool) (text : List ℕ) (read : Read) (first : Refusal) → length text ≤ most_bytes → IsReadDecl text read
-    → refusal_of_items (checks_for loose) nothing read.items read.fault ≡ Some first → text_refusal_by loose text ≡ Some first
+    → refusal_of_items (checks_for loose) nothing_declared read.items read.fault ≡ Some first → text_refusal_by loose text ≡ Some first
 
 -- They are not, and mean this stack and these scripts: the rest of the text decides, by this stack. No line of it declares a device, so none
 -- lacks a rescuer: all checks refuse it so, and the loose ones too.
@@ -49,7 +49,7 @@ pub record RestDecides (loose : Bool) (text : List ℕ) (read : Read) (stack : S
 abbrev pub RestsDecide : Type 0
 RestsDecide =
     (loose : Bool) (text : List ℕ) (read : Read) (stack : Stack) (scripts : List (PoolId × Answers)) → length text ≤ most_bytes → IsReadDecl text read
-    → refusal_of_items (checks_for loose) nothing read.items read.fault ≡ None → MeansStack (known_of_items nothing read.items) stack scripts
+    → refusal_of_items (checks_for loose) nothing_declared read.items read.fault ≡ None → MeansStack (known_of_items nothing_declared read.items) stack scripts
     → RestDecides loose text read stack scripts
 
 -- two writes of one round to one device have no sector in common, among the writes of lines of which none is refused

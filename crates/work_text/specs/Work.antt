@@ -8,7 +8,7 @@ use Rattle.work_text.specs.declared.Resize.{Resize}
 use Rattle.work_text.specs.declared.Work.{Work}
 use Rattle.layout_model.specs.Need.{needed, vectors}
 use Rattle.layout_model.specs.Bound.{IsBound, most_elements}
-use Rattle.decl_text.specs.Known.{Declarations, Declared, Change, Written, nothing, number_in, tree_of}
+use Rattle.decl_text.specs.Known.{Declarations, Declared, Change, Written, nothing_declared, number_in, tree_of}
 use Rattle.decl_text.specs.Accepting.{checks_for, shown_devices}
 use Rattle.decl_text.specs.Refusals.{Check, check}
 use Rattle.decl_text.specs.declared.reason.Reason.TheVariants.{TooMuchWork}
@@ -52,7 +52,7 @@ all_checks = checks_by false
 
 -- what an accepted stack tells of the lines before the writes
 abbrev pub known_of : Stack → Declarations
-known_of stack = record nothing { devices = shown_devices stack }
+known_of stack = record nothing_declared { devices = shown_devices stack }
 
 -- the entries of all scripts
 abbrev pub all_entries : List (PoolId × Answers) → ℕ

@@ -17,10 +17,10 @@ use Rattle.layout_model.proofs.PlanLaws.{trees_are_sound}
 use Rattle.decl_text.specs.Accepting.{what_of_kind}
 use Rattle.decl_text.specs.Fit.{HasReserves as FitReserves, IsReserve}
 use Rattle.decl_text.proofs.FewEntries.{entries_few}
-use Rattle.decl_text.proofs.Fits.{accepted_fit}
+use Rattle.decl_text.proofs.DeclarationsFit.{accepted_fit}
 use Rattle.work_text.specs.Work.{last_round}
 use Rattle.work_text.specs.declared.Resize.{Resize}
-use Rattle.work_text.proofs.Fit.{work_is_fit}
+use Rattle.work_text.proofs.WorkFits.{work_is_fit}
 use Rattle.run_machine.specs.Opened.{Change}
 use Rattle.run_machine.specs.Scenario.{change_of}
 use Rattle.block_core.specs.Runnable.{AcceptedTextsAreRunnable, StepsFitIn24Bits}

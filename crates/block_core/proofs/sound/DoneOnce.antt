@@ -12,7 +12,7 @@ use Rattle.run_machine.specs.Submissions.{Takes, WantsPunt, Links, ToPush, ToCut
 use Rattle.run_machine.specs.Tasks.{Completer, Todo, Carried, Empty, Brings, Carries, Fails}
 use Rattle.run_machine.specs.Runs.{State}
 use Rattle.block_core.specs.Weights.{Weight, total_weight, one_if_same}
-use Rattle.block_core.proofs.sound.Sayings.{none_told}
+use Rattle.block_core.proofs.sound.DoneAndRoundEvents.{none_told}
 use Rattle.block_core.proofs.moves.Moves.{Move, IsTaking, place_of, Can, after, TellsNode, Releases}
 use Rattle.block_core.proofs.moves.Moves as moves
 use Rattle.run_machine.specs.declared.event.What.{What}

@@ -39,7 +39,7 @@ use Rattle.block_core.proofs.start.TallyAtStart.{keeper_place, start_tallied, un
 use Rattle.block_core.proofs.status.Statuses.{start_told, start_staged, stage_within}
 use Rattle.block_core.proofs.moves.Totals.{within}
 use Rattle.block_core.proofs.images.EndedRuns.{zero_at}
-use Rattle.block_core.proofs.sound.Sayings.{IsOther, EventSays, says, asks_done, asks_round, tally_stays, done_tally, round_tally}
+use Rattle.block_core.proofs.sound.DoneAndRoundEvents.{IsOther, EventSays, says, asks_done, asks_round, tally_stays, done_tally, round_tally}
 
 -- the weight of a write in stage
 begins_worth : (w : ℕ) (ts : List Todo) → to_begin w ts ≡ all_worth (λ n. one_if_same n w) ts

@@ -29,7 +29,7 @@ use Rattle.run_machine.specs.Runs.{State, Steps, IsRun}
 use Rattle.run_machine.proofs.Frames.{one_object_changes}
 use Rattle.block_core.specs.Touches.{is_master}
 use Rattle.block_core.specs.KeptEnds.{ends_after, ends_told, KeepsFailure, KeepsMark, KeepsEnds, EndsAreKept}
-use Rattle.block_core.proofs.sound.Sayings.{none_told}
+use Rattle.block_core.proofs.sound.DoneAndRoundEvents.{none_told}
 use Rattle.block_core.proofs.moves.Sums.{upd-same, upd-other, same_or_not, within_book}
 use Rattle.block_core.proofs.moves.Deltas.{vacant_at}
 

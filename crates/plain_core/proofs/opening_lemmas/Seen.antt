@@ -9,7 +9,7 @@ use Rattle.stack_base.specs.PoolId.{pool_number}
 use Rattle.mempool_core.specs.Facts.{AddsUp}
 use Rattle.mempool_core.specs.declared.Facts.{Facts}
 use Rattle.mempool_core.specs.Move.{PoolState, opened}
-use Rattle.decl_text.proofs.Fits.{accepted_fit}
+use Rattle.decl_text.proofs.DeclarationsFit.{accepted_fit}
 use Rattle.task_core.specs.declared.opening.Opened.{Opened}
 use Rattle.run_machine.specs.Events.{pool_of}
 use Rattle.run_machine.specs.Objects.{Objects}

@@ -16,7 +16,7 @@ use crate::opening::{MOST_POOLS, MOST_WRITERS};
 use fail_script::Script;
 use stack_base::{DevId, PoolId, Stack};
 use std::alloc::{AllocError, Global};
-use task_core::{Routes, bads_of, is_disk, open_tally, pool_of, records_of, script_of};
+use task_core::{Routes, bads_of, keeps_data, open_tally, pool_of, records_of, script_of};
 
 // The reserve of a pool, of which a device that the stack does not have has none.
 fn reserve_of(stack: &Stack, pool: PoolId) -> u32
@@ -81,7 +81,7 @@ fn open_disk(
     requires device { dev.0 < length stack.now.devices.items }
     ensures { IfOk result (λ disk. disk ≡ new_disk stack.now dev.0) }
 {
-    if !is_disk(routes, dev) {
+    if !keeps_data(routes, dev) {
         return Ok(None);
     }
     Ok(Some(Disk::open(alloc, dev, stack.size(dev), bads_of(stack, dev))?))

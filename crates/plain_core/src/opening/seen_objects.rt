@@ -14,7 +14,7 @@ use crate::opening::objects::{open_books, open_rescues};
 use fail_script::Script;
 use stack_base::{DevId, PoolId};
 use std::alloc::{AllocError, Global};
-use task_core::{Opened, Routes, Tally, copy_of, is_disk, is_mirror, pool_of};
+use task_core::{Opened, Routes, Tally, copy_of, is_mirror, keeps_data, pool_of};
 
 // Whether a pool is one of the stack that was opened.
 fn has_pool(opened: &Opened, routes: &Routes, pool: PoolId) -> bool
@@ -24,7 +24,7 @@ fn has_pool(opened: &Opened, routes: &Routes, pool: PoolId) -> bool
     match pool {
         PoolId::FsBios => true,
         PoolId::FsVecs => true,
-        PoolId::Bios(dev) => dev.0 < routes.count() && !is_disk(routes, dev),
+        PoolId::Bios(dev) => dev.0 < routes.count() && !keeps_data(routes, dev),
         PoolId::Records(dev) => dev.0 < routes.count() && is_mirror(routes, dev),
     }
 }
@@ -73,7 +73,7 @@ fn disk_seen(
     requires device { dev.0 < length (scenario_in opened.now).stack.devices.items }
     ensures { IfOk result (λ disk. disk ≡ new_disk (scenario_in opened.now).stack dev.0) }
 {
-    if !is_disk(routes, dev) {
+    if !keeps_data(routes, dev) {
         return Ok(None);
     }
     let disk = opened.objects.disk(dev);

@@ -10,7 +10,7 @@ use Rattle.std.proofs.lemmas.List.Sorted.{Contains-permutation, IsPermutation-ap
 use Rattle.run_merge.specs.declared.heads.Head.{Head}
 use Rattle.run_merge.specs.Heads.{TakesHead, IsTournamentAt, winner_of, head_at, node_head, rest, rows}
 use Rattle.run_merge.specs.Joining.{IsJoinedByTicket, all_in}
-use Rattle.run_merge.proofs.tournament.Rest.{rest_taken}
+use Rattle.run_merge.proofs.tournament.ListRests.{rest_taken}
 use Rattle.run_merge.proofs.tournament.Winner.{IsFirst, first_is, nothing_left}
 
 -- from which place on each list is left

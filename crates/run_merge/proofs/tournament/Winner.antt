@@ -7,7 +7,7 @@ use Rattle.std.proofs.lemmas.Bool.{ltb-false, ltb-true}
 use Rattle.std.proofs.lemmas.Option.{none-some, slice_get_cases, slice_get-get_or, get_or_from_slice_get}
 use Rattle.run_merge.specs.declared.heads.Head.{Head}
 use Rattle.run_merge.specs.Heads.{IsTournamentAt, ticketed_head, winner_of, head_at, is_before, no_head, node_head, rest, smaller, ticket_in, with_ticket}
-use Rattle.run_merge.proofs.tournament.Rest.{left_is, none_left}
+use Rattle.run_merge.proofs.tournament.ListRests.{left_is, none_left}
 
 -- no ticket is behind any, and else the smaller one is not behind
 abbrev pub IsNotBefore : Option ℕ → Option ℕ → Type 0

@@ -13,7 +13,7 @@ use Rattle.stack_base.specs.Tree.{shape_of, tree}
 use Rattle.layout_model.proofs.ByShape.{cuts_is, copies_is}
 use Rattle.decl_text.specs.Accepting.{what_of_kind}
 use Rattle.decl_text.specs.Fit.{HasReserves, IsFitStack}
-use Rattle.decl_text.proofs.Fits.{accepted_fit}
+use Rattle.decl_text.proofs.DeclarationsFit.{accepted_fit}
 use Rattle.run_machine.specs.Submissions.{rests}
 use Rattle.run_machine.specs.Opened.{Scenario, device_at, duties, is_by, keepers, most_writers, setup_in, opened_tasks, todos, todos_of, writers}
 use Rattle.run_machine.specs.Scene.{is_device, is_disk, keeps_data, rescuer_at}

@@ -26,7 +26,7 @@ use Rattle.decl_text.specs.declared.accepted.Accepted.{Accepted}
 use Rattle.work_text.specs.Fit.{IsFitWork, IsPoolIn}
 use Rattle.work_text.specs.declared.Resize.{Resize}
 use Rattle.work_text.specs.declared.Work.{Work}
-use Rattle.work_text.proofs.Fit.{work_is_fit}
+use Rattle.work_text.proofs.WorkFits.{work_is_fit}
 use Rattle.task_core.specs.opened.NewTasks.{AreServableWrites, reserves_in}
 use Rattle.run_machine.specs.ReadBehind.{IsReadBehind}
 use Rattle.run_machine.specs.Opened.{device_at, records_of as records_at, reserve_of}

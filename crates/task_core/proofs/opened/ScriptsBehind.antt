@@ -17,7 +17,7 @@ use Rattle.stack_base.specs.declared.stack.Stack.{Stack}
 use Rattle.stack_base.specs.PoolId.{IsOfStack, pool_number}
 use Rattle.stack_base.specs.Stack.{IsStack}
 use Rattle.decl_text.specs.Accepting.{IsDeclaredSo, device_pools, pools, script_of, scripts_of, shown_devices}
-use Rattle.decl_text.specs.Known.{Declared, bios_pool_of, nothing, pool_if, records_pool_of}
+use Rattle.decl_text.specs.Known.{Declared, bios_pool_of, nothing_declared, pool_if, records_pool_of}
 use Rattle.decl_text.specs.Refusals.{known_after}
 use Rattle.decl_text.specs.declared.item.What.{What}
 use Rattle.decl_text.specs.declared.item.What.TheVariants as what
@@ -89,7 +89,7 @@ Scripts = List (PoolId × Answers)
 
 scripts_in : (stack : Stack) (scripts : Scripts) → IsDeclaredSo stack scripts → All (λ (script : PoolId × Answers). IsPoolIn (shown_devices stack) script.0) scripts
 scripts_in stack scripts declared =
-    let known = known_after nothing declared.0 in
+    let known = known_after nothing_declared declared.0 in
     let means = declared.3 in
     subst (All (λ (script : PoolId × Answers). IsPoolIn (shown_devices stack) script.0)) (sym means.scripts)
     (subst (λ devices. All (λ (script : PoolId × Answers). IsPoolIn devices script.0) (scripts_of known)) (sym means.devices)

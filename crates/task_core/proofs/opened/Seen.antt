@@ -29,7 +29,7 @@ use Rattle.task_steps.specs.Stage.{Stage, Owes}
 use Rattle.task_steps.specs.Turns.{silent_step, step_by, resting_step, idle_step, Asks, Turns, Rested, Waited, Asked, Saw}
 use Rattle.run_machine.proofs.Idle.{IsFair, fair_task, task_stays}
 use Rattle.run_machine.proofs.Looks.{task_looks}
-use Rattle.task_core.proofs.Quiet.{quiet, passed}
+use Rattle.task_core.proofs.EventlessSteps.{quiet, passed}
 use Rattle.task_core.proofs.opened.OwedLedgers.{of_ledgers}
 
 -- what a task looks at

@@ -45,7 +45,7 @@ pub(crate) fn enter<T: Drop>(
 }
 
 /// Whether the device keeps data itself.
-pub fn is_disk(routes: &Routes, dev: DevId) -> bool
+pub fn keeps_data(routes: &Routes, dev: DevId) -> bool
     requires { dev.0 < length routes.now.stack.devices.items }
     ensures { result ≡ keeps_data ((routing_setup routes.now).tree dev.0) }
 {
@@ -88,7 +88,7 @@ fn open_disk(
     requires few { length disks.old.items ≤ dev.0 }
     ensures { OnOk result (NextDisk routes.now dev.0 disks.old.items table.old disks.new.items table.new) }
 {
-    if is_disk(routes, dev) {
+    if keeps_data(routes, dev) {
         let disk = Disk::open(alloc, dev, stack.size(dev), bads_of(stack, dev))?;
         enter(disks, table, dev.0, disk)?;
     }

@@ -10,7 +10,7 @@ ghost use Rattle.task_steps.specs.Stage.{has_mirror_in};
 ghost use Rattle.task_steps.specs.Routed.{routing_setup};
 ghost use Rattle.run_machine.specs.Scene.{is_mirror};
 
-use crate::opening::objects::{enter, is_disk};
+use crate::opening::objects::{enter, keeps_data};
 use bio_records::{BioBody, Pad, Slip};
 use elem_ledger::Fresh;
 use fail_script::Script;
@@ -108,7 +108,7 @@ fn open_set(
     requires few { length bios.old.items ≤ dev.0 + 1 }
     ensures { OnOk result (NextSet routes.now scripts.now reserves.now (suc dev.0) bios.old.items table.old bios.new.items table.new) }
 {
-    if !is_disk(routes, dev) {
+    if !keeps_data(routes, dev) {
         let id = PoolId::Bios(dev);
         let pool = open_pool(alloc, id, stack.device(dev).reserve, scripts, reserves)?;
         enter(bios, table, id.no(), (SetId::Of(dev), pool))?;

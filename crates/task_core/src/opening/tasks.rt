@@ -5,7 +5,7 @@ ghost use Rattle.run_machine.specs.Opened.{rescuers_of, completers_of};
 ghost use Rattle.task_steps.specs.TaskViews.{task_of};
 ghost use Rattle.task_core.specs.opened.NewTasks.{device_tasks, device_tasks_in, shown_tasks, with_routing, AddsOfDevice, AddsTasks};
 
-use crate::opening::objects::is_disk;
+use crate::opening::objects::keeps_data;
 use stack_base::{DevId, Stack};
 use std::alloc::{AllocError, Global};
 use std::sync::Arc;
@@ -36,7 +36,7 @@ fn add_completer(routes: &Routes, dev: DevId, kinds: &mut Vec<Kind>) -> Result<(
     requires { dev.0 < length routes.now.stack.devices.items }
     ensures { OnOk result (AddsOfDevice completers_of routes.now dev kinds.old.items kinds.new.items) }
 {
-    if is_disk(routes, dev) {
+    if keeps_data(routes, dev) {
         kinds.push(Kind::Completer {
             disk: dev,
             carried: Carried::empty(),

@@ -32,7 +32,7 @@ use Rattle.block_core.proofs.moves.StepsTold.{touch_in}
 use Rattle.trace_replay.specs.Names.{Names, no_names, names_after, event_placed, placed}
 use Rattle.trace_replay.specs.Traces.{AreRead, NextPlacesAreVacant}
 use Rattle.trace_replay.proofs.renaming.Books.{elsewhere}
-use Rattle.trace_replay.proofs.renaming.Room.{HasLeft, writer_of, key_of, to_open, opens, opens_of_those, opened_after, finds_next, room_left}
+use Rattle.trace_replay.proofs.renaming.PlacesForNodes.{HasLeft, writer_of, key_of, to_open, opens, opens_of_those, opened_after, finds_next, room_left}
 
 -- a place of a book at which no node is open, where another changes
 module _ (books : ℕ → BookState) (w place : ℕ) (none : node_at (books w) place ≡ None) where

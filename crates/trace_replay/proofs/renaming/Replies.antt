@@ -25,7 +25,7 @@ use Rattle.run_machine.specs.Objects.{Objects, Serves}
 use Rattle.run_machine.specs.Events.{what_of}
 use Rattle.trace_replay.proofs.renaming.Renaming.{Places, item_to, hand_to, want_to, taken_to, lists_to, doing_to, submission_to, closed_to, carried_to, task_to, writer_in, reply_to}
 use Rattle.trace_replay.proofs.renaming.Lists.{settled_to, goes_to, copies_to, submitted_to, unpunted_to}
-use Rattle.block_core.proofs.sound.Sayings.{none_told}
+use Rattle.block_core.proofs.sound.DoneAndRoundEvents.{none_told}
 
 -- the bio that a mirror copies has a leg left to make
 abbrev pub HasLeg : Setup → Doing → Type 0

@@ -28,7 +28,7 @@ use Rattle.trace_replay.proofs.renaming.Renaming.{Places, task_to, event_to}
 use Rattle.trace_replay.proofs.renaming.Serving.{IsNext}
 use Rattle.trace_replay.proofs.renaming.Stepping.{StatesAlike, plain, step_to}
 use Rattle.trace_replay.proofs.renaming.Marking.{marked}
-use Rattle.trace_replay.proofs.renaming.Room.{HasLeft, left_behind, finds_next, room_left}
+use Rattle.trace_replay.proofs.renaming.PlacesForNodes.{HasLeft, left_behind, finds_next, room_left}
 
 module _ (scene : Scene) (naming : (number : ℕ) → (scene.ledger number).no ≡ number) (f : LedgersAreNumbered scene) (g : DeviceGeometry scene.setup) (n : Needs scene.setup) where
   -- what stays while the run is read: the other state is alike

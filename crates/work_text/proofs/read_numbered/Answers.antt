@@ -1,5 +1,5 @@
 -- An accepted stack is fit.
-use Rattle.decl_text.proofs.Fits.{accepted_fit}
+use Rattle.decl_text.proofs.DeclarationsFit.{accepted_fit}
 use Rattle.work_text.proofs.read_numbered.Goals as goal
 
 pub read_line-requires-clause-fit : goal.read_line-requires-clause-fit

@@ -1,7 +1,7 @@
 use Rattle.std.proofs.Common.{◌∙◌, drop, ap, false}
 use Rattle.decl_text.specs.Text.{lines}
 use Rattle.decl_text.specs.Reading.{declarations}
-use Rattle.work_text.proofs.Wholes.{rest_decides}
+use Rattle.work_text.proofs.WholeRefusals.{rest_decides}
 use Rattle.generator_tests.proofs.texts.read.Goals as goal
 
 -- the declarations end at the first write or `sync` line

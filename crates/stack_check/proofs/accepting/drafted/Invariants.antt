@@ -1,6 +1,6 @@
 use Rattle.std.proofs.Common.{◌≡◌, Option}
 use Rattle.std.specs.Vec.Iter.{into_iter_items}
-use Rattle.decl_text.specs.Known.{nothing}
+use Rattle.decl_text.specs.Known.{nothing_declared}
 use Rattle.decl_text.specs.Read.{AreDeclarations}
 use Rattle.decl_text.specs.Accepting.{checks_for}
 use Rattle.decl_text.specs.Reading.{known_of_items, refusal_of_items}
@@ -14,6 +14,6 @@ invariant-loop-next l = record {
   declarations : AreDeclarations (into_iter_items l.next-iterator);
   refusal :
       (fault : Option Refusal)
-      → refusal_of_items (checks_for l.fn.loose) l.draft (into_iter_items l.next-iterator) fault ≡ refusal_of_items (checks_for l.fn.loose) nothing l.fn.items.items fault;
-  known : known_of_items l.draft (into_iter_items l.next-iterator) ≡ known_of_items nothing l.fn.items.items;
+      → refusal_of_items (checks_for l.fn.loose) l.draft (into_iter_items l.next-iterator) fault ≡ refusal_of_items (checks_for l.fn.loose) nothing_declared l.fn.items.items fault;
+  known : known_of_items l.draft (into_iter_items l.next-iterator) ≡ known_of_items nothing_declared l.fn.items.items;
 }

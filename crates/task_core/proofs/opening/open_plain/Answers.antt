@@ -9,7 +9,7 @@ use Rattle.stack_base.specs.PoolId.{pool_number}
 use Rattle.stack_base.specs.Stack.{IsStack}
 use Rattle.decl_text.specs.Accepting.{IsDeclaredSo}
 use Rattle.decl_text.specs.Fit.{IsFitStack}
-use Rattle.decl_text.proofs.Fits.{accepted_fit}
+use Rattle.decl_text.proofs.DeclarationsFit.{accepted_fit}
 use Rattle.task_core.specs.opened.NewTasks.{reserves_in}
 use Rattle.run_machine.specs.Opened.{device_at, reserve_of, script_at, in_round, rounds_in}
 use Rattle.task_core.specs.opened.Openings.{has_pool, has_set_at}

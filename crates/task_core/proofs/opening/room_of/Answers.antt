@@ -1,5 +1,5 @@
 use Rattle.std.proofs.Common.{arith, refl}
-use Rattle.task_core.proofs.opened.Rooms.{disks_fit, pools_fit}
+use Rattle.task_core.proofs.opened.LeftCounts.{disks_fit, pools_fit}
 use Rattle.task_core.proofs.opening.room_of.Goals as goal
 
 pub returns : goal.returns

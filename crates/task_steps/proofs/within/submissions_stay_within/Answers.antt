@@ -1,4 +1,4 @@
-use Rattle.task_steps.proofs.Fits.{submissions_stay_within}
+use Rattle.task_steps.proofs.StaysWithin.{submissions_stay_within}
 use Rattle.task_steps.proofs.within.submissions_stay_within.Goals as goal
 
 -- src/within.rt

@@ -1,4 +1,4 @@
-use Rattle.work_text.proofs.Wholes.{refused_first}
+use Rattle.work_text.proofs.WholeRefusals.{refused_first}
 use Rattle.work_text.proofs.laws.declarations_refuse.Goals as goal
 
 pub returns : goal.returns

@@ -1,4 +1,4 @@
-use Rattle.work_text.proofs.Wholes.{rest_decides}
+use Rattle.work_text.proofs.WholeRefusals.{rest_decides}
 use Rattle.work_text.proofs.laws.rests_decide.Goals as goal
 
 pub returns : goal.returns

@@ -1,4 +1,4 @@
-use Rattle.work_text.proofs.Fit.{work_is_fit}
+use Rattle.work_text.proofs.WorkFits.{work_is_fit}
 use Rattle.work_text.proofs.laws.work_is_fit.Goals as goal
 
 -- src/laws.rt

@@ -5,7 +5,7 @@ use Rattle.slab.specs.Slab.{get}
 use Rattle.slab.proofs.SlabLemmas.{Updates-with_value}
 use Rattle.bio_books.specs.Kept.{key_at, look}
 use Rattle.bio_books.proofs.Slots.{matched, read_look}
-use Rattle.bio_books.proofs.Placed.{changes}
+use Rattle.bio_books.proofs.ContainersStaySound.{changes}
 use Rattle.bio_books.proofs.places.Places.alter.Goals as goal
 
 pub returns-in-Some-get_mut : goal.returns-in-Some-get_mut

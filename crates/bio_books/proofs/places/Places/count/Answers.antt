@@ -1,6 +1,6 @@
 -- As many places are shown as have a number.
 use Rattle.std.proofs.Common.{length, ap, arith}
-use Rattle.bio_books.proofs.Placed.{as_many}
+use Rattle.bio_books.proofs.ContainersStaySound.{as_many}
 use Rattle.bio_books.proofs.places.Places.count.Goals as goal
 
 pub returns : goal.returns

@@ -3,7 +3,7 @@ use Rattle.std.proofs.Common.{Some, refl, sym, ◌∙◌, ap, subst, arith}
 use Rattle.std.specs.Prelude.{All, IsSome, slice_get, slice_set, vec_capacity}
 use Rattle.bio_books.specs.Kept.{IsPlaced}
 use Rattle.bio_books.proofs.Slots.{read_vacant}
-use Rattle.bio_books.proofs.Placed.{comes, full, last_free}
+use Rattle.bio_books.proofs.ContainersStaySound.{comes, full, last_free}
 use Rattle.bio_books.proofs.places.Places.insert.Goals as goal
 
 pub returns-in_default : goal.returns-in_default

@@ -2,7 +2,7 @@
 use Rattle.std.proofs.Common.{◌≡◌, None, sym, subst, arith}
 use Rattle.std.specs.Prelude.{All}
 use Rattle.std.proofs.lemmas.Bool.{eq-eqb, eqb-true}
-use Rattle.bio_books.proofs.Placed.{empty_if, empty_only_if}
+use Rattle.bio_books.proofs.ContainersStaySound.{empty_if, empty_only_if}
 use Rattle.bio_books.proofs.places.Places.is_empty.Goals as goal
 
 pub returns : goal.returns

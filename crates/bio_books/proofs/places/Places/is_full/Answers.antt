@@ -2,7 +2,7 @@
 use Rattle.std.proofs.Common.{sym, ◌∙◌, subst, arith}
 use Rattle.std.specs.Prelude.{All, IsSome, vec_len}
 use Rattle.std.proofs.lemmas.Bool.{eq-eqb, eqb-true}
-use Rattle.bio_books.proofs.Placed.{full, full_only_if}
+use Rattle.bio_books.proofs.ContainersStaySound.{full, full_only_if}
 use Rattle.bio_books.proofs.places.Places.is_full.Goals as goal
 
 pub returns : goal.returns

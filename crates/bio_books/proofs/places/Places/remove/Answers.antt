@@ -2,7 +2,7 @@
 use Rattle.std.proofs.Common.{◌≡◌, Some, None, sym, ◌∙◌, ap, subst}
 use Rattle.std.specs.Prelude.{slice_set, vec_capacity}
 use Rattle.bio_books.specs.Kept.{IsPlaced, key_at}
-use Rattle.bio_books.proofs.Placed.{goes}
+use Rattle.bio_books.proofs.ContainersStaySound.{goes}
 use Rattle.bio_books.proofs.places.Places.remove.Goals as goal
 
 pub invariant_of-self-2 : goal.invariant_of-self-2

@@ -8,7 +8,7 @@ use Rattle.clap.proofs.WalkLemmas.{list_any-map}
 use Rattle.biostack_words.specs.Grammar.{is_dashed}
 use Rattle.biostack_words.specs.Parser.{parser}
 use Rattle.biostack_words.specs.Reading.{IsSeen, ReadsGiven, fault_for}
-use Rattle.biostack_words.proofs.Wholes.{dashed_is, fault_is, read_is}
+use Rattle.biostack_words.proofs.ParserAnswers.{dashed_is, fault_is, read_is}
 use Rattle.biostack_words.proofs.given.Given.read.Goals as goal
 
 pub returns-then-has_dashed_word : goal.returns-then-has_dashed_word

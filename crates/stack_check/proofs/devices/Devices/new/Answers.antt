@@ -1,4 +1,4 @@
-use Rattle.stack_check.proofs.Kept.{none_kept}
+use Rattle.stack_check.proofs.DeviceTallies.{none_kept}
 use Rattle.stack_check.proofs.devices.Devices.new.Goals as goal
 
 pub invariant_of-result : goal.invariant_of-result

@@ -2,7 +2,7 @@ use Rattle.std.proofs.Common.{◌<◌, length, get_or, ap, arith}
 use Rattle.std.proofs.lemmas.List.{length-map, length_push, get_or-map}
 use Rattle.stack_base.specs.declared.ids.DevId.{DevId}
 use Rattle.decl_text.specs.Known.{Declared}
-use Rattle.stack_check.proofs.Kept.{last_below, sizes_many}
+use Rattle.stack_check.proofs.DeviceTallies.{last_below, sizes_many}
 use Rattle.stack_check.proofs.devices.Devices.push.Goals as goal
 
 pub mark-requires : goal.mark-requires

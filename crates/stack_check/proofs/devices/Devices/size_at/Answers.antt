@@ -1,5 +1,5 @@
 use Rattle.std.proofs.Common.{length, ap, arith}
-use Rattle.stack_check.proofs.Kept.{sizes_many}
+use Rattle.stack_check.proofs.DeviceTallies.{sizes_many}
 use Rattle.stack_check.proofs.devices.Devices.size_at.Goals as goal
 
 pub bounds-deref-number : goal.bounds-deref-number

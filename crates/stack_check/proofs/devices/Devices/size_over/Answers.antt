@@ -1,7 +1,7 @@
 use Rattle.std.proofs.Common.{length, map, ap, sym, ◌∙◌, arith}
 use Rattle.std.proofs.lemmas.List.{length-map}
 use Rattle.stack_base.specs.declared.ids.DevId.{DevId}
-use Rattle.stack_check.proofs.Kept.{count_few}
+use Rattle.stack_check.proofs.DeviceTallies.{count_few}
 use Rattle.stack_check.proofs.SizeBounds.{sizes_sum}
 use Rattle.stack_check.specs.Sound.{what_size}
 use Rattle.stack_check.proofs.TreeLemmas.{size_with_is}

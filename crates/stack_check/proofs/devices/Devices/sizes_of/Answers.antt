@@ -1,7 +1,7 @@
 use Rattle.std.proofs.Common.{length, ap, arith}
 use Rattle.std.proofs.lemmas.List.{length-map, get_or-map}
 use Rattle.stack_base.specs.declared.ids.DevId.{DevId}
-use Rattle.stack_check.proofs.Kept.{sizes_many}
+use Rattle.stack_check.proofs.DeviceTallies.{sizes_many}
 use Rattle.stack_check.proofs.devices.Devices.sizes_of.Goals as goal
 
 pub bounds-deref-member : goal.bounds-deref-member

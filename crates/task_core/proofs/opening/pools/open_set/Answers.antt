@@ -13,7 +13,7 @@ pub returns-in_ok-enter : goal.returns-in_ok-enter
 returns-in_ok-enter c =
     let routing = c.args.routes.now in
     let dev = c.args.dev in
-    let keeps : keeps_data ((routing_setup routing).tree dev.0) ≡ false = sym c.is_disk.ensures ∙ c.if-not-is_disk.true in
+    let keeps : keeps_data ((routing_setup routing).tree dev.0) ≡ false = sym c.keeps_data.ensures ∙ c.if-not-keeps_data.true in
     let reserve = reserve_is c.args.stack.now dev c.device.result.now c.device.ensures.found ∙ ap (λ (s : Stack). reserve_of s (Bios dev)) (sym c.requires.same) in
     inl (
       set_used routing dev.0 (subst (λ (s : Stack). dev.0 < length s.devices.items) (sym c.requires.same) c.requires.device) keeps,

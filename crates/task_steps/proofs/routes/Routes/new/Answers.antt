@@ -3,7 +3,7 @@ use Rattle.std.specs.Prelude.{slice_get}
 use Rattle.task_steps.specs.declared.routes.Route.{Route}
 use Rattle.std.specs.Prelude.{List}
 use Rattle.task_steps.specs.Routed.{AreRoutes}
-use Rattle.task_steps.proofs.Opening.{more_routes}
+use Rattle.task_steps.proofs.RoutesMade.{more_routes}
 use Rattle.task_steps.proofs.routes.Routes.new.Goals as goal
 
 -- the next device has its route too

@@ -11,7 +11,7 @@ use Rattle.stack_base.specs.Mapping.{size_of, smallest}
 use Rattle.stack_base.proofs.MemberSizes.{members_small}
 use Rattle.mirror_map.specs.Legs.{MirrorState}
 use Rattle.task_steps.specs.Routed.{copies_bios}
-use Rattle.task_steps.proofs.Opening.{stripe_small, limit_sizes, mirror_size}
+use Rattle.task_steps.proofs.RoutesMade.{stripe_small, limit_sizes, mirror_size}
 use Rattle.task_steps.proofs.routes.driver.driver_of.Goals as goal
 
 -- the stripe is as large as its device

@@ -20,7 +20,7 @@ use Rattle.std.proofs.Math.Logic.{∥∥₁_elim}
 use Rattle.decl_text.specs.Text.{words}
 use Rattle.decl_text.specs.Items.{said}
 use Rattle.decl_text.specs.Read.{IsFormed}
-use Rattle.decl_text.specs.Known.{Declarations, Declared, BadOf, nothing, after_line, declared, device_of, device_tree, declares_disk, number_in, sectors_of, tree_of, tree_over}
+use Rattle.decl_text.specs.Known.{Declarations, Declared, BadOf, nothing_declared, after_line, declared, device_of, device_tree, declares_disk, number_in, sectors_of, tree_of, tree_over}
 use Rattle.decl_text.specs.Checks.{bad_shape, is_disk_device, is_one_too_many, name_taken, past_end, reserve_zero, reserves}
 use Rattle.decl_text.specs.Accepting.{IsDeclaredSo, MeansStack, loose_checks, reserves_or_two, declared_form, what_of_kind}
 use Rattle.decl_text.specs.Fit.{HasReserves, IsFitBad, IsFitDevice, IsFitStack, IsReserve}
@@ -268,7 +268,7 @@ line_fit known line other none fit =
 none_in : {X : Type 0} (x : X) → Contains [] x → ⊥
 none_in x there = omega (arith, there.1)
 
-nothing_fit : IsFit nothing
+nothing_fit : IsFit nothing_declared
 nothing_fit = record {
   front = nothing_front;
   fs_bios = (omega arith, omega arith);
@@ -278,8 +278,8 @@ nothing_fit = record {
   bad = λ of there. absurd (none_in of there);
 }
 
-lines_fit : (all : List (List ℕ)) → NonePass is_work_line all → refusal loose_checks nothing 1 all ≡ None → IsFit (known_after nothing all)
-lines_fit all front none = kept_in_front loose_checks IsFit line_fit nothing 1 all front none nothing_fit
+lines_fit : (all : List (List ℕ)) → NonePass is_work_line all → refusal loose_checks nothing_declared 1 all ≡ None → IsFit (known_after nothing_declared all)
+lines_fit all front none = kept_in_front loose_checks IsFit line_fit nothing_declared 1 all front none nothing_fit
 
 -- so it is with the stack that they mean
 module _ (known : Declarations) (fit : IsFit known) (stack : Stack) (scripts : List (PoolId × Answers)) (means : MeansStack known stack scripts) where
@@ -331,7 +331,7 @@ IsFitStack-prop stack = hlevel (HasReserves-prop, ℕ_set, Bool-set, le_prop)
 -- and so it is with every accepted stack
 pub declared_fit : (stack : Stack) (scripts : List (PoolId × Answers)) → ∥ IsDeclaredSo stack scripts ∥₁ → IsFitStack stack
 declared_fit stack scripts so =
-    ∥∥₁_elim so (IsFitStack-prop stack) (λ by. stack_fit (known_after nothing by.0) (lines_fit by.0 by.1 by.2) stack scripts by.3)
+    ∥∥₁_elim so (IsFitStack-prop stack) (λ by. stack_fit (known_after nothing_declared by.0) (lines_fit by.0 by.1 by.2) stack scripts by.3)
 
 pub accepted_fit : (accepted : Accepted) → IsFitStack accepted.stack
 accepted_fit accepted = declared_fit accepted.stack accepted.scripts.items accepted.declared

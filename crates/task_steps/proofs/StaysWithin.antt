@@ -21,7 +21,7 @@ use Rattle.run_machine.specs.Submissions.{Takes, WantsPunt, Links, ToPush, ToCut
 use Rattle.run_machine.specs.Requests.{Reply, HadBio, HadSlip, Missed, Did, LinkedTo, NoTicket}
 use Rattle.task_steps.specs.Within.{IsWithinDevice, IsItemWithin, AreWithin, ListsAreWithin, is_handed_on, DoingFits, SubmissionIsWithin, AskedFits, SubmissionsStayWithin}
 use Rattle.task_steps.specs.Routed.{sent, IsLanded, IsCutAt}
-use Rattle.task_steps.proofs.Landing.{first_at, lands_within}
+use Rattle.task_steps.proofs.DevicesReached.{first_at, lands_within}
 use Rattle.task_steps.proofs.Devices.{cut_is, cut_not_none, leg_there}
 use Rattle.task_steps.proofs.Waiting.{all_ordered, all_submitted, all_punted, all_unpunted}
 

@@ -41,7 +41,7 @@ use Rattle.work_text.proofs.LoopLemmas.{first_works}
 use Rattle.work_text.proofs.NameLemmas.{among_members}
 use Rattle.work_text.proofs.Rests.{never_front, step}
 use Rattle.work_text.proofs.RoundsApart.{rounds_apart}
-use Rattle.work_text.proofs.Saying.{Works}
+use Rattle.work_text.proofs.WorkLines.{Works}
 use Rattle.work_text.proofs.WorkLemmas.{last_few}
 
 -- a write by a writer of a small number to a device that is no member

@@ -8,7 +8,7 @@ use Rattle.stack_base.specs.declared.ids.PoolId.{PoolId}
 use Rattle.stack_base.specs.declared.stack.Stack.{Stack}
 use Rattle.decl_text.specs.Text.{lines, words, most_bytes}
 use Rattle.decl_text.specs.Items.{said}
-use Rattle.decl_text.specs.Known.{Declarations, Declared, nothing}
+use Rattle.decl_text.specs.Known.{Declarations, Declared, nothing_declared}
 use Rattle.decl_text.specs.Refusals.{first_found, line_checks, refusal, refused, known_after}
 use Rattle.decl_text.specs.Read.{Read}
 use Rattle.decl_text.specs.Reading.{IsReadDecl, Formed, declarations, formed, formed_by, is_work_line, is_wrong, read_lines, refusal_of_items, right_lines, known_of_items}
@@ -31,33 +31,33 @@ left all = rest is_work_line all
 
 -- what is known behind the lines before that
 abbrev known_before : List (List ℕ) → Declarations
-known_before all = known_after nothing (declarations all)
+known_before all = known_after nothing_declared (declarations all)
 
 joined : (all : List (List ℕ)) → declarations all ++ left all ≡ all
 joined all = cut is_work_line all
 
-not_long : (loose : Bool) (text : List ℕ) → length text ≤ most_bytes → text_refusal_by loose text ≡ refusal (checks_by loose) nothing 1 (lines text)
-not_long loose text short = ap (λ b. if b then Some (refused 0 TooLong) else refusal (checks_by loose) nothing 1 (lines text)) (le-ltb most_bytes (length text) short)
+not_long : (loose : Bool) (text : List ℕ) → length text ≤ most_bytes → text_refusal_by loose text ≡ refusal (checks_by loose) nothing_declared 1 (lines text)
+not_long loose text short = ap (λ b. if b then Some (refused 0 TooLong) else refusal (checks_by loose) nothing_declared 1 (lines text)) (le-ltb most_bytes (length text) short)
 
 -- the items and the fault were read of these lines
 items_refused : (loose : Bool) (text : List ℕ) (read : Read) → IsReadDecl text read
-    → refusal (checks_by loose) nothing 1 (declarations (lines text)) ≡ refusal_of_items (checks_for loose) nothing read.items read.fault
+    → refusal (checks_by loose) nothing_declared 1 (declarations (lines text)) ≡ refusal_of_items (checks_for loose) nothing_declared read.items read.fault
 items_refused loose text read is =
-    front_alike (checks_for loose) nothing 1 (declarations (lines text)) nothing_front (none_pass is_work_line (lines text))
-    ∙ front_refused (checks_for loose) nothing 1 (declarations (lines text)) nothing_front (none_pass is_work_line (lines text))
-    ∙ ap (λ f. refusal_of_items (checks_for loose) nothing f.items f.fault) (sym is.formed)
+    front_alike (checks_for loose) nothing_declared 1 (declarations (lines text)) nothing_front (none_pass is_work_line (lines text))
+    ∙ front_refused (checks_for loose) nothing_declared 1 (declarations (lines text)) nothing_front (none_pass is_work_line (lines text))
+    ∙ ap (λ f. refusal_of_items (checks_for loose) nothing_declared f.items f.fault) (sym is.formed)
 
 refused_in_parts : (loose : Bool) (text : List ℕ) (read : Read) → length text ≤ most_bytes → IsReadDecl text read
-    → text_refusal_by loose text ≡ option_or (refusal_of_items (checks_for loose) nothing read.items read.fault)
+    → text_refusal_by loose text ≡ option_or (refusal_of_items (checks_for loose) nothing_declared read.items read.fault)
     (refusal (checks_by loose) (known_before (lines text)) (1 + length (declarations (lines text))) (left (lines text)))
 refused_in_parts loose text read short is =
     not_long loose text short
-    ∙ ap (refusal (checks_by loose) nothing 1) (sym (joined (lines text)))
-    ∙ refusal-append (checks_by loose) nothing 1 (declarations (lines text)) (left (lines text))
+    ∙ ap (refusal (checks_by loose) nothing_declared 1) (sym (joined (lines text)))
+    ∙ refusal-append (checks_by loose) nothing_declared 1 (declarations (lines text)) (left (lines text))
     ∙ ap (λ r. option_or r (refusal (checks_by loose) (known_before (lines text)) (1 + length (declarations (lines text))) (left (lines text)))) (items_refused loose text read is)
 
 pub refused_first : (loose : Bool) (text : List ℕ) (read : Read) (first : Refusal) → length text ≤ most_bytes → IsReadDecl text read
-    → refusal_of_items (checks_for loose) nothing read.items read.fault ≡ Some first → text_refusal_by loose text ≡ Some first
+    → refusal_of_items (checks_for loose) nothing_declared read.items read.fault ≡ Some first → text_refusal_by loose text ≡ Some first
 refused_first loose text read first short is here =
     refused_in_parts loose text read short is
     ∙ ap (λ r. option_or r (refusal (checks_by loose) (known_before (lines text)) (1 + length (declarations (lines text))) (left (lines text)))) here
@@ -73,18 +73,18 @@ none_wrong : (number : ℕ) (all : List (List ℕ)) → (formed number all).faul
 unfolding formed
 none_wrong number [] none = refl
 none_wrong number (line ∷ all) none =
-    let parts = none_by (first_found line_checks nothing line) number (said (words line)) (formed (number + 1) all) none in
+    let parts = none_by (first_found line_checks nothing_declared line) number (said (words line)) (formed (number + 1) all) none in
     more is_wrong line all (ap is_some parts.0) ∙ ap (λ ys. line ∷ ys) (none_wrong (number + 1) all parts.1)
 
 pub record Accepted (loose : Bool) (text : List ℕ) (read : Read) (stack : Stack) (scripts : List (PoolId × Answers)) : Type 0 where
   pub short : length text ≤ most_bytes
   pub is : IsReadDecl text read
-  pub none : refusal_of_items (checks_for loose) nothing read.items read.fault ≡ None
-  pub means : MeansStack (known_of_items nothing read.items) stack scripts
+  pub none : refusal_of_items (checks_for loose) nothing_declared read.items read.fault ≡ None
+  pub means : MeansStack (known_of_items nothing_declared read.items) stack scripts
 
 module _ {loose : Bool} {text : List ℕ} {read : Read} {stack : Stack} {scripts : List (PoolId × Answers)} (a : Accepted loose text read stack scripts) where
   sound : read.fault ≡ None
-  sound = no_fault (checks_for loose) nothing read.items read.fault a.none
+  sound = no_fault (checks_for loose) nothing_declared read.items read.fault a.none
 
   right : (formed 1 (declarations (lines text))).fault ≡ None
   right = ap (λ f. f.fault) (sym a.is.formed) ∙ sound
@@ -96,19 +96,19 @@ module _ {loose : Bool} {text : List ℕ} {read : Read} {stack : Stack} {scripts
   left_is : lines (drop read.rest text) ≡ left (lines text)
   left_is = a.is.rest ∙ ap (λ front. drop (length front) (lines text)) all_read
 
-  known_is : known_before (lines text) ≡ known_of_items nothing read.items
+  known_is : known_before (lines text) ≡ known_of_items nothing_declared read.items
   known_is =
-      front_known nothing 1 (declarations (lines text)) right
-      ∙ ap (λ f. known_of_items nothing f.items) (sym a.is.formed)
+      front_known nothing_declared 1 (declarations (lines text)) right
+      ∙ ap (λ f. known_of_items nothing_declared f.items) (sym a.is.formed)
 
-  none_before_work : refusal (checks_for loose) nothing 1 (declarations (lines text)) ≡ None
+  none_before_work : refusal (checks_for loose) nothing_declared 1 (declarations (lines text)) ≡ None
   none_before_work =
-      front_refused (checks_for loose) nothing 1 (declarations (lines text)) nothing_front (none_pass is_work_line (lines text))
-      ∙ ap (λ f. refusal_of_items (checks_for loose) nothing f.items f.fault) (sym a.is.formed)
+      front_refused (checks_for loose) nothing_declared 1 (declarations (lines text)) nothing_front (none_pass is_work_line (lines text))
+      ∙ ap (λ f. refusal_of_items (checks_for loose) nothing_declared f.items f.fault) (sym a.is.formed)
       ∙ a.none
 
   front : IsFront (known_before (lines text))
-  front = front_stays (checks_for loose) nothing 1 (declarations (lines text)) nothing_front (none_pass is_work_line (lines text)) none_before_work
+  front = front_stays (checks_for loose) nothing_declared 1 (declarations (lines text)) nothing_front (none_pass is_work_line (lines text)) none_before_work
 
   paired : IsPaired (known_before (lines text))
   paired = rw (front.rounds, front.writes) refl
@@ -117,7 +117,7 @@ module _ {loose : Bool} {text : List ℕ} {read : Read} {stack : Stack} {scripts
   means_before = subst (λ known. MeansStack known stack scripts) (sym known_is) a.means
 
   seen_is : work_of (known_before (lines text)) ≡ known_of stack
-  seen_is = rw (front.writes, front.rounds, front.syncs, front.resizes) (ap (λ (d : List Declared). record nothing { devices = d }) (sym means_before.devices))
+  seen_is = rw (front.writes, front.rounds, front.syncs, front.resizes) (ap (λ (d : List Declared). record nothing_declared { devices = d }) (sym means_before.devices))
 
   follow : Follow (known_before (lines text)) (left (lines text))
   follow = λ first. begins is_work_line (lines text)
@@ -138,8 +138,8 @@ module _ {loose : Bool} {text : List ℕ} {read : Read} {stack : Stack} {scripts
   -- where the rest is not refused, the text has its work and all else as before
   with_rest : text_refusal_by loose text ≡ None → known_of_text text ≡ with_work (known_before (lines text)) (known_after (known_of stack) (left (lines text)))
   with_rest none =
-      ap (known_after nothing) (sym (joined (lines text)))
-      ∙ known-append nothing (declarations (lines text)) (left (lines text))
+      ap (known_after nothing_declared) (sym (joined (lines text)))
+      ∙ known-append nothing_declared (declarations (lines text)) (left (lines text))
       ∙ rest_known (known_before (lines text)) read.line (left (lines text)) paired follow (sym in_left ∙ none)
       ∙ ap (λ k. with_work (known_before (lines text)) (known_after k (left (lines text)))) seen_is
 
