@@ -41,7 +41,7 @@ impl Rescuer {
         }
     }
 
-    /// Whose set it is of.
+    /// The device whose set it is the rescuer of.
     pub fn dev(&self) -> DevId
         ensures { result ≡ self.now.dev }
     {

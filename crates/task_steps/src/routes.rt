@@ -142,7 +142,8 @@ impl Routes {
         self.places.get(writer as usize).copied().unwrap_or(0)
     }
 
-    /// Whether the first attempt at a bio of the device's set waits, where the task has these lists (`bio_alloc_bioset`, `block/bio.c`).
+    /// Whether the first attempt at a bio of the device's set waits, where the task has these lists: it does unless the
+    /// set has a rescuer and a bio is in the lists (`bio_alloc_bioset`, `block/bio.c`).
     pub fn waits_first<L: Waits>(&self, dev: DevId, lists: &L) -> bool
         requires { dev.0 < length self.now.stack.devices.items }
         ensures { result ≡ waits_first ((routing_setup self.now).rescuer dev.0) (L.waiting lists.now) }

@@ -201,8 +201,9 @@ impl Book {
         Ok(())
     }
 
-    /// Opens a master, which stands for the own part of an open node, and the open node keeps that part meanwhile (`raid1_write_request`,
-    /// `drivers/md/raid1.c`). It also makes room in the lists for what comes of it.
+    /// Opens a master at this place, with this record and so many legs, which stands for the own part of an open node.
+    /// That node keeps this part meanwhile (`raid1_write_request`, `drivers/md/raid1.c`). It also makes room in the
+    /// lists, for two bios more.
     ///
     /// # Errors
     /// `NotEnabled` where it can't be opened, and `Memory` where only room lacks. Nothing is changed then.

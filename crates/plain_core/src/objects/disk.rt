@@ -98,7 +98,8 @@ impl Model for Disk {
 }
 
 impl Disk {
-    /// A disk of zeros, in which no bio waits.
+    /// The disk of this device, of so many sectors and with these bad ranges. All its sectors are zeros, and no bio waits
+    /// in it.
     ///
     /// # Errors
     /// Where there is no memory.

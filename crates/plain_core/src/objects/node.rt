@@ -128,7 +128,8 @@ impl Node {
         self.held.bio = Some(part.again());
     }
 
-    // One of its ends is told (`__bio_chain_endio`, `block/bio.c`).
+    // One of its ends is told: its status changes by its role, and a part that comes is the one that it holds then. How
+    // many ends it waits for stays as it was (`__bio_chain_endio`, `block/bio.c`).
     pub(crate) fn tell(&mut self, status: Status, part: Option<PlainBioElement>)
         ensures { self.new ≡ told self.old status part }
     {

@@ -83,7 +83,8 @@ impl Pool {
         self.facts.spares > 0 && self.facts.out < u64::MAX
     }
 
-    /// Takes an element (`mempool_alloc`, `mm/mempool.c`), or misses.
+    /// A take that had this: an element of ordinary memory, a spare, or none, where it missed. Whatever it had, it uses up
+    /// an entry of the script, while there are any (`mempool_alloc`, `mm/mempool.c`).
     pub fn take(&mut self, got: Got)
         requires { CanMove self.old (move_of self.old got) }
         ensures { self.new ≡ after_move self.old (move_of self.old got) }
