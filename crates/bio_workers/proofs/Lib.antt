@@ -2,5 +2,5 @@ pub mod Dealing
 pub mod Hands
 pub mod Parts
 pub mod Sent
-pub mod Somes
+pub mod AllThere
 pub mod Sweeps

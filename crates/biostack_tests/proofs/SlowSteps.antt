@@ -17,7 +17,7 @@ use Rattle.stack_base.proofs.Inside.{IsInside, kind_inside}
 use Rattle.stack_base.proofs.KindCuts.{kind_cuts}
 use Rattle.stack_base.proofs.Unfolded.{size-tree}
 use Rattle.layout_model.specs.Way.{FitsWay, place, heads}
-use Rattle.layout_model.proofs.Over.{can_cut}
+use Rattle.layout_model.proofs.FromMembers.{can_cut}
 use Rattle.layout_model.proofs.ByShape.{cuts_is, member_is}
 use Rattle.biostack_tests.specs.Slow.{IsStep}
 

@@ -15,7 +15,7 @@ use Rattle.layout_model.specs.NeedCounts.{elements}
 use Rattle.layout_model.specs.Bound.{all_elements}
 use Rattle.layout_model.proofs.Apart.{frags_have}
 use Rattle.layout_model.proofs.Stacks.{tree_sound, disk_under}
-use Rattle.layout_model.proofs.Under.{under_le}
+use Rattle.layout_model.proofs.DevicesUnder.{under_le}
 use Rattle.layout_model.proofs.PiecesGiveFragments.{frags_are}
 use Rattle.report_text.specs.LayoutText.{AreOnDevices}
 use Rattle.biostack_top.specs.LayoutText.{AreLaid}

@@ -10,7 +10,7 @@ pub mod PayerCounts
 pub mod Bounded
 pub mod KindTimes
 pub mod RoleHoldings
-pub mod Dues
+pub mod EventsDue
 pub mod StillDue
 pub mod NoMisses
 pub mod KeeperEnds

@@ -1,7 +1,7 @@
 pub mod Invariant
 pub mod SumParts
 pub mod ElementsOut
-pub mod Counts
+pub mod ReferencesCounted
 pub mod OwnParts
 pub mod TaskSubmissions
 pub mod InvariantKept
@@ -9,7 +9,7 @@ pub mod DoneOnce
 pub mod Runs
 pub mod Orders
 pub mod OrdersKept
-pub mod Alive
+pub mod NodesWait
 pub mod Counters
 pub mod EventStages
 pub mod Rounds
@@ -17,7 +17,7 @@ pub mod OffLevels
 pub mod Levels
 pub mod LevelsKept
 pub mod CarriedLevels
-pub mod Posts
+pub mod TaskPosts
 pub mod EveryRun
 pub mod OfOneWrite
 pub mod Elements

@@ -2,7 +2,7 @@ pub mod NodeNeeds
 pub mod NodesOpened
 pub mod RoomKept
 pub mod VacantPlaces
-pub mod Ready
+pub mod ObjectsAnswer
 pub mod NoneFails
 pub mod Unbroken
 pub mod Resizes

@@ -10,7 +10,7 @@ use Rattle.stack_base.specs.Tree.{Tree, Leaf, Split, Mirrored, most_begun}
 use Rattle.layout_model.specs.Need.{elements_begun, needed, fragments_in_run}
 use Rattle.layout_model.specs.Sound.{Sound, NothingBehindMembers}
 use Rattle.layout_model.proofs.RangeSums.{sum_le, term_le_sum, sum_of_one, sum_of_two}
-use Rattle.layout_model.proofs.Begun.{needed_piece, needed_more, needed_legs, fragments_of_disk, fragments_of_piece, fragments_of_more, fragments_of_legs}
+use Rattle.layout_model.proofs.NeedsByPieces.{needed_piece, needed_more, needed_legs, fragments_of_disk, fragments_of_piece, fragments_of_more, fragments_of_legs}
 use Rattle.layout_model.proofs.PieceInduction.{by_pieces}
 
 -- a member weighs no more than all of them

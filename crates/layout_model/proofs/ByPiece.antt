@@ -12,7 +12,7 @@ use Rattle.layout_model.specs.Way.{FitsWay, place}
 use Rattle.layout_model.specs.Need.{needed, fragments_in_run}
 use Rattle.layout_model.specs.Shown.{shown_sector}
 use Rattle.layout_model.proofs.CountSteps.{fragments_none}
-use Rattle.layout_model.proofs.Begun.{needed_piece, needed_more, fragments_of_piece, fragments_of_more}
+use Rattle.layout_model.proofs.NeedsByPieces.{needed_piece, needed_more, fragments_of_piece, fragments_of_more}
 
 module _ (number : ℕ) (kind : Kind) (sizes : List ℕ) (members : ℕ → Tree) (cut : IsCut (head kind sizes) (piece_end kind sizes) (slot kind sizes))
     (start len : ℕ) (piece : Piece) (is : IsPiece kind sizes start len piece) where

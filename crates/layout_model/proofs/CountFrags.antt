@@ -12,7 +12,7 @@ use Rattle.layout_model.specs.Plan.{frags}
 use Rattle.layout_model.specs.Sound.{Sound}
 use Rattle.layout_model.proofs.RangeSums.{sum_same}
 use Rattle.layout_model.proofs.PieceInduction.{by_pieces}
-use Rattle.layout_model.proofs.Begun.{fragments_of_disk, fragments_of_piece, fragments_of_more, fragments_of_legs}
+use Rattle.layout_model.proofs.NeedsByPieces.{fragments_of_disk, fragments_of_piece, fragments_of_more, fragments_of_legs}
 use Rattle.layout_model.proofs.Cutting.{frags_first, frags_none}
 
 -- a run that is one piece has the fragments of the piece

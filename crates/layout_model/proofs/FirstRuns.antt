@@ -17,7 +17,7 @@ use Rattle.layout_model.specs.Way.{FitsWay, place}
 use Rattle.layout_model.specs.Need.{needed, fragments_in_run}
 use Rattle.layout_model.specs.Pieces.{IsFirstRun}
 use Rattle.layout_model.specs.Shown.{shown_sector}
-use Rattle.layout_model.proofs.Over.{can_cut}
+use Rattle.layout_model.proofs.FromMembers.{can_cut}
 use Rattle.layout_model.proofs.Steps.{cut_piece}
 use Rattle.layout_model.proofs.ByShape.{cuts_is, member_is}
 use Rattle.layout_model.proofs.PieceLemmas.{piece_inside}

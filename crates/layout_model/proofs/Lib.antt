@@ -6,10 +6,10 @@ pub mod PiecesGiveFragments
 pub mod Covered
 pub mod RangeSums
 pub mod Counted
-pub mod Begun
+pub mod NeedsByPieces
 pub mod PieceInduction
 pub mod AtMost
-pub mod Chosen
+pub mod MirrorMembers
 pub mod ShownLemmas
 pub mod Closed
 pub mod CountFrags
@@ -18,8 +18,8 @@ pub mod Planned
 pub mod PlanLaws
 pub mod Apart
 pub mod InOrder
-pub mod Under
-pub mod Over
+pub mod DevicesUnder
+pub mod FromMembers
 pub mod Stacks
 pub mod Steps
 pub mod ByShape
@@ -32,7 +32,7 @@ pub mod CountSteps
 pub mod WriteSizes
 pub mod Ways
 pub mod MayLemmas
-pub mod Followed
+pub mod SectorsFollow
 pub mod OneSlot
 pub mod OneFragment
 pub mod OneWay

@@ -15,7 +15,7 @@ use Rattle.layout_model.specs.Way.{FitsWay, place}
 use Rattle.layout_model.specs.Need.{needed, fragments_in_run}
 use Rattle.layout_model.specs.Shown.{keeps_data, shown_sector}
 use Rattle.layout_model.proofs.RangeSums.{sum_next}
-use Rattle.layout_model.proofs.Begun.{needed_disk, needed_legs, fragments_of_disk, fragments_of_legs}
+use Rattle.layout_model.proofs.NeedsByPieces.{needed_disk, needed_legs, fragments_of_disk, fragments_of_legs}
 use Rattle.layout_model.proofs.ByShape.{copies_is, keeps_is, member_is}
 
 -- a sum by the places of a list is the sum by its elements

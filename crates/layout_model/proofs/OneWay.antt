@@ -22,11 +22,11 @@ use Rattle.layout_model.specs.Laid.{Reaches}
 use Rattle.layout_model.specs.Writes.{IsWrite}
 use Rattle.layout_model.specs.OneWay.{IsTop, OneWayARound}
 use Rattle.layout_model.proofs.Apart.{HasDisk, place_has}
-use Rattle.layout_model.proofs.Over.{at_each_place, can_cut}
+use Rattle.layout_model.proofs.FromMembers.{at_each_place, can_cut}
 use Rattle.layout_model.proofs.OneSlot.{kind_one}
 use Rattle.layout_model.proofs.OneFragment.{one_fragment}
 use Rattle.layout_model.proofs.Stacks.{element, member_tree, disk_under}
-use Rattle.layout_model.proofs.Under.{Under, itself, up, member_below, members_apart, under_one_way}
+use Rattle.layout_model.proofs.DevicesUnder.{Under, itself, up, member_below, members_apart, under_one_way}
 
 abbrev start_of : Option Write → ℕ
 start_of None = 0

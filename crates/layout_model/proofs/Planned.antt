@@ -13,7 +13,7 @@ use Rattle.layout_model.specs.Sound.{Sound}
 use Rattle.layout_model.specs.Laws.{IsCutOff}
 use Rattle.layout_model.proofs.RangeSums.{sum_same}
 use Rattle.layout_model.proofs.PieceInduction.{by_pieces}
-use Rattle.layout_model.proofs.Begun.{needed_disk, needed_piece, needed_more, needed_legs}
+use Rattle.layout_model.proofs.NeedsByPieces.{needed_disk, needed_piece, needed_more, needed_legs}
 use Rattle.layout_model.proofs.Cutting.{cuts_first}
 use Rattle.layout_model.proofs.PlanLists.{leaves_of_each, takes_of_each, count_of_each}
 

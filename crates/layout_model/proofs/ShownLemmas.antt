@@ -14,7 +14,7 @@ use Rattle.stack_base.specs.Stack.{HasShape, IsStack}
 use Rattle.stack_base.proofs.Smallest.{smallest_le}
 use Rattle.layout_model.specs.Shown.{IsShownMember, ShowsFirst, shown_sector}
 use Rattle.layout_model.proofs.ByShape.{cuts_is, member_is}
-use Rattle.layout_model.proofs.Chosen.{leg_known}
+use Rattle.layout_model.proofs.MirrorMembers.{leg_known}
 use Rattle.layout_model.proofs.MirrorLemmas.{leg_shown}
 
 -- they have a member

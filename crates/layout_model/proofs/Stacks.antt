@@ -17,8 +17,8 @@ use Rattle.layout_model.specs.Plan.{frags}
 use Rattle.layout_model.proofs.Sound.{Sound}
 use Rattle.layout_model.proofs.Apart.{HasDisk, Apart}
 use Rattle.layout_model.proofs.InOrder.{are_fragments}
-use Rattle.layout_model.proofs.Over.{sound_over, has_over, apart_over, can_cut, has_leg}
-use Rattle.layout_model.proofs.Under.{Under, itself, under_over, under_le, member_below, members_apart}
+use Rattle.layout_model.proofs.FromMembers.{sound_over, has_over, apart_over, can_cut, has_leg}
+use Rattle.layout_model.proofs.DevicesUnder.{Under, itself, under_over, under_le, member_below, members_apart}
 
 -- there is an element at each place of a list
 pub element : {X : Type 0} (xs : List X) (i : ℕ) → i < length xs → (x : X) × (slice_get xs i ≡ Some x)

@@ -14,9 +14,9 @@ use Rattle.stack_base.proofs.Unfolded.{size-tree}
 use Rattle.layout_model.specs.Shown.{keeps_data, shown_sector}
 use Rattle.layout_model.specs.Way.{Place}
 use Rattle.layout_model.proofs.ByShape.{cuts_is, member_is}
-use Rattle.layout_model.proofs.Chosen.{leg_known}
+use Rattle.layout_model.proofs.MirrorMembers.{leg_known}
 use Rattle.layout_model.proofs.MirrorLemmas.{disk_is, disk_shown, leg_shown}
-use Rattle.layout_model.proofs.Over.{can_cut, has_leg}
+use Rattle.layout_model.proofs.FromMembers.{can_cut, has_leg}
 use Rattle.layout_model.proofs.Stacks.{element}
 
 -- a sector of a disk of the stack

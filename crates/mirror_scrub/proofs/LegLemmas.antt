@@ -11,7 +11,7 @@ use Rattle.stack_base.specs.declared.stack.Stack.{Stack}
 use Rattle.stack_base.specs.Stack.{IsStack}
 use Rattle.stack_base.specs.Tree.{Tree, Shape, Keeps, Cuts, Copies, shape_of, size, tree, legs_of}
 use Rattle.layout_model.proofs.ByShape.{copies_is, cuts_is, keeps_is, member_is}
-use Rattle.layout_model.proofs.Chosen.{leg_known}
+use Rattle.layout_model.proofs.MirrorMembers.{leg_known}
 use Rattle.mirror_scrub.specs.Seen.{mirror_member}
 
 -- the member of a mirror at a place

@@ -1,8 +1,8 @@
-mod Pooled
+mod PoolCalls
 mod Pops
-pub mod Rising
+pub mod TicketsRise
 pub mod Looking
 pub mod Refused
-pub mod Spent
+pub mod SpentMarks
 pub mod Counting
 pub mod Adding

@@ -1,9 +1,9 @@
 pub mod Sectors
-pub mod Sifted
+pub mod FirstLeft
 pub mod Places
-pub mod Updated
-pub mod Booked
+pub mod OneChanged
+pub mod OtherPlaces
 pub mod Vacancies
 pub mod Served
 pub mod PoolAttempts
-pub mod Home
+pub mod AllAtHome

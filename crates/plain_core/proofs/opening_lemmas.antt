@@ -1,7 +1,7 @@
-pub mod Counted
-pub mod Entered
+pub mod MadeByNumber
+pub mod TasksByName
 pub mod Opened
 pub mod Readable
 pub mod Seen
-pub mod Risen
+pub mod SlotsRise
 pub mod SeenCores

@@ -39,8 +39,8 @@ abbrev pub HasNoted : Setup → Noted → Returned → Type 0
 HasNoted setup noted returned = HaveTickets returned.log → AreNoted (notes_of setup returned.first returned.log) (Some noted)
 
 -- a trace has an entry for each of these tasks, at its place: what that one noted
-abbrev pub IsTraceOf : Setup → List Returned → Option (Vec Noted) → Type 0
-IsTraceOf setup returned trace = IfSome trace (λ (list : Vec Noted). Abreast (HasNoted setup) list.items returned)
+abbrev pub IsNotedTrace : Setup → List Returned → Option (Vec Noted) → Type 0
+IsNotedTrace setup returned trace = IfSome trace (λ (list : Vec Noted). Abreast (HasNoted setup) list.items returned)
 
 -- What closed objects show: the opened objects, the history of each with what it leaves, and each task with its calls.
 pub record HasClosed (closed : Closed) : Type 0 where
@@ -51,7 +51,7 @@ pub record HasClosed (closed : Closed) : Type 0 where
   pub firsts : map (λ (task : Returned). task.first) returned ≡ states closed.told.value.tasks.items
   pub tasks : Abreast (IsReturned (routing_setup (stage_of closed.told.value.objects).routing)) closed.tasks.items returned
   -- where there is a trace, each task noted its events, and they stand in the order of the tasks
-  pub trace : IsTraceOf (routing_setup (stage_of closed.told.value.objects).routing) returned closed.trace
+  pub trace : IsNotedTrace (routing_setup (stage_of closed.told.value.objects).routing) returned closed.trace
   -- the first pass has found what those of the tasks have
   pub found : All (λ (task : Returned). found_by task.desk.pass ≤ closed.pass.value.known) returned
   pub order : AreInOpenedOrder closed.told.value.objects closed

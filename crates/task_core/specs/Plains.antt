@@ -115,7 +115,7 @@ abbrev pub Advances : TallyState → TallyState → Type 0
 Advances old new =
     ((old.round + 1 < length old.left) × (new ≡ record old { round = old.round + 1 })) ⊎ ((length old.left ≤ old.round + 1) × (new ≡ old))
 
--- where no later round exists, the last one stays
+-- where no later round exists, the last one stays: an object answers each call, even one for which the machine has no event
 abbrev pub StaysLast : Objects → Request → Reply → Objects → Type 0
 StaysLast old (NextRound round) Did new = (length old.tally.left ≤ old.tally.round + 1) × (new ≡ old)
 StaysLast old request reply new = ⊥

@@ -17,7 +17,7 @@ use Rattle.stack_base.proofs.KindCuts.{kind_cuts}
 use Rattle.stack_base.proofs.Pieces.{is_piece, piece_len}
 use Rattle.layout_model.proofs.ByShape.{cuts_is, copies_is, keeps_is, member_is}
 use Rattle.layout_model.proofs.FirstRuns.{member_there, first_run_is}
-use Rattle.layout_model.proofs.Over.{can_cut}
+use Rattle.layout_model.proofs.FromMembers.{can_cut}
 use Rattle.bio_records.specs.declared.bio.Bio.{Bio}
 use Rattle.task_steps.specs.declared.routes.Cut.{Cut}
 use Rattle.run_machine.specs.Scene.{tree_number}

@@ -68,7 +68,8 @@ pub record Asks {S : Type 0} (serves : Service S) (owes : Owing) (setup : Setup)
       ⊎ ((reply ≡ Nothing) × ((left : ℕ) × serves middle LookLeft (LeftOver left) new × (step ≡ idle_step left)))
 
 -- A step of a task: it looks where it has to, asks one object for what it asks for next, and goes on with the reply. It goes by what was asked, since
--- that is what a history of calls has to match; what each answer of a step tells stands in ByAnswer.antt, and follows from this.
+-- that is what a history of calls has to match, and it says what is owed behind each call; what each answer of a step tells stands in ByAnswer.antt,
+-- follows from this, and says less: it could not stand here in its place.
 pub data Turns {S : Type 0} (serves : Service S) (owes : Owing) (setup : Setup)
     (task : TaskState) (old : S) (next : TaskState) (new : S) (step : Step) : Type 0 where
   -- it asks for nothing: it has ended, or has broken off

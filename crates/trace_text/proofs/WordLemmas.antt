@@ -44,6 +44,7 @@ of_choice word_of all again = record {
   takes = λ word a e. (tt, found_word word_of all word a e);
 }
 
+-- each verb is read again as itself
 verb_again : (one : Verb) → verb_of_word (verb_word one) ≡ Some one
 verb_again verb.Take = refl
 verb_again verb.Try = refl

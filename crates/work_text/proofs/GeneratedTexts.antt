@@ -3,9 +3,9 @@ use Rattle.std.proofs.Common.{◌≡◌, ◌∙◌, ◌+◌, ◌*◌, ◌/◌, �
 use Rattle.std.specs.Prelude.{if◌then◌else◌}
 use Rattle.std.proofs.Math.Nat.{le-div_iff_mul-le, mul-div-le, mul-le-mul, mul_assoc}
 use Rattle.std.proofs.lemmas.Bool.{le-ltb, leb-true}
-use Rattle.std.proofs.lemmas.Bool.Decides.{nat_tests}
 use Rattle.std.proofs.lemmas.Fmt.{length-decimal-le}
 use Rattle.stack_base.proofs.ListLemmas.{Each}
+use Rattle.stack_base.proofs.NumberLemmas.{not_zero}
 use Rattle.decl_text.specs.Text.{lines, most_bytes}
 use Rattle.decl_text.specs.Known.{nothing_declared}
 use Rattle.decl_text.specs.Items.{number}
@@ -41,8 +41,6 @@ stripe_some chunk some few =
     let same : 2 * chunk * q ≡ 2 * (chunk * q) = mul_assoc 2 chunk q in
     (omega (arith, least, same), omega (arith, most, same))
 
-not_zero : (n : ℕ) → 1 ≤ n → (n == 0) ≡ false
-not_zero n some = grind (arith, nat_tests)
 
 -- ---- lengths
 

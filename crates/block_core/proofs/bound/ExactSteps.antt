@@ -59,7 +59,7 @@ use Rattle.block_core.proofs.moves.Totals.{task_part}
 use Rattle.block_core.proofs.moves.SumsCompared.{under_in_all}
 use Rattle.block_core.proofs.images.MasterRecords.{bare, bare_node}
 use Rattle.block_core.proofs.bound.RoleHoldings.{odd, odd_holding, none_odd}
-use Rattle.block_core.proofs.bound.Dues.{one_each, write_due, due, in_hand}
+use Rattle.block_core.proofs.bound.EventsDue.{one_each, write_due, due, in_hand}
 use Rattle.block_core.proofs.bound.StillDue.{takes_one}
 use Rattle.block_core.proofs.bound.NoMisses.{NonePunts, TaskNoPunt, NoPunt, still_none, had}
 use Rattle.block_core.proofs.bound.KeeperEnds.{no_duties_left}

@@ -27,7 +27,7 @@ use Rattle.run_machine.specs.Runs.{State, Steps}
 use Rattle.block_core.specs.Exact.{is_miss}
 use Rattle.block_core.proofs.moves.Moves.{Move, IsTaking, place_of, Can, after, with_submission, HasSubmission, Wants, with_want, filled_of, cut_lists}
 use Rattle.block_core.proofs.moves.Moves as moves
-use Rattle.block_core.proofs.bound.Dues.{IsHad}
+use Rattle.block_core.proofs.bound.EventsDue.{IsHad}
 use Rattle.block_core.proofs.sound.TaskSubmissions.{all-upd, wants_busy}
 use Rattle.block_core.proofs.sound.SumParts.{out_more, out_same}
 use Rattle.block_core.proofs.moves.SubmissionSteps.{asks_submission}

@@ -4,7 +4,7 @@ use Rattle.std.specs.Prelude.{sum_by}
 use Rattle.std.proofs.lemmas.List.Sums.{sum_by-cons, sum_by_push}
 use Rattle.stack_base.specs.Tree.{Tree, Leaf, Split, Mirrored}
 use Rattle.layout_model.specs.Need.{needed, vectors}
-use Rattle.layout_model.proofs.Begun.{needed_disk}
+use Rattle.layout_model.proofs.NeedsByPieces.{needed_disk}
 use Rattle.bio_records.specs.declared.bio.Pad.{Pad}
 use Rattle.bio_records.specs.Items.{Item}
 use Rattle.bio_lists.specs.Submission.{submitted}
@@ -37,7 +37,7 @@ use Rattle.block_core.proofs.images.MasterRecords.{zeros}
 use Rattle.block_core.proofs.sound.OwnParts.{closing_own}
 use Rattle.block_core.proofs.bound.RoleHoldings.{odd, odd_holding}
 use Rattle.block_core.proofs.stuck.Idle.{node_part}
-use Rattle.block_core.proofs.bound.Dues.{one_each, bio_due, due, in_hand, IsHad, blind, bare_none, later_due, tells_due, carried_hand, closes_one, lands, copies_due}
+use Rattle.block_core.proofs.bound.EventsDue.{one_each, bio_due, due, in_hand, IsHad, blind, bare_none, later_due, tells_due, carried_hand, closes_one, lands, copies_due}
 
 module _ (scene : Scene) (s : State) (f : LedgersAreNumbered scene) (g : DeviceGeometry scene.setup) (p : Needs scene.setup) (v : Divided scene.setup one_each) (i : Invariant scene s) (a : Placed scene.setup s)
     (counted : total_weight scene (misfits over) s ≡ 0) (held : total_weight scene odd s ≡ 0) where

@@ -20,7 +20,7 @@ use Rattle.layout_model.specs.Laid.{Lands, round_of, IsLaid}
 use Rattle.layout_model.specs.May.{fault_of}
 use Rattle.layout_model.specs.Way.{Place, place}
 use Rattle.layout_model.specs.Writes.{IsWrite}
-use Rattle.layout_model.proofs.Followed.{fragments_follow}
+use Rattle.layout_model.proofs.SectorsFollow.{fragments_follow}
 use Rattle.layout_model.proofs.PlanLaws.{trees_are_sound}
 use Rattle.run_machine.specs.Tasks.{Todo}
 use Rattle.run_machine.specs.declared.event.Event.{Event}

@@ -27,7 +27,7 @@ use Rattle.stack_base.proofs.KindCuts.{kind_cuts}
 use Rattle.stack_base.proofs.Pieces.{is_piece}
 use Rattle.layout_model.specs.Pieces.{IsFirstRun}
 use Rattle.layout_model.specs.Need.{needed, fragments_in_run}
-use Rattle.layout_model.proofs.Over.{can_cut}
+use Rattle.layout_model.proofs.FromMembers.{can_cut}
 use Rattle.layout_model.proofs.ByShape.{cuts_is, copies_is, keeps_is, member_is}
 use Rattle.layout_model.proofs.FirstRuns.{member_there, first_run_is}
 use Rattle.layout_model.proofs.MirrorLemmas.{leg_size}

@@ -17,7 +17,7 @@ use Rattle.block_core.proofs.sound.TaskSubmissions.{all-upd}
 use Rattle.block_core.proofs.sound.Orders.{Placed, DeviceGeometry}
 use Rattle.block_core.proofs.moves.Deltas.{vacant_at}
 use Rattle.block_core.proofs.sound.OrdersKept.{placed_at}
-use Rattle.block_core.proofs.sound.Alive.{nodes_all, books_all, two_all}
+use Rattle.block_core.proofs.sound.NodesWait.{nodes_all, books_all, two_all}
 
 pub record Counted (n : ℕ) (s : State) : Type 0 where
   pub outs : (q : ℕ) → (s.objects.pool q).facts.out ≤ n

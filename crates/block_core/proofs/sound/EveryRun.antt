@@ -20,7 +20,7 @@ use Rattle.block_core.proofs.start.StagesAtStart.{stage_at_start}
 use Rattle.block_core.proofs.sound.Runs.{step_keeps, step_done}
 use Rattle.block_core.proofs.moves.StepMoves.{step_is_move}
 use Rattle.block_core.proofs.sound.OrdersKept.{stays_placed, placed_in}
-use Rattle.block_core.proofs.sound.Alive.{IsAlive, alive}
+use Rattle.block_core.proofs.sound.NodesWait.{IsAlive, alive}
 use Rattle.block_core.proofs.sound.Rounds.{Tallied, stays_tallied}
 use Rattle.block_core.proofs.start.TallyAtStart.{keeper_place, start_tallied}
 use Rattle.stack_base.specs.Stack.{HasRescuers}
@@ -31,7 +31,7 @@ use Rattle.block_core.proofs.sound.OffLevels.{off_levels, AreLeveled}
 use Rattle.block_core.proofs.sound.LevelsKept.{stays_leveled}
 use Rattle.block_core.specs.Rounds.{RoundsAreTallied}
 use Rattle.run_machine.specs.declared.event.TaskId.{TaskId}
-use Rattle.block_core.proofs.sound.Posts.{Posted, stays_posted, left_long}
+use Rattle.block_core.proofs.sound.TaskPosts.{Posted, stays_posted, left_long}
 use Rattle.block_core.proofs.moves.Devices.{ground}
 use Rattle.block_core.proofs.start.WritesAtStart.{start_placed}
 

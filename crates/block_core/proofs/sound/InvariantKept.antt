@@ -13,7 +13,7 @@ use Rattle.block_core.proofs.moves.Sums.{upd-other}
 use Rattle.block_core.proofs.sound.Invariant.{IsIn, LedgersAreNumbered, Invariant}
 use Rattle.mempool_core.proofs.MoveLemmas.{after_move_adds_up}
 use Rattle.block_core.proofs.sound.ElementsOut.{outs}
-use Rattle.block_core.proofs.sound.Counts.{counts}
+use Rattle.block_core.proofs.sound.ReferencesCounted.{counts}
 use Rattle.block_core.proofs.sound.OwnParts.{owns}
 use Rattle.block_core.proofs.sound.TaskSubmissions.{tasks, all-upd}
 

@@ -25,7 +25,7 @@ use Rattle.block_core.proofs.bound.ChargesAtStart.{zip_sum}
 use Rattle.block_core.proofs.start.StartTotals.{map_sum, opened_total}
 use Rattle.block_core.proofs.sound.EveryRun.{IsReachedWhole, runs_whole, start_whole}
 use Rattle.block_core.proofs.unrefused.RoomKept.{run_roomy}
-use Rattle.block_core.proofs.unrefused.Ready.{ends_few}
+use Rattle.block_core.proofs.unrefused.ObjectsAnswer.{ends_few}
 use Rattle.block_core.proofs.unrefused.Unbroken.{small}
 use Rattle.block_core.proofs.sound.Elements.{write_need, worth, outs_within, stays_within}
 

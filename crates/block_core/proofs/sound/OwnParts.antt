@@ -25,7 +25,7 @@ use Rattle.block_core.specs.Roles.{named}
 use Rattle.block_core.proofs.sound.Invariant.{own_part, own_of, LedgersAreNumbered, Invariant}
 use Rattle.block_core.proofs.sound.SumParts.{cut_weight, copies_weight, unless_none, submission_part, named_away, is_away}
 use Rattle.block_core.proofs.moves.BookMaps.{made, became, chained}
-use Rattle.block_core.proofs.sound.Counts.{begun_names, tells_refs, leg_named, makes_leg}
+use Rattle.block_core.proofs.sound.ReferencesCounted.{begun_names, tells_refs, leg_named, makes_leg}
 
 sum_at-le : {X : Type 0} (v w : ℕ → X → ℕ) (n : ℕ) (f : ℕ → X) → ((i : ℕ) (x : X) → v i x ≤ w i x) → sum_at v n f ≤ sum_at w n f
 unfolding sum_at

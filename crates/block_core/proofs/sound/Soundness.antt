@@ -30,7 +30,7 @@ use Rattle.block_core.proofs.sound.LegLists.{TaskHasLegs, HasLegs, Legged, stays
 use Rattle.block_core.proofs.sound.ListOrder.{hands_right, in_list_order}
 use Rattle.block_core.proofs.status.KeptEnds.{ends_are_kept}
 use Rattle.block_core.proofs.sound.Positions.{IsWithin, stays_within}
-use Rattle.block_core.proofs.sound.Alive.{IsAlive}
+use Rattle.block_core.proofs.sound.NodesWait.{IsAlive}
 use Rattle.block_core.proofs.unrefused.RoomKept.{run_roomy}
 use Rattle.block_core.proofs.images.Completed.{fragments_add_up}
 use Rattle.block_core.proofs.images.PlannedOnce.{planned_is, is_planned}

@@ -32,7 +32,7 @@ use Rattle.run_machine.proofs.Frames.{pools_are_numbered}
 use Rattle.block_core.specs.Scenarios.{IsScenario, AreSorted, KeepsSome, EveryPoolKeepsSome}
 use Rattle.block_core.proofs.stuck.NothingWaits.{IsPool}
 use Rattle.block_core.proofs.moves.Geometry.{at_device}
-use Rattle.block_core.proofs.sound.Posts.{ByRounds, Mins, starts, Manned, Posted}
+use Rattle.block_core.proofs.sound.TaskPosts.{ByRounds, Mins, starts, Manned, Posted}
 use Rattle.block_core.proofs.start.StartTotals.{writer_tasks, rescuer_tasks, completer_tasks}
 use Rattle.block_core.proofs.start.TallyAtStart.{todo_numbered, each_passed, each_image, keeper_place}
 use Rattle.block_core.proofs.stuck.Stuck.{Crew}

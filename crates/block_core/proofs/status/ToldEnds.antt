@@ -24,7 +24,7 @@ use Rattle.block_core.proofs.sound.Invariant.{Invariant}
 use Rattle.block_core.proofs.moves.Deltas.{delta}
 use Rattle.block_core.proofs.moves.Totals.{IsWithin, within, task_part}
 use Rattle.block_core.proofs.stuck.Idle.{node_part}
-use Rattle.block_core.proofs.sound.Counts.{tells_refs}
+use Rattle.block_core.proofs.sound.ReferencesCounted.{tells_refs}
 use Rattle.block_core.proofs.status.RunEndings.{few_yes}
 use Rattle.block_core.proofs.status.NodeValues.{is_itself, few_is, few_well, closes_given}
 use Rattle.block_core.proofs.status.AtOneNode.{leg_few, decides_few, times_less, times_few, sum_few}

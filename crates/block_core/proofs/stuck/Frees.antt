@@ -36,7 +36,7 @@ use Rattle.run_machine.specs.Runs.{IsLet, HasFree}
 use Rattle.block_core.specs.Rooms.{todo_need, HasRoomInBooks}
 use Rattle.block_core.proofs.unrefused.NodeNeeds.{Needs}
 use Rattle.block_core.proofs.unrefused.VacantPlaces.{has_vacant}
-use Rattle.block_core.proofs.sound.Posts.{TakenFits, AtPost, Posted}
+use Rattle.block_core.proofs.sound.TaskPosts.{TakenFits, AtPost, Posted}
 use Rattle.block_core.proofs.stuck.NothingWaits.{spares, StillDoing, StillTaken, StillWriter, StillRescuer, IsStill}
 use Rattle.block_core.proofs.stuck.FreeEvents.{HasNumbers, some_needs, free_of, link_serves}
 use Rattle.block_core.proofs.stuck.SubmissionsFree.{submission_free}

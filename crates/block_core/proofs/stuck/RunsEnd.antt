@@ -11,7 +11,7 @@ use Rattle.block_core.proofs.moves.Devices.{ground}
 use Rattle.block_core.proofs.unrefused.NoneFails.{runs_on, begins_on}
 use Rattle.block_core.proofs.sound.Invariant.{LedgersAreNumbered}
 use Rattle.block_core.proofs.start.InvariantAtStart.{start_opened}
-use Rattle.block_core.proofs.sound.Posts.{AtPost, Posted}
+use Rattle.block_core.proofs.sound.TaskPosts.{AtPost, Posted}
 use Rattle.block_core.proofs.start.PostsAtStart.{ids_of, start_posted}
 use Rattle.block_core.proofs.unrefused.Resizes.{home_between}
 use Rattle.block_core.proofs.sound.Rounds.{Tallied, TaskRounds}

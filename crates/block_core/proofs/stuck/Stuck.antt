@@ -34,7 +34,7 @@ use Rattle.block_core.specs.Rounds.{round_of, is_of_round, all_worth, unfinished
 use Rattle.block_core.proofs.sound.EventStages.{zeros, submission_zero}
 use Rattle.block_core.proofs.sound.Rounds.{TodosFit, TaskRounds, Tallied}
 use Rattle.block_core.proofs.unrefused.NodeNeeds.{Needs}
-use Rattle.block_core.proofs.sound.Posts.{ByRounds, starts, AtPost, Posted}
+use Rattle.block_core.proofs.sound.TaskPosts.{ByRounds, starts, AtPost, Posted}
 use Rattle.block_core.proofs.stuck.NothingWaits.{IsPool, spares, StillDoing, StillTaken, StillWriter, IsStill, AllStill, some_place, submission_below}
 use Rattle.block_core.proofs.stuck.WaitersBelow.{WaitInvariant, none_open, all_home, has_spare}
 use Rattle.block_core.proofs.stuck.Frees.{task_free}

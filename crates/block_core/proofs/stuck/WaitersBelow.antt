@@ -21,7 +21,7 @@ use Rattle.block_core.proofs.sound.TaskSubmissions.{IsBusy, rests_or_busy}
 use Rattle.block_core.proofs.sound.Orders.{IsOwn, DoingPlaced, TaskPlaced, Placed, DeviceGeometry}
 use Rattle.std.specs.Prelude.{min}
 use Rattle.stack_base.proofs.NumberLemmas.{zero_or}
-use Rattle.block_core.proofs.sound.Alive.{IsAlive}
+use Rattle.block_core.proofs.sound.NodesWait.{IsAlive}
 use Rattle.block_core.proofs.moves.Totals.{part_of}
 use Rattle.block_core.proofs.sound.OffLevels.{bio_off, parent_off, held_off, off_levels}
 use Rattle.block_core.proofs.stuck.Waits.{DoingWaits, TaskWaits, Waits}

@@ -6,7 +6,7 @@ use Rattle.block_core.proofs.moves.Devices.{ground}
 use Rattle.block_core.proofs.unrefused.NodeNeeds.{needs_known}
 use Rattle.block_core.proofs.sound.EveryRun.{runs_whole, start_whole}
 use Rattle.block_core.proofs.unrefused.RoomKept.{run_roomy}
-use Rattle.block_core.proofs.unrefused.Ready.{ready}
+use Rattle.block_core.proofs.unrefused.ObjectsAnswer.{ready}
 use Rattle.block_core.proofs.unrefused.Unbroken.{small, no_task_breaks}
 use Rattle.block_core.proofs.unrefused.Replies.{event_or_nothing}
 

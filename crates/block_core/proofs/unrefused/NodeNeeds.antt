@@ -9,7 +9,7 @@ use Rattle.stack_base.specs.Stack.{IsStack}
 use Rattle.stack_base.specs.Tree.{Tree, Leaf, Split, Mirrored, tree}
 use Rattle.layout_model.specs.Need.{needed}
 use Rattle.layout_model.proofs.RangeSums.{sum_next}
-use Rattle.layout_model.proofs.Begun.{needed_legs}
+use Rattle.layout_model.proofs.NeedsByPieces.{needed_legs}
 use Rattle.bio_records.specs.declared.bio.Bio.{Bio}
 use Rattle.bio_records.specs.declared.bio.Pad.{Pad}
 use Rattle.bio_records.specs.Items.{Item}

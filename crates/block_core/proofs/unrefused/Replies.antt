@@ -19,7 +19,7 @@ use Rattle.run_machine.specs.Opened.{scene}
 use Rattle.run_machine.specs.Runs.{State, IsLet}
 use Rattle.block_core.specs.Replies.{IsEventOrNothing}
 use Rattle.run_machine.proofs.Idle.{IsFair, IsIdle, fair_task, same_pool, task_stays}
-use Rattle.block_core.proofs.unrefused.Ready.{IsReady, not_refused}
+use Rattle.block_core.proofs.unrefused.ObjectsAnswer.{IsReady, not_refused}
 
 abbrev MakesEvent : Request → Reply → Type 0
 MakesEvent request reply = (what : What) × (what_of request reply ≡ Some what)

@@ -30,7 +30,7 @@ use Rattle.block_core.proofs.bound.ChargesAtStart.{zip_sum}
 use Rattle.block_core.proofs.start.StartTotals.{map_sum}
 use Rattle.block_core.proofs.sound.EveryRun.{runs_tallied, runs_leveled, start_leveled, runs_whole, start_whole}
 use Rattle.block_core.proofs.unrefused.RoomKept.{run_roomy}
-use Rattle.block_core.proofs.unrefused.Ready.{IsSmall, ready, not_refused}
+use Rattle.block_core.proofs.unrefused.ObjectsAnswer.{IsSmall, ready, not_refused}
 use Rattle.block_core.proofs.start.TallyAtStart.{keeper_place, start_tallied}
 use Rattle.block_core.proofs.unrefused.Resizes.{nothing_out}
 use Rattle.block_core.proofs.unrefused.NoneFails.{GoesOnCarrying, runs_on, begins_on}

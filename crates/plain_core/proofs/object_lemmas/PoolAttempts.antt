@@ -24,7 +24,7 @@ use Rattle.plain_core.specs.steps.Answers.{IsAnswer, Refuses, AnswersRequest}
 use Rattle.plain_core.specs.steps.Takes.{TakesPart, TakesSlip, TakesVector}
 use Rattle.plain_core.specs.declared.fault.CoreFault.{CoreFault}
 use Rattle.plain_core.specs.declared.fault.CoreFault.TheVariants as fault
-use Rattle.plain_core.proofs.object_lemmas.Updated.{moves}
+use Rattle.plain_core.proofs.object_lemmas.OneChanged.{moves}
 use Rattle.plain_core.proofs.object_lemmas.Served.{one}
 
 -- a take that had an element

@@ -36,7 +36,7 @@ use Rattle.plain_core.specs.objects.Told.{MovesAs, IsPunt, Punts, Pops, IsPush, 
 use Rattle.plain_core.specs.steps.Answers.{IsAnswer, Refuses, HasAnswer, AnswersRequest, Lacks}
 use Rattle.plain_core.specs.declared.fault.CoreFault.{CoreFault}
 use Rattle.plain_core.specs.declared.fault.CoreFault.TheVariants as fault
-use Rattle.plain_core.proofs.object_lemmas.Updated.{moves, rescue_set, book_set, disk_set}
+use Rattle.plain_core.proofs.object_lemmas.OneChanged.{moves, rescue_set, book_set, disk_set}
 
 -- what is told is one thing
 pub one : {X : Type 0} {x y : X} → Some x ≡ Some y → y ≡ x

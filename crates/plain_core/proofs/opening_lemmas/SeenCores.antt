@@ -14,7 +14,7 @@ use Rattle.plain_core.specs.opening.Opening.{core_objects_of, IsOpenedCore}
 use Rattle.plain_core.specs.opening.Seen.{HasNotBegun, Rises}
 use Rattle.plain_core.specs.objects.Plain.{CoreObjects}
 use Rattle.plain_core.proofs.opening_lemmas.Opened.{is_core, opened_so}
-use Rattle.plain_core.proofs.opening_lemmas.Risen.{firsts, risen}
+use Rattle.plain_core.proofs.opening_lemmas.SlotsRise.{firsts, risen}
 use Rattle.plain_core.proofs.opening_lemmas.Seen.{can, same}
 
 module _ (o : Opened) (is : IsOpened o) where

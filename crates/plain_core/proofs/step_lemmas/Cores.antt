@@ -28,7 +28,7 @@ use Rattle.plain_core.specs.steps.Views.{task_of_plain}
 use Rattle.plain_core.specs.steps.Moves.{TaskMoves}
 use Rattle.plain_core.specs.Cores.{CoreState, state_of_core, scene_of_core, task_at, slot_of, IsCore, IsPlaceOfTask, HasNoTask, Applies, StepsFrom, StepsAt}
 use Rattle.plain_core.proofs.object_lemmas.Places.{at_set, head_within}
-use Rattle.plain_core.proofs.object_lemmas.Updated.{upd_is}
+use Rattle.plain_core.proofs.object_lemmas.OneChanged.{upd_is}
 
 -- what a rescuer takes is within
 reply_fits : (stack : Stack) (old : CoreObjects) (request : Request) (reply : Reply) (new : Objects) → ((dev : ℕ) → AreWithin stack (core_rescue_at old dev))

@@ -17,8 +17,8 @@ use Rattle.object_things.specs.Lists.{ListLooks}
 use Rattle.object_things.specs.Pools.{PoolLooks}
 use Rattle.object_things.specs.Stamps.{ThingState, is_spent}
 use Rattle.object_things.specs.Tallies.{TallyLooks}
-use Rattle.object_things.proofs.Rising.{marks}
-use Rattle.object_things.proofs.Spent.{book_unserved, book_keeps, disk_unserved, disk_keeps, list_unserved, list_keeps, pool_unserved, pool_keeps, tally_unserved, tally_keeps}
+use Rattle.object_things.proofs.TicketsRise.{marks}
+use Rattle.object_things.proofs.SpentMarks.{book_unserved, book_keeps, disk_unserved, disk_keeps, list_unserved, list_keeps, pool_unserved, pool_keeps, tally_unserved, tally_keeps}
 use Rattle.shared_objects.specs.Kinds.{ThingAt, serves_at, looks_at, chooses_at, answers_at}
 use Rattle.shared_objects.specs.Logs.{is_stop}
 

@@ -22,7 +22,7 @@ use Rattle.run_machine.specs.Requests.{Request, Reply, Done, NextRound, Did, Out
 use Rattle.run_machine.specs.Scene.{Setup, is_disk}
 use Rattle.run_machine.specs.Tasks.{NoBio, Empty, Duty, Resizes, Starts, Keeps, Stops, TaskState, Writer, Rescuer, Completer, Keeper, request, answered, after_resize}
 use Rattle.run_machine.proofs.OneState.{id_stays}
-use Rattle.block_core.proofs.sound.Posts.{starts}
+use Rattle.block_core.proofs.sound.TaskPosts.{starts}
 use Rattle.block_core.proofs.start.PostsAtStart.{starts_all}
 use Rattle.object_things.specs.Histories.{Call, drawn_in}
 use Rattle.object_things.specs.Stamps.{ThingState, StepOf}

@@ -1,5 +1,5 @@
 -- What the tasks of closed objects noted, joined by tickets, are the events of the run to which the histories merge.
-use Rattle.std.proofs.Common.{tt, ◌≡◌, ◌⊎◌, ◌<◌, ◌≤◌, ◌++◌, ℕ, suc, List, [], ◌∷◌, Option, None, Some, length, get_or, inl, inr, refl, sym, ◌∙◌, subst, arith}
+use Rattle.std.proofs.Common.{◌≡◌, ◌⊎◌, ◌<◌, ◌≤◌, ◌++◌, ℕ, suc, List, [], ◌∷◌, Option, None, Some, length, get_or, inl, inr, refl, sym, ◌∙◌, subst, arith}
 use Rattle.std.specs.Global.{Vec}
 use Rattle.std.specs.Option.{is_some}
 use Rattle.std.specs.Prelude.{All, IfSome, slice_get, slice_index_or}
@@ -14,7 +14,7 @@ use Rattle.task_core.specs.Plains.{stage_of}
 use Rattle.task_steps.specs.Routed.{routing_setup}
 use Rattle.shared_objects.specs.ClosedByName.{history_in, object_left_in, names_in}
 use Rattle.shared_objects.specs.Closes.{Returned, ClosesAs}
-use Rattle.shared_objects.specs.Left.{HasClosed, HasNoted, IsTraceOf}
+use Rattle.shared_objects.specs.Left.{HasClosed, HasNoted, IsNotedTrace}
 use Rattle.shared_objects.specs.Noting.{notes_of, HaveTickets}
 use Rattle.shared_objects.specs.Rows.{Abreast}
 use Rattle.shared_objects.specs.declared.closed.Closed.{Closed}
@@ -77,7 +77,7 @@ module _ (closed : Closed) (has : HasClosed closed) where
           in_scenario (has.firsts ∙ has.opened.tasks) place x at)))
       by_two (inr (le, none)) = let long = is.lens in absurd (omega (arith, le, less, long))
 
-  rise_in : (trace : Option (Vec Noted)) → IsTraceOf now has.returned trace → TraceRises trace
+  rise_in : (trace : Option (Vec Noted)) → IsNotedTrace now has.returned trace → TraceRises trace
   rise_in None is = tt
   rise_in (Some list) is = entries_rise list.items is
 
@@ -103,7 +103,7 @@ module _ (closed : Closed) (has : HasClosed closed) where
       sym (notes_are_runs closed.told.value (names_in closed) (history_in closed) (object_left_in closed closed.told.value.objects) has.returned closed.pass.value
       has.opened has.firsts has.closes joined last (subst (λ all. IsJoinedByTicket all joined) (noted_is trace are whole) is) run)
 
-  events_in : (last : State) (run : IsMerged last) (trace : Option (Vec Noted)) (events : Option (Vec Event)) → IsTraceOf now has.returned trace → IsTrace trace events
+  events_in : (last : State) (run : IsMerged last) (trace : Option (Vec Noted)) (events : Option (Vec Event)) → IsNotedTrace now has.returned trace → IsTrace trace events
       → (is_some events ≡ is_some trace) × IfSome events (λ (list : Vec Event). list.items ≡ run.0)
   events_in last run None None are is = (refl, tt)
   events_in last run None (Some list) are is = absurd is

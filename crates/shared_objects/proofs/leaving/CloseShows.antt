@@ -1,5 +1,5 @@
 -- What is shown once all tasks were put away and the locks were closed.
-use Rattle.std.proofs.Common.{tt, ◌≡◌, ◌≤◌, ◌<◌, ℕ, zero, suc, true, List, [], ◌∷◌, All, arith, refl, sym, ◌∙◌, ap, ap₂, subst, length, map, get_or, Option, None, Some}
+use Rattle.std.proofs.Common.{◌≡◌, ◌≤◌, ◌<◌, ℕ, zero, suc, true, List, [], ◌∷◌, All, arith, refl, sym, ◌∙◌, ap, ap₂, subst, length, map, get_or, Option, None, Some}
 use Rattle.std.specs.Global.{Vec}
 use Rattle.std.specs.Prelude.{◌-◌, ◌^◌, min}
 use Rattle.std.proofs.lemmas.List.{get_or-map, length-map}
@@ -17,7 +17,7 @@ use Rattle.shared_objects.specs.Closes.{ClosesAs, Returned}
 use Rattle.shared_objects.specs.Desks.{DeskState}
 use Rattle.shared_objects.specs.Holding.{SeatsHold, desk_of, dev_key, set_key, slip_key, stage_at, writer_key}
 use Rattle.shared_objects.specs.Joining.{AreHere, ArePutAway, CanEnd, HaveNoted, IsHereOf}
-use Rattle.shared_objects.specs.Left.{AreInOpenedOrder, HasClosed, IsReturned, IsTraceOf}
+use Rattle.shared_objects.specs.Left.{AreInOpenedOrder, HasClosed, IsReturned, IsNotedTrace}
 use Rattle.shared_objects.specs.Logs.{HasStopped, IsLogged, events_in}
 use Rattle.shared_objects.specs.Noting.{AreNoted, HaveTickets, notes_of}
 use Rattle.shared_objects.specs.Passes.{found_by}
@@ -214,7 +214,7 @@ module _ (shared : Shared) (firsts : TaskSeats) (closed : Closed) (holds : Share
   }
 
   -- what each noted are the notes of its calls
-  noted_by : (trace : Option (Vec Noted)) → HaveNoted away.rans trace → IsTraceOf set returned trace
+  noted_by : (trace : Option (Vec Noted)) → HaveNoted away.rans trace → IsNotedTrace set returned trace
   noted_by None have = tt
   noted_by (Some list) have = let l = are.lens in let m = have.lens in record {
     lens = omega (arith, l, m);
@@ -255,7 +255,7 @@ module _ (shared : Shared) (firsts : TaskSeats) (closed : Closed) (holds : Share
     closes = subst (λ (o : Opened). ClosesAs (routing_setup (stage_of o.objects).routing) o.objects (names_in closed) (history_in closed) (object_left_in closed o.objects) returned closed.pass.value) back closes;
     firsts = subst (λ (o : Opened). map (λ (task : Returned). task.first) returned ≡ states o.tasks.items) back firsts_are;
     tasks = subst (λ (o : Opened). Abreast (IsReturned (routing_setup (stage_of o.objects).routing)) closed.tasks.items returned) back tasks_are;
-    trace = subst (λ (o : Opened). IsTraceOf (routing_setup (stage_of o.objects).routing) returned closed.trace) back (noted_by closed.trace away.noted);
+    trace = subst (λ (o : Opened). IsNotedTrace (routing_setup (stage_of o.objects).routing) returned closed.trace) back (noted_by closed.trace away.noted);
     found = found;
     order = subst (λ (o : Opened). AreInOpenedOrder o.objects closed) back order;
     room = subst (λ (o : Opened). IsReservedForRun (scenario_in o).stack (length (scenario_in o).writes) closed.room) back

@@ -14,7 +14,7 @@ use Rattle.object_things.specs.Histories.{Call, KeepsHistory, or_last, TicketsRi
 use Rattle.object_things.specs.Stamps.{ChoosesNone, ThingState}
 use Rattle.object_things.proofs.Looking.{book_quiet, tally_quiet, disk_quiet, list_quiet, pool_quiet}
 use Rattle.object_things.proofs.Refused.{book_stays, disk_stays, list_stays, pool_stays, tally_stays}
-use Rattle.object_things.proofs.Rising.{keeps_history}
+use Rattle.object_things.proofs.TicketsRise.{keeps_history}
 use Rattle.object_things.specs.Books.{BookServes, BookLooks}
 use Rattle.object_things.specs.Disks.{DiskChooses, DiskServes, DiskLooks}
 use Rattle.object_things.specs.Lists.{ListServes, ListLooks}

@@ -3,7 +3,7 @@ use Rattle.std.proofs.lemmas.Bool.{both_ways, eqb-true, eqb-false, eq-eqb}
 use Rattle.std.proofs.lemmas.Option.{slice_get-get_or}
 use Rattle.stack_base.specs.Tree.{shape_of}
 use Rattle.stack_base.proofs.NumberLemmas.{nonzero}
-use Rattle.layout_model.proofs.Chosen.{leg_known, choice_there}
+use Rattle.layout_model.proofs.MirrorMembers.{leg_known, choice_there}
 use Rattle.biostack_tests.proofs.SlowLegs.{leg_asks, disk_asks}
 use Rattle.biostack_tests.proofs.slow.+fits.Goals as goal
 use Rattle.biostack_tests.proofs.slow.+fits.Goals.{then-is_empty-via-then-is_empty, then-is_empty-via-else-is_empty+then-len-choices}

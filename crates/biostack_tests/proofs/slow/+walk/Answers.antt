@@ -4,7 +4,7 @@ use Rattle.std.proofs.lemmas.Result.{on_ok_weaker}
 use Rattle.std.proofs.lemmas.Option.{slice_get-get_or}
 use Rattle.stack_base.specs.Tree.{shape_of, tree}
 use Rattle.layout_model.specs.Way.{heads}
-use Rattle.layout_model.proofs.Chosen.{leg_known, choice_there}
+use Rattle.layout_model.proofs.MirrorMembers.{leg_known, choice_there}
 use Rattle.layout_model.proofs.MirrorLemmas.{disk_place}
 use Rattle.biostack_tests.proofs.SlowLegs.{leg_asks, leg_goes, disk_heads}
 use Rattle.biostack_tests.proofs.slow.+walk.Goals as goal

@@ -7,7 +7,7 @@ use Rattle.stack_base.proofs.MemberSizes.{shape_few, members_small}
 use Rattle.stack_base.proofs.Heads.{head_bounds}
 use Rattle.stack_base.proofs.KindCuts.{kind_cuts}
 use Rattle.stack_base.proofs.Unfolded.{size-tree}
-use Rattle.layout_model.proofs.Over.{can_cut}
+use Rattle.layout_model.proofs.FromMembers.{can_cut}
 use Rattle.biostack_tests.proofs.SlowSteps.{sized_shape, member_there, step_is}
 use Rattle.biostack_tests.proofs.slow.step_down.Goals as goal
 

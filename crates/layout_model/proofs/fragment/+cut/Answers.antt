@@ -5,7 +5,7 @@ use Rattle.std.proofs.lemmas.Option.{slice_get-get_or}
 use Rattle.stack_base.specs.declared.ids.DevId.{DevId}
 use Rattle.stack_base.specs.Tree.{shape_of, tree}
 use Rattle.layout_model.specs.Plan.{frags}
-use Rattle.layout_model.proofs.Chosen.{leg_known}
+use Rattle.layout_model.proofs.MirrorMembers.{leg_known}
 use Rattle.layout_model.proofs.Steps
 use Rattle.layout_model.proofs.Steps.{cut_none, keep_whole}
 use Rattle.layout_model.proofs.fragment.+cut.Goals as goal

@@ -1,6 +1,6 @@
 use Rattle.std.proofs.Common.{length, get_or, ap, arith}
 use Rattle.std.proofs.lemmas.Option.{slice_get-get_or}
-use Rattle.layout_model.proofs.Chosen.{choice_there, chosen_is}
+use Rattle.layout_model.proofs.MirrorMembers.{choice_there, chosen_is}
 use Rattle.layout_model.proofs.way.chosen.Goals as goal
 
 -- there is a choice

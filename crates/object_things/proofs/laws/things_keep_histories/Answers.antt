@@ -6,7 +6,7 @@ use Rattle.object_things.specs.Stamps.{ChoosesNone}
 use Rattle.object_things.specs.Tallies.{TallyServes, TallyLooks}
 use Rattle.object_things.proofs.Looking.{book_quiet, tally_quiet, disk_quiet, list_quiet, pool_quiet}
 use Rattle.object_things.proofs.Refused.{book_stays, tally_stays, disk_stays, list_stays, pool_stays}
-use Rattle.object_things.proofs.Rising.{keeps_history}
+use Rattle.object_things.proofs.TicketsRise.{keeps_history}
 use Rattle.object_things.proofs.laws.things_keep_histories.Goals as goal
 
 -- src/laws.rt

@@ -6,8 +6,8 @@ use Rattle.object_things.specs.Stamps.{ChoosesNone}
 use Rattle.object_things.specs.Tallies.{TallyServes, TallyLooks}
 use Rattle.object_things.proofs.Looking.{book_quiet, tally_quiet, disk_quiet, list_quiet, pool_quiet}
 use Rattle.object_things.proofs.Refused.{book_stays, tally_stays, disk_stays, list_stays, pool_stays}
-use Rattle.object_things.proofs.Rising.{stays_spent}
-use Rattle.object_things.proofs.Spent.{book_unserved, book_found, book_keeps, tally_unserved, tally_found, tally_keeps, disk_unserved, disk_found, disk_keeps, list_unserved, list_found, list_keeps, pool_unserved, pool_found, pool_keeps}
+use Rattle.object_things.proofs.TicketsRise.{stays_spent}
+use Rattle.object_things.proofs.SpentMarks.{book_unserved, book_found, book_keeps, tally_unserved, tally_found, tally_keeps, disk_unserved, disk_found, disk_keeps, list_unserved, list_found, list_keeps, pool_unserved, pool_found, pool_keeps}
 use Rattle.object_things.proofs.laws.things_stay_spent.Goals as goal
 
 -- src/laws.rt

@@ -1,4 +1,4 @@
-use Rattle.task_tests.proofs.Kept.{stays_of_one}
+use Rattle.task_tests.proofs.ScenarioStays.{stays_of_one}
 use Rattle.shared_tests.proofs.chosen.step_alone.Goals as goal
 
 pub returns : goal.returns

@@ -1,5 +1,5 @@
 use Rattle.std.proofs.Common.{length, sym, ap, ◌∙◌}
-use Rattle.bio_workers.proofs.Somes.{as_long}
+use Rattle.bio_workers.proofs.AllThere.{as_long}
 use Rattle.bio_workers.proofs.few.Few.len.Goals as goal
 
 pub returns-clause-same : goal.returns-clause-same

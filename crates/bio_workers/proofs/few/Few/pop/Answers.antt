@@ -1,7 +1,7 @@
 use Rattle.std.proofs.Common.{is_some, false, ◌≡◌, ◌++◌, option_to_list, ap, sym, subst, ◌∙◌}
 use Rattle.std.proofs.lemmas.List.Elements.{All-pop}
 use Rattle.bio_workers.specs.Somes.{somes, HoldsOne}
-use Rattle.bio_workers.proofs.Somes.{popped, flat, nothing_popped, none_if_empty}
+use Rattle.bio_workers.proofs.AllThere.{popped, flat, nothing_popped, none_if_empty}
 use Rattle.bio_workers.proofs.few.Few.pop.Goals as goal
 use Rattle.bio_workers.proofs.few.Few.pop.Goals.{in-Some, in-None}
 

@@ -2,7 +2,7 @@ use Rattle.std.proofs.Common.{◌++◌, ◌<◌, [], ◌∷◌, length, All, Som
 use Rattle.std.proofs.lemmas.List.Elements.{All-push}
 use Rattle.bio_workers.specs.Somes.{somes, HoldsOne}
 use Rattle.bio_workers.specs.declared.few.TheConstants.{MOST_TASKS}
-use Rattle.bio_workers.proofs.Somes.{somes_append, as_long}
+use Rattle.bio_workers.proofs.AllThere.{somes_append, as_long}
 use Rattle.bio_workers.proofs.few.Few.push.Goals as goal
 
 pub push-requires : goal.push-requires

@@ -2,7 +2,7 @@ use Rattle.std.proofs.Common.{◌≡◌, ◌+◌, All, length, map, take, drop, 
 use Rattle.std.proofs.lemmas.List.{length-map}
 use Rattle.std.proofs.Math.Seq.{map-set_same}
 use Rattle.bio_workers.specs.Somes.{somes}
-use Rattle.bio_workers.proofs.Somes.{as_long, some_at, some_set, mapped_at}
+use Rattle.bio_workers.proofs.AllThere.{as_long, some_at, some_set, mapped_at}
 use Rattle.bio_workers.proofs.Sweeps.{more_over, stands_at}
 use Rattle.bio_workers.proofs.few.Few.visit_at.Goals as goal
 

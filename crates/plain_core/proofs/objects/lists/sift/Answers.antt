@@ -4,7 +4,7 @@ use Rattle.stack_base.specs.declared.ids.SetId.TheVariants.{Of}
 use Rattle.bio_records.specs.declared.bio.Pad.{Pad}
 use Rattle.bio_records.specs.Items.{Item}
 use Rattle.bio_records.specs.Sorting.{is_of, is_of_other}
-use Rattle.plain_core.proofs.object_lemmas.Sifted.{next_of, sorted_more}
+use Rattle.plain_core.proofs.object_lemmas.FirstLeft.{next_of, sorted_more}
 use Rattle.plain_core.proofs.objects.lists.sift.Goals as goal
 
 pub moving-preserved : goal.moving-preserved

@@ -1,7 +1,7 @@
 use Rattle.std.proofs.Common.{◌∙◌, ℕ, ap, replicate, None}
 use Rattle.bio_books.specs.Books.{BookState}
 use Rattle.plain_core.specs.opening.Opening.{new_book}
-use Rattle.plain_core.proofs.opening_lemmas.Counted.{mapped_more}
+use Rattle.plain_core.proofs.opening_lemmas.MadeByNumber.{mapped_more}
 use Rattle.plain_core.proofs.opening.objects.open_books.Goals as goal
 
 pub opening-preserved : goal.opening-preserved

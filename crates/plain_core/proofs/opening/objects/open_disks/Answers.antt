@@ -1,5 +1,5 @@
 use Rattle.plain_core.specs.opening.Opening.{new_disk}
-use Rattle.plain_core.proofs.opening_lemmas.Counted.{mapped_more}
+use Rattle.plain_core.proofs.opening_lemmas.MadeByNumber.{mapped_more}
 use Rattle.plain_core.proofs.opening.objects.open_disks.Goals as goal
 
 pub opening-preserved : goal.opening-preserved

@@ -6,7 +6,7 @@ use Rattle.stack_base.specs.PoolId.{IsOfStack, pool_number}
 use Rattle.mempool_core.specs.Move.{opened}
 use Rattle.run_machine.specs.Opened.{reserve_of}
 use Rattle.plain_core.specs.opening.Opening.{new_pool}
-use Rattle.plain_core.proofs.opening_lemmas.Counted.{mapped_more}
+use Rattle.plain_core.proofs.opening_lemmas.MadeByNumber.{mapped_more}
 use Rattle.stack_base.proofs.PoolNumbers.{pool_number_le}
 use Rattle.plain_core.proofs.opening.objects.open_pools.Goals as goal
 

@@ -1,6 +1,6 @@
 use Rattle.task_core.specs.opened.OfOne.{scenario_in}
 use Rattle.plain_core.specs.opening.Opening.{new_disk}
-use Rattle.plain_core.proofs.opening_lemmas.Counted.{mapped_more}
+use Rattle.plain_core.proofs.opening_lemmas.MadeByNumber.{mapped_more}
 use Rattle.plain_core.proofs.opening.seen_objects.disks_seen.Goals as goal
 
 pub seeing-preserved : goal.seeing-preserved

@@ -1,7 +1,7 @@
 use Rattle.std.proofs.Common.{◌≡◌, ◌∙◌, ap, arith}
 use Rattle.task_core.specs.opened.OfOne.{scenario_in}
 use Rattle.plain_core.specs.opening.Opening.{new_pool, new_pools}
-use Rattle.plain_core.proofs.opening_lemmas.Counted.{mapped_more}
+use Rattle.plain_core.proofs.opening_lemmas.MadeByNumber.{mapped_more}
 use Rattle.plain_core.proofs.opening.seen_objects.pools_seen.Goals as goal
 
 pub seeing-preserved : goal.seeing-preserved

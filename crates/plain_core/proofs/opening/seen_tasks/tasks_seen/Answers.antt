@@ -1,5 +1,5 @@
 use Rattle.std.proofs.Common.{◌∙◌}
-use Rattle.plain_core.proofs.opening_lemmas.Risen.{first_at, one_seen, enter_ready, enter_small, state_at}
+use Rattle.plain_core.proofs.opening_lemmas.SlotsRise.{first_at, one_seen, enter_ready, enter_small, state_at}
 use Rattle.plain_core.proofs.opening.seen_tasks.tasks_seen.Goals as goal
 
 pub task_seen-requires : goal.task_seen-requires

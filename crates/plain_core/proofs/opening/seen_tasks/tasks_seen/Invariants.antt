@@ -1,5 +1,5 @@
 use Rattle.task_core.specs.opened.OfOne.{states}
-use Rattle.plain_core.proofs.opening_lemmas.Risen.{AreSeen}
+use Rattle.plain_core.proofs.opening_lemmas.SlotsRise.{AreSeen}
 use Rattle.plain_core.proofs.opening.seen_tasks.tasks_seen.Given as goal
 
 abbrev pub invariant-seeing : goal.invariant-seeing

@@ -1,6 +1,6 @@
 use Rattle.std.proofs.Common.{◌≡◌, ap, set, length, ◌∙◌, arith}
 use Rattle.plain_core.specs.Cores.{slot_of}
-use Rattle.plain_core.proofs.opening_lemmas.Entered.{enters_one}
+use Rattle.plain_core.proofs.opening_lemmas.TasksByName.{enters_one}
 use Rattle.plain_core.proofs.opening.slots.enter.Goals as goal
 
 pub returns : goal.returns

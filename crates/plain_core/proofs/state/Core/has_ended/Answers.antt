@@ -3,7 +3,7 @@ use Rattle.std.proofs.Common.{ap, sym, ◌∙◌}
 use Rattle.std.specs.List.{list_all}
 use Rattle.plain_core.specs.Cores.{CoreState}
 use Rattle.plain_core.specs.objects.Plain.{is_home}
-use Rattle.plain_core.proofs.object_lemmas.Home.{ended_told}
+use Rattle.plain_core.proofs.object_lemmas.AllAtHome.{ended_told}
 use Rattle.plain_core.proofs.state.Core.has_ended.Goals as goal
 
 pub returns-then-unfinished-eq0 : goal.returns-then-unfinished-eq0

@@ -7,7 +7,7 @@ use Rattle.plain_core.specs.opening.Opening.{new_core_objects}
 use Rattle.plain_core.specs.objects.Plain.{CoreObjects}
 use Rattle.plain_core.specs.steps.Views.{task_of_plain}
 use Rattle.plain_core.proofs.opening_lemmas.Opened.{is_core, round_count, opened_so, shared}
-use Rattle.plain_core.proofs.opening_lemmas.Risen.{shown_are, shown_first, shown_rises}
+use Rattle.plain_core.proofs.opening_lemmas.SlotsRise.{shown_are, shown_first, shown_rises}
 use Rattle.plain_core.proofs.state.Core.plain.Goals as goal
 
 pub open_tasks-requires-clause-shared : goal.open_tasks-requires-clause-shared

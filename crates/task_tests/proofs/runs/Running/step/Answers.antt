@@ -1,4 +1,4 @@
-use Rattle.task_tests.proofs.Kept.{stays_of_one}
+use Rattle.task_tests.proofs.ScenarioStays.{stays_of_one}
 use Rattle.task_tests.proofs.runs.Running.step.Goals as goal
 
 pub returns : goal.returns

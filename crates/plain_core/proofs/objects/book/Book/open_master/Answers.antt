@@ -3,7 +3,7 @@ use Rattle.bio_books.specs.Books.{BookState}
 use Rattle.bio_books.specs.Links.{Made, Masters}
 use Rattle.plain_core.specs.declared.fault.CoreFault.TheVariants as fault
 use Rattle.plain_core.specs.objects.Books.{OpensSo}
-use Rattle.plain_core.proofs.object_lemmas.Booked.{mastered}
+use Rattle.plain_core.proofs.object_lemmas.OtherPlaces.{mastered}
 use Rattle.plain_core.proofs.objects.book.Book.open_master.Goals as goal
 
 pub returns-in_err-reserve-clause-opens : goal.returns-in_err-reserve-clause-opens

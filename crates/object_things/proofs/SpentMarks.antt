@@ -60,6 +60,7 @@ pub pool_unserved : (old : LedgerPool) (asked : Request) (new : LedgerPool) → 
 pool_unserved old (TakeBio set waits) new serves = serves
 pool_unserved old asked new serves = serves
 
+-- whatever a pool is asked, a look that is told that there was no ticket leaves the thing marked; it is not asked what no pool serves
 pub pool_found : (old new : ThingState LedgerPool) (asked : Request) → PoolLooks old asked NoTicket new → new.spent ≡ true
 pool_found old new (TakeBio set waits) looks = looks.1
 pool_found old new TakeVec looks = looks.1

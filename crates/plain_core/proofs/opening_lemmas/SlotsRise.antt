@@ -25,7 +25,7 @@ use Rattle.plain_core.specs.opening.Opening.{AreTasksEntered, CanOpen, EntersTas
 use Rattle.plain_core.specs.opening.Seen.{HasNotBegun, Rises}
 use Rattle.plain_core.specs.steps.Duties.{NamesStackPool}
 use Rattle.plain_core.specs.steps.Views.{task_of_plain}
-use Rattle.plain_core.proofs.opening_lemmas.Entered.{entered_on}
+use Rattle.plain_core.proofs.opening_lemmas.TasksByName.{entered_on}
 use Rattle.task_core.proofs.opened.ScriptsBehind.{all_flat}
 use Rattle.task_core.proofs.opened.Setups.{states_are}
 use Rattle.plain_core.proofs.opening_lemmas.Opened.{shared}
