@@ -41,7 +41,6 @@ stripe_some chunk some few =
     let same : 2 * chunk * q ≡ 2 * (chunk * q) = mul_assoc 2 chunk q in
     (omega (arith, least, same), omega (arith, most, same))
 
-
 -- ---- lengths
 
 pub line_short : (k : ℕ) (run : Run) → run.start ≤ 65536 → run.count ≤ 512 → length (line_of (write_words k run)) ≤ 28
