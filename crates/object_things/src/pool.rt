@@ -179,7 +179,7 @@ fn took<P: Fresh + Drop>(pool: PoolId, of: Result<Taken<P>, NoTicket>) -> PoolSa
 }
 
 // A take, with its ticket.
-#[tactic(auto, using(crate::proofs::Pooled::took_served, crate::proofs::Pooled::miss_looks, crate::proofs::Pooled::take_spent, crate::proofs::Pooled::undone, crate::proofs::Pooled::took_from, crate::proofs::Pooled::take_stays))]
+#[tactic(auto, using(crate::proofs::PoolCalls::took_served, crate::proofs::PoolCalls::miss_looks, crate::proofs::PoolCalls::take_spent, crate::proofs::PoolCalls::undone, crate::proofs::PoolCalls::took_from, crate::proofs::PoolCalls::take_stays))]
 #[inline(always)] // as `serve`
 fn take<P: Fresh + Drop>(
     pool: &mut Pool<P>,
@@ -211,7 +211,7 @@ fn take<P: Fresh + Drop>(
 }
 
 // A give, with its ticket.
-#[tactic(auto, using(crate::proofs::Pooled::give_served, crate::proofs::Pooled::give_spent))]
+#[tactic(auto, using(crate::proofs::PoolCalls::give_served, crate::proofs::PoolCalls::give_spent))]
 #[inline(always)] // as `serve`
 fn give<P: Fresh + Drop>(
     pool: &mut Pool<P>,

@@ -177,7 +177,7 @@ impl Book {
     ///
     /// # Errors
     /// `NotEnabled` where it can't be opened, and `Memory` where only room lacks. Nothing is changed then.
-    #[tactic(auto, using(crate::proofs::object_lemmas::Booked::stays, crate::proofs::object_lemmas::Booked::chained))]
+    #[tactic(auto, using(crate::proofs::object_lemmas::OtherPlaces::stays, crate::proofs::object_lemmas::OtherPlaces::chained))]
     pub fn open_chain(
         &mut self,
         parent: u32,
@@ -207,7 +207,7 @@ impl Book {
     ///
     /// # Errors
     /// `NotEnabled` where it can't be opened, and `Memory` where only room lacks. Nothing is changed then.
-    #[tactic(auto, using(crate::proofs::object_lemmas::Booked::stays))]
+    #[tactic(auto, using(crate::proofs::object_lemmas::OtherPlaces::stays))]
     pub fn open_master(
         &mut self,
         parent: u32,
@@ -238,7 +238,7 @@ impl Book {
     ///
     /// # Errors
     /// `NotEnabled` where it can't be opened, and `Memory` where only room lacks. Nothing is changed then.
-    #[tactic(auto, using(crate::proofs::object_lemmas::Booked::legged))]
+    #[tactic(auto, using(crate::proofs::object_lemmas::OtherPlaces::legged))]
     pub fn open_leg(&mut self, master: u32, place: u32, lists: &mut Lists) -> Result<(), CoreFault>
         ensures opens { OpensSo self.old (Legs self.old master (Made place)) result self.new }
         ensures same { lists_of lists.new ≡ lists_of lists.old }
