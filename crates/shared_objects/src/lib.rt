@@ -1,6 +1,7 @@
 //! The objects of a run, shared by its tasks: each behind a seat lock of its own, and for each task a desk, at which it asks them.
 #![tactic(auto)]
 
+pub(crate) mod after_step;
 pub(crate) mod by_fields;
 pub(crate) mod caller;
 pub(crate) mod calls;

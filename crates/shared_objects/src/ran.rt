@@ -5,6 +5,7 @@ ghost use Rattle.shared_objects.specs.Logs.{seen_by};
 ghost use Rattle.shared_objects.specs.Noting.{IsBlank, NotesStep};
 ghost use Rattle.shared_objects.specs.Rans.{events_after, stopped_after};
 
+use crate::after_step::come_of;
 use crate::caller::Caller;
 use crate::closed::ClosedTask;
 use crate::closing::join_seats;
@@ -114,10 +115,13 @@ impl Ran {
             seats: &mut self.seats,
         };
         let step = caller.step(&mut self.task, chooser);
-        let seen = seen_by(&self.seats.pass);
-        self.events = events_after(step, self.events);
-        self.stopped = stopped_after(step, self.stopped);
-        note_step(&mut self.noted, step, seen);
+        come_of(
+            step,
+            &self.seats.pass,
+            &mut self.events,
+            &mut self.stopped,
+            &mut self.noted,
+        );
         step
     }
 
