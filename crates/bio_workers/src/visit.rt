@@ -11,30 +11,16 @@ use std::sync::Wait;
 /// without an end, the others would wait for a task that never does.
 const MOST_STEPS: u32 = 64;
 
-// Steps a task, and rings where that was an event.
-#[inline(always)] // a step that meets nothing then writes no answer
-fn step<T, R: Wait, W: Work<T>>(rt: &R, work: &W, bell: &Bell, task: &mut T) -> WorkOutcome
-    requires { W.can work.now (W.key task.old) }
-    ensures key { W.key task.new ≡ W.key task.old }
-    ensures over { result ≡ Over → W.is_over task.new }
-    ensures goes { W.goes result task.old task.new }
-{
-    let came = work.step(rt, task);
-    if came == WorkOutcome::Happened {
-        bell.ring();
-    }
-    came
-}
-
 // Steps a task that has had an event until it meets none, or until the visit has had its steps.
 fn step_on<T, R: Wait, W: Work<T>>(rt: &R, work: &W, bell: &Bell, task: &mut T)
     requires { W.can work.now (W.key task.old) }
     ensures { W.key task.new ≡ W.key task.old }
 {
     for _ in 1..MOST_STEPS {
-        if step(rt, work, bell, task) != WorkOutcome::Happened {
+        if work.step(rt, task) != WorkOutcome::Happened {
             break;
         }
+        bell.ring();
     }
 }
 
@@ -51,8 +37,9 @@ pub(crate) fn visit<T, R: Wait, W: Work<T>>(
     ensures over { result ≡ Over → W.is_over task.new }
     ensures visit { IsVisit W.goes result task.old task.new }
 {
-    let came = step(rt, work, bell, task);
+    let came = work.step(rt, task);
     if came == WorkOutcome::Happened {
+        bell.ring();
         step_on(rt, work, bell, task);
     }
     came
