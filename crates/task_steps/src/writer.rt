@@ -4,6 +4,7 @@ ghost use Rattle.stack_base.specs.declared.ids.SetId.TheVariants.{Fs};
 ghost use Rattle.run_machine.specs.Requests.{TakeBio, LookRound};
 ghost use Rattle.run_machine.specs.Submissions.{Rests, rests};
 ghost use Rattle.run_machine.specs.Tasks.{Todo as TodoState, NoBio};
+ghost use Rattle.task_steps.specs.SubmissionViews.{is_asking};
 ghost use Rattle.task_steps.specs.WriterViews.{writer_task, tried, IsNextAlone, BeginsWith, IsAttemptAtBioAlone, is_taken, writer_next};
 ghost use Rattle.task_steps.specs.TaskSteps.{TaskAsks, HoldsTask, WriterDoes, WriterTurns};
 ghost use Rattle.task_steps.specs.Answers.{Ready};
@@ -120,6 +121,7 @@ impl Writer {
     }
 
     // Asks for the bio of its next write.
+    #[inline(always)] // as `Task::step`
     fn take<O: Objects>(&mut self, objects: &mut O) -> Step
         requires ready { Ready O.Objects objects.old (TakeBio Fs true) }
         requires rests { self.old.submission.doing ≡ Rests }
@@ -133,6 +135,7 @@ impl Writer {
     }
 
     // Asks for a bio, if the round of its next write has come.
+    #[inline(always)] // as `Task::step`
     fn look<O: Objects>(&mut self, objects: &mut O, todo: &Todo) -> Step
         requires ready { Ready O.Objects objects.old LookRound }
         requires rests { self.old.submission.doing ≡ Rests }
@@ -157,6 +160,34 @@ impl Writer {
         }
     }
 
+    // The next step of its submission.
+    #[inline(always)] // what a step comes to has a place in the frame of this arm alone
+    fn submit<O: Objects>(&mut self, objects: &mut O, routes: &Routes) -> Step
+        requires routing { (O.stage objects.old).routing ≡ routes.now }
+        requires ready { HoldsTask O.Objects objects.old (writer_task self.old) }
+        requires asks { is_asking self.old.submission.doing ≡ true }
+        ensures does { WriterDoes O.Objects routes.now self.old objects.old self.new objects.new result }
+    {
+        let task = TaskId::Writer(self.number);
+        self.submission.step(objects, routes, task)
+    }
+
+    // What it does for its next write.
+    #[inline(always)] // as `submit`
+    fn begin<O: Objects>(&mut self, objects: &mut O, routes: &Routes, todo: &Todo) -> Step
+        requires routing { (O.stage objects.old).routing ≡ routes.now }
+        requires ready { HoldsTask O.Objects objects.old (writer_task self.old) }
+        requires rests { self.old.submission.doing ≡ Rests }
+        requires first { BeginsWith self.old.todo todo.now }
+        ensures does { WriterDoes O.Objects routes.now self.old objects.old self.new objects.new result }
+    {
+        if self.has_bio() {
+            self.act(objects, routes, todo)
+        } else {
+            self.look(objects, todo)
+        }
+    }
+
     /// Its next step: it asks one object once, for what its submission or its next write needs, and goes on with the reply. Before the
     /// first take of a write it looks at the present round, and waits where the write is of a later one. Where it has broken off, or has no
     /// more writes and ends, it asks nothing.
@@ -167,8 +198,7 @@ impl Writer {
         ensures does { WriterDoes O.Objects routes.now self.old objects.old self.new objects.new result }
     {
         if self.submission.asks() {
-            let task = TaskId::Writer(self.number);
-            return self.submission.step(objects, routes, task);
+            return self.submit(objects, routes);
         }
         if let Some(breach) = self.submission.breach() {
             return Step::Broken(breach);
@@ -176,10 +206,6 @@ impl Writer {
         let Some(todo) = self.todo.first() else {
             return Step::Ended;
         };
-        if self.has_bio() {
-            self.act(objects, routes, &todo)
-        } else {
-            self.look(objects, &todo)
-        }
+        self.begin(objects, routes, &todo)
     }
 }

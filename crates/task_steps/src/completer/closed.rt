@@ -84,20 +84,27 @@ impl Carried {
     {
         match &mut self.load {
             Load::Carries { node, .. } => {
-                if let Some(vector) = node.held.vector.take() {
-                    let pool = pool_of(vector.no());
-                    let given = objects.give_vec(vector);
-                    return self.gave(disk, pool, given);
+                // A part that is not there is not set to nothing once more.
+                if node.held.vector.is_some() {
+                    if let Some(vector) = node.held.vector.take() {
+                        let pool = pool_of(vector.no());
+                        let given = objects.give_vec(vector);
+                        return self.gave(disk, pool, given);
+                    }
                 }
-                if let Some(bio) = node.held.bio.take() {
-                    let pool = pool_of(bio.no());
-                    let given = objects.give_bio(bio);
-                    return self.gave(disk, pool, given);
+                if node.held.bio.is_some() {
+                    if let Some(bio) = node.held.bio.take() {
+                        let pool = pool_of(bio.no());
+                        let given = objects.give_bio(bio);
+                        return self.gave(disk, pool, given);
+                    }
                 }
-                if let Some(slip) = node.held.slip.take() {
-                    let pool = pool_of(slip.no());
-                    let given = objects.give_slip(slip);
-                    return self.gave(disk, pool, given);
+                if node.held.slip.is_some() {
+                    if let Some(slip) = node.held.slip.take() {
+                        let pool = pool_of(slip.no());
+                        let given = objects.give_slip(slip);
+                        return self.gave(disk, pool, given);
+                    }
                 }
                 self.pass_on(objects, disk)
             }
