@@ -132,6 +132,7 @@ fn named(ask: &Ask) -> u32
 }
 
 /// Opens a node in the book of a writer, and answers its place, or why there is none with what came back.
+#[inline(always)] // as `Task::step`
 pub(crate) fn open_node<O: Objects>(
     objects: &mut O,
     routes: &Routes,

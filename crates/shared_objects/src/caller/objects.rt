@@ -31,7 +31,7 @@ use task_steps::{Ask, Chooser, Objects, Unmade};
 
 impl<'a, R: Wait> Caller<'a, R> {
     // How many bios wait in a disk.
-    #[inline(never)] // as `take_bio`
+    #[inline(always)] // what it came to then has no bytes of its own, and the frame of its caller serves
     fn look_at(&mut self, disk: DevId) -> u64
         requires holds { DeskHolds self.old.locks.now self.old.seats.now }
         requires fits { RequestFits (stage_at self.old.locks.now) (Complete disk) }
@@ -44,7 +44,7 @@ impl<'a, R: Wait> Caller<'a, R> {
     }
 
     // Completes the bio at this place of those that wait, or the last one where there are fewer by now.
-    #[inline(never)] // as `take_bio`
+    #[inline(always)] // as `look_at`
     fn complete_at(&mut self, disk: DevId, index: u64) -> Result<Option<(u64, Done)>, NoTicket>
         requires holds { DeskHolds self.old.locks.now self.old.seats.now }
         requires fits { RequestFits (stage_at self.old.locks.now) (Complete disk) }
@@ -120,7 +120,7 @@ impl<'a, R: Wait> Objects for Caller<'a, R> {
     ghost finds = { λ old new. DeskFinds (desk_of old.seats.now) (desk_of new.seats.now) };
 
     #[tactic(auto, using(crate::proofs::asking::PoolReplies::take_named, crate::proofs::asking::PoolReplies::bios_waits, crate::proofs::asking::PoolReplies::set_is_pool, crate::proofs::asking::PoolReplies::bio_served, crate::proofs::asking::PoolReplies::bio_owed, crate::proofs::asking::PoolReplies::bio_clear, crate::proofs::asking::PoolReplies::back_none, crate::proofs::asking::PoolReplies::desk_numbered))]
-    #[inline(never)] // of what is asked here the lock and the object have one arm, and callers have no copy of it
+    #[inline(always)] // as `look_at`
     fn take_bio(&mut self, set: SetId, waits: bool) -> Result<Taken<BioBody<Pad>>, Unmade> {
         let pool = bios_of(set);
         match self.ask_bios(pool.no(), PoolAsk::Take { pool, waits }) {
@@ -139,7 +139,7 @@ impl<'a, R: Wait> Objects for Caller<'a, R> {
     }
 
     #[tactic(auto, using(crate::proofs::asking::PoolReplies::mirror_is_pool, crate::proofs::asking::PoolReplies::slip_served, crate::proofs::asking::PoolReplies::slip_owed, crate::proofs::asking::PoolReplies::back_none, crate::proofs::asking::PoolReplies::desk_numbered))]
-    #[inline(never)] // as `take_bio`
+    #[inline(always)] // as `look_at`
     fn take_slip(&mut self, dev: DevId) -> Result<Taken<Slip>, Unmade> {
         let pool = PoolId::Records(dev);
         match self.ask_records(pool.no(), PoolAsk::Take { pool, waits: true }) {
@@ -148,7 +148,7 @@ impl<'a, R: Wait> Objects for Caller<'a, R> {
         }
     }
 
-    #[inline(never)] // as `take_bio`
+    #[inline(always)] // as `look_at`
     fn give_bio(&mut self, el: BioElement) -> Result<(), Unmade> {
         // The element knows its pool. The name says only that it is one of bios, as all of a pool's history does.
         let pool = PoolId::FsBios;
@@ -159,6 +159,7 @@ impl<'a, R: Wait> Objects for Caller<'a, R> {
         }
     }
 
+    #[inline(always)] // as `look_at`
     fn give_vec(&mut self, el: VecElement) -> Result<(), Unmade> {
         let pool = PoolId::FsVecs;
         match self.ask_vecs(PoolAsk::Give { pool, el }) {
@@ -168,7 +169,7 @@ impl<'a, R: Wait> Objects for Caller<'a, R> {
         }
     }
 
-    #[inline(never)] // as `take_bio`
+    #[inline(always)] // as `look_at`
     fn give_slip(&mut self, el: SlipElement) -> Result<(), Unmade> {
         let number = el.no();
         // The pools of records have odd numbers.
@@ -180,7 +181,7 @@ impl<'a, R: Wait> Objects for Caller<'a, R> {
         }
     }
 
-    #[inline(never)] // as `take_bio`
+    #[inline(always)] // as `look_at`
     fn punt(&mut self, dev: DevId, moved: BioList) -> Result<(), Unmade> {
         match self.ask_list(dev, ListAsk::Punt { dev, moved }) {
             ListSaid::Punted(Ok(())) => Ok(()),
@@ -189,7 +190,7 @@ impl<'a, R: Wait> Objects for Caller<'a, R> {
         }
     }
 
-    #[inline(never)] // as `take_bio`
+    #[inline(always)] // as `look_at`
     fn pop(&mut self, dev: DevId) -> Result<Option<BioElement>, Unmade> {
         match self.ask_list(dev, ListAsk::Pop { dev }) {
             ListSaid::Popped(result) => or_unmade(result),
@@ -197,7 +198,7 @@ impl<'a, R: Wait> Objects for Caller<'a, R> {
         }
     }
 
-    #[inline(never)] // as `take_bio`
+    #[inline(always)] // as `look_at`
     fn push(&mut self, el: BioElement) -> Result<(), Unmade> {
         let disk = dev_of(&el);
         match self.ask_disk(disk, DiskAsk::Push { el }) {
@@ -220,7 +221,7 @@ impl<'a, R: Wait> Objects for Caller<'a, R> {
         or_unmade(self.complete_at(disk, index))
     }
 
-    #[inline(never)] // as `take_bio`
+    #[inline(always)] // as `look_at`
     fn link(&mut self, writer: u32, ask: Ask) -> Result<Link, Unmade> {
         match self.ask_book(writer, BookAsk::Link { writer, ask }) {
             BookSaid::Linked(result) => result,
@@ -228,7 +229,7 @@ impl<'a, R: Wait> Objects for Caller<'a, R> {
         }
     }
 
-    #[inline(never)] // as `take_bio`
+    #[inline(never)] // two callers, and its reply is large: in both of them an event took more
     fn drop_one(
         &mut self,
         writer: u32,
@@ -272,7 +273,7 @@ impl<'a, R: Wait> Objects for Caller<'a, R> {
         }
     }
 
-    #[inline(never)] // as `take_bio`
+    #[inline(always)] // as `look_at`
     fn left(&mut self) -> u32 {
         match self.ask_tally(TallyAsk::Left) {
             TallySaid::Left(count) => count,
@@ -280,7 +281,7 @@ impl<'a, R: Wait> Objects for Caller<'a, R> {
         }
     }
 
-    #[inline(never)] // as `take_bio`
+    #[inline(always)] // as `look_at`
     fn round(&mut self) -> u32 {
         match self.ask_tally(TallyAsk::Round) {
             TallySaid::Round(round) => round,

@@ -125,6 +125,7 @@ pub(crate) struct Copying {
 }
 
 /// The next leg is made, or the driver of the mirror returns behind the last of so many.
+#[inline(always)] // as `go_on`
 pub(crate) fn copy_on(
     routes: &Routes,
     run: Copying,

@@ -58,6 +58,7 @@ pub(crate) enum Attempt {
 }
 
 // Takes the bio of a write, and waits for it (`bio_alloc_bioset`, `block/bio.c`).
+#[inline(always)] // as `Task::step`
 pub(crate) fn take_bio<O: Objects>(objects: &mut O, number: u32) -> (Attempt, Step)
     requires ready { Ready O.Objects objects.old (TakeBio Fs true) }
     ensures does { TriesBio O.Objects number objects.old result objects.new }
@@ -126,6 +127,7 @@ fn unlinked(submission: &mut Submission, breach: Breach, back: Back) -> Step
 }
 
 // Opens the node of a write, and answers its place, or the step of a writer that can't go on.
+#[inline(always)] // as `Task::step`
 fn open_write<O: Objects>(
     objects: &mut O,
     routes: &Routes,
