@@ -1,7 +1,6 @@
 //! The objects of a run, shared by its tasks: each behind a seat lock of its own, and for each task a desk, at which it asks them.
 #![tactic(auto)]
 
-pub(crate) mod after_step;
 pub(crate) mod by_fields;
 pub(crate) mod caller;
 pub(crate) mod calls;
@@ -14,6 +13,7 @@ pub mod noted;
 mod opening;
 pub mod progress;
 pub mod ran;
+pub(crate) mod recording;
 pub mod rows;
 pub mod seats;
 pub mod shared;

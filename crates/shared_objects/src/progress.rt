@@ -3,7 +3,7 @@ ghost use Rattle.shared_objects.specs.Rans.{StepsProgress};
 
 use crate::locks::Locks;
 use crate::noted::Noted;
-use crate::ran::{events_after, note_step, stopped_after};
+use crate::recording::record_step;
 use std::marker::Model;
 use std::snapshot::Snapshot;
 use task_core::{Step, Task};
@@ -32,8 +32,12 @@ impl Progress {
     pub fn goes_on(&mut self, step: Step, seen: u64)
         ensures { StepsProgress step seen self.old self.new }
     {
-        self.events = events_after(step, self.events);
-        self.stopped = stopped_after(step, self.stopped);
-        note_step(&mut self.noted, step, seen);
+        record_step(
+            step,
+            seen,
+            &mut self.events,
+            &mut self.stopped,
+            &mut self.noted,
+        );
     }
 }

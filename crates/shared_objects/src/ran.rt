@@ -5,13 +5,13 @@ ghost use Rattle.shared_objects.specs.Logs.{seen_by};
 ghost use Rattle.shared_objects.specs.Noting.{IsBlank, NotesStep};
 ghost use Rattle.shared_objects.specs.Rans.{events_after, stopped_after};
 
-use crate::after_step::come_of;
 use crate::caller::Caller;
 use crate::closed::ClosedTask;
 use crate::closing::join_seats;
 use crate::locks::Locks;
 use crate::noted::Noted;
 use crate::progress::Progress;
+use crate::recording::record_step;
 use crate::seats::TaskSeats;
 use std::alloc::Global;
 use std::marker::Model;
@@ -115,9 +115,10 @@ impl Ran {
             seats: &mut self.seats,
         };
         let step = caller.step(&mut self.task, chooser);
-        come_of(
+        let seen = seen_by(&self.seats.pass);
+        record_step(
             step,
-            &self.seats.pass,
+            seen,
             &mut self.events,
             &mut self.stopped,
             &mut self.noted,
@@ -230,26 +231,6 @@ impl Ran {
     }
 }
 
-// How many events there are behind a step.
-pub(crate) fn events_after(step: Step, events: u64) -> u64
-    ensures { result ≡ events_after step events }
-{
-    match step {
-        Step::Stepped(_) => events.saturating_add(1),
-        Step::Blocked(_) | Step::Waiting | Step::Ended | Step::Broken(_) => events,
-    }
-}
-
-// Whether the task has stopped behind a step.
-pub(crate) fn stopped_after(step: Step, stopped: bool) -> bool
-    ensures { result ≡ stopped_after step stopped }
-{
-    match step {
-        Step::Ended | Step::Broken(_) => true,
-        Step::Stepped(_) | Step::Blocked(_) | Step::Waiting => stopped,
-    }
-}
-
 // What a pass has seen, where it is at home.
 pub(crate) fn seen_by(pass: &Option<Pass>) -> u64
     ensures { result ≡ seen_by pass.now }
@@ -266,17 +247,4 @@ fn noted_for(alloc: Global, trace: bool) -> Option<Noted>
     ensures listed { is_some result ≡ trace }
 {
     if trace { Some(Noted::new(alloc)) } else { None }
-}
-
-// Notes a step, with the ticket that its event drew. The pass has seen that one last.
-pub(crate) fn note_step(noted: &mut Option<Noted>, step: Step, ticket: u64)
-    ensures { NotesStep step ticket noted.old noted.new }
-{
-    let Some(list) = noted else {
-        return;
-    };
-    match step {
-        Step::Stepped(event) => list.note(ticket, event),
-        Step::Blocked(_) | Step::Waiting | Step::Ended | Step::Broken(_) => {}
-    }
 }

@@ -1,4 +1,5 @@
 use Rattle.std.proofs.Common.{sym, ◌∙◌, ap, subst}
+use Rattle.shared_objects.specs.Noting.{NotesStep}
 use Rattle.shared_objects.specs.Rans.{ChosenWith, RanState, TurnsWith, ran_key}
 use Rattle.shared_objects.proofs.logs.RanHolds.{calls_keep, calls_keep_number}
 use Rattle.shared_objects.proofs.ran.Ran.step.Goals as goal
@@ -8,8 +9,8 @@ pub invariant_of-self : goal.invariant_of-self
 invariant_of-self g c =
     calls_keep _ c.self.invariant c.step-step.new.task c.step-step.result c.args.locks.now c.step-step.new.self.locks.now c.step-step.new.self.seats.now
     (sym c.requires.home ∙ sym (ap (λ r. r.home) c.self.view_is)) c.step-step.ensures.locks c.step-step.ensures.turns
-    c.step-step.ensures.kept.0 c.step-step.ensures.same c.come_of.new.events c.come_of.new.stopped c.come_of.new.noted c.come_of.ensures.events c.come_of.ensures.stopped
-    c.come_of.ensures.noted
+    c.step-step.ensures.kept.0 c.step-step.ensures.same c.record_step.new.events c.record_step.new.stopped c.record_step.new.noted c.record_step.ensures.events c.record_step.ensures.stopped
+    (subst (λ n. NotesStep c.step-step.result n c.self.inside.noted c.record_step.new.noted) c.seen_by-seen.ensures c.record_step.ensures.noted)
 
 pub returns-clause-key : goal.returns-clause-key
 returns-clause-key g c =
