@@ -17,7 +17,7 @@ pub(crate) fn events_of(tasks: &[ClosedTask]) -> u64
 {
     let mut sum = 0u64;
     'adding: for place in 0..tasks.len() {
-        sum = sum.saturating_add(tasks[place].events);
+        sum = sum.saturating_add(tasks[place].events());
     }
     sum
 }

@@ -19,8 +19,17 @@ pub struct ClosedTask {
     pub first: Snapshot<Task>,
     /// Its seats as they were before they were joined into the first ones. What they have seen is its own calls, among those of others.
     pub seats: Snapshot<TaskSeats>,
+    // How many events it has had; 2^64 - 1 where there are more.
+    pub(crate) events: u64,
+}
+
+impl ClosedTask {
     /// How many events it has had; 2^64 - 1 where there are more.
-    pub events: u64,
+    pub fn events(&self) -> u64
+        ensures { result ≡ self.now.events }
+    {
+        self.events
+    }
 }
 
 /// What is left of each object: the thing as all calls have left it, and the first seat, which has seen its whole history.

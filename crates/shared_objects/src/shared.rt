@@ -3,11 +3,13 @@ ghost use Rattle.std.specs.Prelude.{◌≡◌, length};
 
 use crate::closed::{Closed, Room};
 use crate::closing::{close_locks, join_tasks};
+use crate::desk::Desk;
 use crate::locks::Locks;
 use crate::ran::Ran;
 use crate::seats::TaskSeats;
 use std::mem;
 use std::snapshot::Snapshot;
+use std::sync::Wait;
 use task_core::Opened;
 
 /// The objects of a run behind locks, with the tasks that were not handed out yet, or are back.
@@ -49,6 +51,7 @@ impl Drop for Shared {
 impl Shared {
     ghost use Rattle.std.specs.Prelude.{◌↔◌, IfSome, IsNone, None};
     ghost use Rattle.std.specs.Option.{is_some};
+    ghost use Rattle.shared_objects.specs.Holding.{DeskHolds};
     ghost use Rattle.shared_objects.specs.Left.{HasClosed};
     ghost use Rattle.shared_objects.specs.Rans.{ran_key};
     ghost use Rattle.shared_objects.specs.Shared.{HandsOut, HaveStopped, IsOut, SharedHolds, TakesBack};
@@ -59,6 +62,14 @@ impl Shared {
         ensures { result.now ≡ self.now.locks }
     {
         &self.locks
+    }
+
+    /// The desk of the task that has these seats. Threads beside each other share the locks alone, and have theirs of `Locks::desk`.
+    pub fn desk<'a, R: Wait>(&'a self, rt: &'a R, seats: TaskSeats) -> Desk<'a, R>
+        requires { DeskHolds self.now.locks seats }
+        ensures { (result.locks.now ≡ self.now.locks) × (result.seats ≡ seats) }
+    {
+        self.locks.desk(rt, seats)
     }
 
     /// How many tasks the run has.

@@ -8,5 +8,6 @@ pub adding-preserved : goal.adding-preserved
 adding-preserved c =
     let so_far = c.adding.invariant in
     let sum = c.saturating_add-sum.ensures in
+    let here = c.events.ensures in
     let more = sum_by_more (λ (task : ClosedTask). task.events) c.args.tasks.now c.adding.place c.index-tasks-place.result c.adding-test.true in
-    omega (arith, so_far, sum, more)
+    grind (arith, so_far, sum, here, more)
