@@ -7,7 +7,7 @@ ghost use Rattle.task_core.specs.opened.OfOne.{AreOfOne};
 
 use crate::beside::{STEPS, end_next, take_next};
 use crate::opened::share_scene;
-use shared_objects::{Locks, Ran, Shared};
+use shared_objects::{Ran, Shared};
 use std::alloc::{AllocError, Global};
 use std::sync::Wait;
 use std::test::Fail;
@@ -43,11 +43,11 @@ fn completed(step: &Step) -> Option<u64> {
 }
 
 // What one step of a task comes to, at its desk.
-fn step_at_desk(rt: &impl Wait, locks: &Locks, ran: Ran) -> Step
-    requires { ran.home ≡ locks.now }
+fn step_at_desk(rt: &impl Wait, shared: &Shared, ran: Ran) -> Step
+    requires { ran.home ≡ shared.now.locks }
 {
     let (mut task, seats, _) = ran.parts();
-    let mut desk = locks.desk(rt, seats);
+    let mut desk = shared.desk(rt, seats);
     let step = task.step(&mut desk, &mut Newest);
     drop(desk.back());
     step
@@ -61,7 +61,7 @@ fn chosen_at_desk(rt: &impl Wait, shared: Shared) -> Option<u64>
     let is_one = end_next(rt, &mut shared, true)?;
     let is_other = end_next(rt, &mut shared, true)?;
     let completer = take_next(&mut shared)?;
-    let step = step_at_desk(rt, shared.locks(), completer);
+    let step = step_at_desk(rt, &shared, completer);
     if is_one && is_other {
         completed(&step)
     } else {
