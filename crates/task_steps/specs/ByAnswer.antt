@@ -12,6 +12,7 @@ use Rattle.task_steps.specs.declared.objects.Objects.{Ghosts}
 use Rattle.task_steps.specs.declared.step.Step.{Step}
 use Rattle.task_steps.specs.declared.step.Step.TheVariants.{Stepped, Blocked, Waiting, Ended, Broken}
 use Rattle.task_steps.specs.Service.{Service}
+use Rattle.task_steps.specs.Routed.{Routing, routing_setup}
 use Rattle.task_steps.specs.TaskSteps.{TaskTurns}
 use Rattle.task_steps.specs.Turns.{silent_step}
 
@@ -63,6 +64,10 @@ TurnWas serves setup task old next new Ended =
 TurnWas serves setup task old next new (Broken breach) =
     (breach_of next ≡ Some breach)
     × (((request setup task ≡ Rest) × (next ≡ task) × (new ≡ old)) ⊎ WasTurnedAway serves setup task old breach next new)
+
+-- the same of a task by what its routes know of the devices
+abbrev pub TaskTells : {S : Type 0} → Ghosts S → Routing → TaskState → S → TaskState → S → Step → Type 0
+TaskTells words routing task old next new step = TurnWas words.serves (routing_setup routing) task old next new step
 
 -- the answer to each turn over these objects tells what it was
 abbrev pub AnswersTellTurns : {S : Type 0} → Ghosts S → Type 0

@@ -1,5 +1,6 @@
 //! Tasks.
 ghost use Rattle.std.specs.Prelude.{◌≡◌};
+ghost use Rattle.task_steps.specs.ByAnswer.{TaskTells};
 ghost use Rattle.task_steps.specs.TaskSteps.{TaskDoes, HoldsTask};
 ghost use Rattle.task_steps.specs.TaskViews.{task_of, ChosenBy};
 
@@ -99,6 +100,7 @@ impl Task {
         requires routing { self.old.routing ≡ (O.stage objects.old).routing }
         requires ready { HoldsTask O.Objects objects.old self.old.state }
         ensures does { TaskDoes O.Objects self.old.routing self.old.state objects.old self.new.state objects.new result }
+        ensures tells { TaskTells O.Objects self.old.routing self.old.state objects.old self.new.state objects.new result }
         ensures chosen { ChosenBy self.old.state C.chooses (O.picks objects.old) objects.new chooser.old result chooser.new }
         ensures same { self.new.routing ≡ self.old.routing }
     {
