@@ -27,14 +27,14 @@ use Rattle.task_steps.specs.Service.{Service}
 use Rattle.task_steps.specs.Stage.{Stage, Owes}
 use Rattle.task_steps.specs.Turns.{silent_step, step_by, step_of, resting_step, idle_step, Asks, Turns, Rested, Waited, Asked, Saw}
 use Rattle.task_steps.specs.TaskSteps.{TaskTurns}
-use Rattle.task_steps.specs.ByAnswer.{MayAsk, HasReply, HasNothing, TurnWas, AnswersTellTurns, pool_taken}
+use Rattle.task_steps.specs.ByAnswer.{MayAsk, HasReply, HasNothing, TurnWas, AnswersTellTurns, pool_waited_at}
 use Rattle.task_steps.proofs.Asking.{asks_any}
 
 -- What comes of a reply: an event; a miss that is none, and all is the same; a refusal, for the reason that the task keeps; or nothing, and all is
 -- the same.
 data Comes (setup : Setup) (asked : Request) (reply : Reply) (why : Option Breach) (Same : Type 0) : Type 0 where
   Tells : (told : What) → what_of asked reply ≡ Some told → Comes setup asked reply why Same
-  Misses : (pool : PoolId) → reply ≡ Missed false → pool_taken asked ≡ Some pool → what_of asked reply ≡ None
+  Misses : (pool : PoolId) → reply ≡ Missed false → pool_waited_at asked ≡ Some pool → what_of asked reply ≡ None
       → silent_step setup asked reply ≡ Blocked pool → Same → Comes setup asked reply why Same
   Refuses : (b : Breach) → what_of asked reply ≡ None → silent_step setup asked reply ≡ Broken b → why ≡ Some b → Comes setup asked reply why Same
   Finds : reply ≡ Nothing → Same → Comes setup asked reply why Same

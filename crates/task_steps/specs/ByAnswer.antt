@@ -41,22 +41,23 @@ WasTurnedAway serves setup task old breach next new =
     (reply : Reply) × HasReply serves setup task old reply new × (what_of (request setup task) reply ≡ None)
     × (silent_step setup (request setup task) reply ≡ Broken breach) × (next ≡ answered setup task reply)
 
--- the pool that a request is for an element of
-abbrev pub pool_taken : Request → Option PoolId
-pool_taken (TakeBio set waits) = Some (bios_of set)
-pool_taken TakeVec = Some FsVecs
-pool_taken (TakeSlip dev) = Some (Records dev)
-pool_taken request = None
+-- the pool that a request is for an element of, where a miss there has the task wait: a try that misses is an event
+abbrev pub pool_waited_at : Request → Option PoolId
+pool_waited_at (TakeBio set true) = Some (bios_of set)
+pool_waited_at TakeVec = Some FsVecs
+pool_waited_at (TakeSlip dev) = Some (Records dev)
+pool_waited_at request = None
 
--- An event: the task asked, the event tells of the reply, and the task goes on with it. Blocked: the pool missed. Waiting: it may not ask, or there
--- was nothing, and a write is unfinished. Ended: it has no more to ask, and has not broken off, or there was nothing, and no write is unfinished. In
--- these three it is as it was. Broken: it has broken off for this reason, before, or since it was refused.
+-- An event: the task asked, the event tells of the reply, and the task goes on with it. Blocked: the pool missed. Waiting: it may not ask, or its
+-- list or disk was empty, and a write is unfinished. Ended: it has no more to ask, and has not broken off, or its list or disk was empty, and no
+-- write is unfinished. In these three it is as it was. Broken: it has broken off for this reason, before, or since its object refused it, or had no
+-- ticket for it.
 abbrev pub TurnWas : {S : Type 0} → Service S → Setup → TaskState → S → TaskState → S → Step → Type 0
 TurnWas serves setup task old next new (Stepped event) =
     (reply : Reply) × HasReply serves setup task old reply new × (what_of (request setup task) reply ≡ Some event.what)
     × (event.task ≡ id_of task) × (next ≡ answered setup task reply)
 TurnWas serves setup task old next new (Blocked pool) =
-    (next ≡ task) × (pool_taken (request setup task) ≡ Some pool) × HasReply serves setup task old (Missed false) new
+    (next ≡ task) × (pool_waited_at (request setup task) ≡ Some pool) × HasReply serves setup task old (Missed false) new
 TurnWas serves setup task old next new Waiting =
     (next ≡ task) × (MayNotAsk serves task old new ⊎ ((left : ℕ) × (left ≢ 0) × HasNothing serves setup task old left new))
 TurnWas serves setup task old next new Ended =
