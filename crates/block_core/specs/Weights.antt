@@ -1,5 +1,5 @@
 -- Sums over all places of a state. What refers to a node, names one or is out of a pool is counted by what specs say of runs, and a count over all
--- places is such a sum; the weights by which proofs show that a run ends stand with the proofs.
+-- places is such a sum; so is what is charged for the events still to come. Weights that only proofs need stand with the proofs.
 use Rattle.std.specs.Prelude.{◌+◌, ◌-◌, ◌*◌, ◌==◌, if◌then◌else◌, ℕ, zero, suc, List, length, sum_by, Option, None, Some}
 use Rattle.bio_records.specs.declared.bio.Bio.{Bio}
 use Rattle.bio_records.specs.declared.bio.Pad.{Pad}

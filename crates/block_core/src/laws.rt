@@ -135,7 +135,8 @@ pub fn no_counter_is_full()
 {}
 
 /// So a run of a scenario that is allowed either can go on with an event that needs no ordinary memory, or has ended: each write is done, and
-/// each element is at home.
+/// each element is at home. As where no state is stuck, that is so where each mirror of two members or more has a rescuer, each pool keeps an
+/// element, and rounds do not fall.
 pub fn each_run_goes_on_or_has_ended()
     ensures { EachRunGoesOnOrHasEnded }
 {}

@@ -154,7 +154,7 @@ impl Lists {
     }
 
     /// The bio to serve next when the driver of a device has returned, if one waits (`__submit_bio_noacct`, `block/blk-core.c`). The others
-    /// wait in list 1 then, in their order, and list 0 is empty.
+    /// wait in list 1 then, first those of other devices, then those of this one, then what waited before, and list 0 is empty.
     pub fn next(&mut self, served: DevId) -> Option<PlainBioElement>
         requires { ListsHaveCapacity 0 self.old }
         ensures list0 { self.new.list0.items ≡ [] }

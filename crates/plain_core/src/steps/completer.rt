@@ -86,7 +86,7 @@ fn give_part(
 }
 
 // The first of what a closed node holds goes back, vector, bio or record (`bio_free`, `block/bio.c`, and `free_r1bio`,
-// `drivers/md/raid1.c`). It answers whether there was anything.
+// `drivers/md/raid1.c`). It answers whether there was anything, and `NotEnabled` where the event is not that give: then nothing is changed.
 fn give_first(objects: &mut Objects, held: &mut Holding, what: &What) -> Result<bool, CoreFault>
     ensures { GivesFirstHeld objects.old held.old what.now result objects.new held.new }
 {

@@ -83,7 +83,7 @@ fn writer_is_let(objects: &Objects, writer: &Writer) -> bool
     !writer.submission.rests() || write_is_let(objects, writer)
 }
 
-// Whether what the keeper looks at lets it ask.
+// Whether what the keeper looks at lets it ask: so it is where it has no duty to look for, or has broken off.
 fn keeper_is_let(objects: &Objects, keeper: &Keeper) -> bool
     ensures { IsDecisionOf result (TaskIsLet objects.now (keeper_of keeper.now)) }
 {
