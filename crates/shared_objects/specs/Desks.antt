@@ -16,10 +16,10 @@ pub record DeskState : Type 0 where
   pub calls : CallsAt
 
 -- the pass went through a call
-abbrev pub PassOn : Option PassState → ℕ → Bool → Bool → Option ℕ → Option PassState → Type 0
-PassOn None note spent drew ticket after = ⊥
-PassOn (Some pass) note spent drew ticket None = ⊥
-PassOn (Some pass) note spent drew ticket (Some after) = PassBy pass note spent drew ticket after
+abbrev pub PassGoesOn : Option PassState → ℕ → Bool → Bool → Option ℕ → Option PassState → Type 0
+PassGoesOn None note spent drew ticket after = ⊥
+PassGoesOn (Some pass) note spent drew ticket None = ⊥
+PassGoesOn (Some pass) note spent drew ticket (Some after) = PassBy pass note spent drew ticket after
 
 -- One call was made. It stands last among the task's calls at the object that it asked.
 pub record HasCalled (old : DeskState) (asked : Request) (reply : Reply) (new : DeskState) : Type 0 where
@@ -27,7 +27,7 @@ pub record HasCalled (old : DeskState) (asked : Request) (reply : Reply) (new : 
   pub replies : told.reply ≡ reply
   pub number : new.number ≡ old.number
   pub calls : new.calls ≡ with_call old.calls (object_of asked) (record { by = old.number; asked = asked; told = told })
-  pub pass : PassOn old.pass told.note (is_spent told.reply) told.drew told.drawn new.pass
+  pub pass : PassGoesOn old.pass told.note (is_spent told.reply) told.drew told.drawn new.pass
 
 -- A bio of a disk is completed by one look, where none waits, or by a look and a call behind it.
 pub record LooksAndCompletes (old : DeskState) (disk : DevId) (reply : Reply) (new : DeskState) : Type 0 where

@@ -18,7 +18,7 @@ use Rattle.task_steps.specs.Turns.{Turns}
 use Rattle.object_things.specs.Histories.{Call, TicketsRise, FoundNone}
 use Rattle.object_things.specs.Stamps.{is_spent}
 use Rattle.shared_objects.specs.Calls.{calls_at, calls_to, struck}
-use Rattle.shared_objects.specs.Desks.{DeskState, HasCalled, PassOn, DeskServes}
+use Rattle.shared_objects.specs.Desks.{DeskState, HasCalled, PassGoesOn, DeskServes}
 
 -- whether a request and its reply are an event
 abbrev pub is_event : Request → Reply → Bool
@@ -104,7 +104,7 @@ pub record IsLogged (setup : Setup) (first : TaskState) (log : List Call) (task 
 pub record IsMade (asked : Request) (reply : Reply) (before after : Option PassState) (call : Call) : Type 0 where
   pub asks : call.asked ≡ asked
   pub replies : call.told.reply ≡ reply
-  pub pass : PassOn before call.told.note (is_spent call.told.reply) call.told.drew call.told.drawn after
+  pub pass : PassGoesOn before call.told.note (is_spent call.told.reply) call.told.drew call.told.drawn after
 
 -- The task has stopped: it asks for nothing more, or one of these calls saw that no write was unfinished.
 abbrev pub HasStopped : Setup → List Call → TaskState → Type 0

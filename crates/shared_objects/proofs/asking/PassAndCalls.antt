@@ -11,7 +11,7 @@ use Rattle.object_things.specs.declared.stamp.Replied.{Replied}
 use Rattle.object_things.specs.Stamps.{Told, PassBy, PassByReply, is_spent, told_by}
 use Rattle.shared_objects.specs.Calling.{FitsWith, HasAsked}
 use Rattle.shared_objects.specs.Calls.{CallsAt, with_call}
-use Rattle.shared_objects.specs.Desks.{HasCalled, PassOn}
+use Rattle.shared_objects.specs.Desks.{HasCalled, PassGoesOn}
 use Rattle.shared_objects.specs.Holding.{IsPassOf}
 use Rattle.shared_objects.specs.Joins.{IsNumbered}
 
@@ -33,7 +33,7 @@ clock_stays pass after note true drew None by = ap (λ (p : PassState). p.clock)
 clock_stays pass after note false drew None by = ap (λ (p : PassState). p.clock) by
 
 pass_comes_home : (clock : TableId) (before after : Option PassState) (note : ℕ) (spent drew : Bool) (ticket : Option ℕ)
-    → PassOn before note spent drew ticket after → IsPassOf clock before → IsPassOf clock after
+    → PassGoesOn before note spent drew ticket after → IsPassOf clock before → IsPassOf clock after
 pass_comes_home clock None after note spent drew ticket on home = absurd home
 pass_comes_home clock (Some pass) None note spent drew ticket on home = absurd on
 pass_comes_home clock (Some pass) (Some after) note spent drew ticket on home = clock_stays pass after note spent drew ticket on ∙ home
@@ -43,7 +43,7 @@ pub record SeatCalls {T : Type 0} (task : ℕ) (old new : Known T Request Told) 
   pub told : Told
   pub replies : told.reply ≡ reply
   pub calls : own new ≡ own old ++ record { by = task + 1; asked = asked; told = told } ∷ []
-  pub pass : PassOn before told.note (is_spent told.reply) told.drew told.drawn after
+  pub pass : PassGoesOn before told.note (is_spent told.reply) told.drew told.drawn after
 
 module _ {Q S T : Type 0} (asked_of : Q → Request) (reply_of : S → Reply) {owes : Asking Q → Replied S → Type 0} {old new : Known T Request Told}
     {before after : Option PassState} {ask : Q} {said : S}
@@ -61,8 +61,8 @@ module _ {Q S T : Type 0} (asked_of : Q → Request) (reply_of : S → Reply) {o
         replies = ap reply_of made.says;
         calls = made.calls ∙ ap (λ n. own old ++ record { by = n; asked = asked_of ask; told = told } ∷ []) is.number;
         pass =
-            subst (λ b. PassOn b told.note (is_spent told.reply) told.drew told.drawn after) (sym made.held)
-            (subst (λ a. PassOn (Some made.pass) told.note (is_spent told.reply) told.drew told.drawn a) (sym made.back) (passes made.owed));
+            subst (λ b. PassGoesOn b told.note (is_spent told.reply) told.drew told.drawn after) (sym made.held)
+            (subst (λ a. PassGoesOn (Some made.pass) told.note (is_spent told.reply) told.drew told.drawn a) (sym made.back) (passes made.owed));
       }
 
   -- what is owed of what was said

@@ -15,7 +15,7 @@ use Rattle.run_machine.specs.Tasks.{TaskState, request, look_of, lets, answered}
 use Rattle.object_things.specs.Stamps.{is_spent, PassBy, IsOver}
 use Rattle.object_things.specs.Histories.{Call, TicketsRise, IsNextTicket, or_last, FoundNone}
 use Rattle.shared_objects.specs.Calls.{CallsAt, with_call, is_same_object, calls_at, calls_to, struck}
-use Rattle.shared_objects.specs.Desks.{DeskState, HasCalled, PassOn}
+use Rattle.shared_objects.specs.Desks.{DeskState, HasCalled, PassGoesOn}
 use Rattle.shared_objects.specs.Logs.{is_glance, tickets_in, Looked, LogLeads, IsMet, IsSeenIn, KnowsLast, WentThrough, HasPass, IsMade, IsLogged}
 
 abbrev here : Bool → Call → List Call
@@ -170,7 +170,7 @@ pass_by pass after end log call true None s t by was = (
 pass_by pass after end log call false None s t by was =
     (tt, subst (λ p. WentThrough p end (log ++ call ∷ [])) (sym by) (meets pass end log call t s was))
 
-pass_on : (pass after : Option PassState) (end : ℕ) (log : List Call) (call : Call) → PassOn pass call.told.note (is_spent call.told.reply) call.told.drew call.told.drawn after
+pass_on : (pass after : Option PassState) (end : ℕ) (log : List Call) (call : Call) → PassGoesOn pass call.told.note (is_spent call.told.reply) call.told.drew call.told.drawn after
     → HasPass pass end log → IsNextTicket end call.told.drawn × HasPass after (or_last end call.told.drawn) (log ++ call ∷ [])
 pass_on None after end log call by was = absurd was
 pass_on (Some pass) None end log call by was = absurd by

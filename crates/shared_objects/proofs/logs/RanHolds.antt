@@ -12,7 +12,7 @@ use Rattle.task_steps.specs.Turns.{Turns}
 use Rattle.task_steps.proofs.Turned.{turns_home}
 use Rattle.object_things.specs.Stamps.{PassBy}
 use Rattle.shared_objects.specs.Calls.{struck}
-use Rattle.shared_objects.specs.Desks.{DeskState, DeskServes, HasCalled, PassOn}
+use Rattle.shared_objects.specs.Desks.{DeskState, DeskServes, HasCalled, PassGoesOn}
 use Rattle.shared_objects.specs.Holding.{DeskHolds, desk_of, stage_at}
 use Rattle.shared_objects.specs.Logs.{seen_by}
 use Rattle.shared_objects.specs.Noting.{IsBlank, NotesStep}
@@ -61,7 +61,7 @@ stays_other pass note spent drew (Some n) after by is = subst (λ p. IsOtherPass
 stays_other pass note true drew None after by is = subst (λ p. IsOtherPass (Some p)) (sym by.0) is
 stays_other pass note false drew None after by is = subst (λ p. IsOtherPass (Some p)) (sym by) is
 
-goes_other : (pass : Option PassState) (note : ℕ) (spent drew : Bool) (ticket : Option ℕ) (after : Option PassState) → PassOn pass note spent drew ticket after
+goes_other : (pass : Option PassState) (note : ℕ) (spent drew : Bool) (ticket : Option ℕ) (after : Option PassState) → PassGoesOn pass note spent drew ticket after
     → IsOtherPass pass → IsOtherPass after
 goes_other None note spent drew ticket after by is = absurd is
 goes_other (Some pass) note spent drew ticket None by is = absurd by

@@ -25,7 +25,7 @@ use Rattle.task_steps.specs.Turns.{Turns, Rested, Waited, Asked, Saw, Asks, sile
 use Rattle.object_things.specs.Stamps.{is_spent, PassBy}
 use Rattle.object_things.specs.Histories.{Call}
 use Rattle.shared_objects.specs.Calls.{struck}
-use Rattle.shared_objects.specs.Desks.{DeskState, HasCalled, PassOn, LooksAndCompletes, DeskServes}
+use Rattle.shared_objects.specs.Desks.{DeskState, HasCalled, PassGoesOn, LooksAndCompletes, DeskServes}
 use Rattle.shared_objects.specs.Logs.{is_event, is_stop, is_glance, events_in, Looked, LogLeads, IsMet, HasPass, IsMade, IsLogged, HasStopped, seen_by, ShowsStep, StepsAreLogged}
 use Rattle.shared_objects.proofs.steps.NothingFound.{idle}
 use Rattle.shared_objects.proofs.logs.OneMoreCall.{one_call}
@@ -49,7 +49,7 @@ above_by pass after seen call spent None le by = tt
 above_by pass after seen call spent (Some n) le by = (let above = by.0 in omega (arith, above, le))
 
 above : (pass after : Option PassState) (end : ℕ) (log : List Call) (seen call : Call) → HasPass pass end log → Contains log seen
-    → PassOn pass call.told.note (is_spent call.told.reply) call.told.drew call.told.drawn after → is_spent seen.told.reply ≡ false
+    → PassGoesOn pass call.told.note (is_spent call.told.reply) call.told.drew call.told.drawn after → is_spent seen.told.reply ≡ false
     → IfSome call.told.drawn (λ n. seen.told.note < n)
 above None after end log seen call saw in_it by ok = absurd saw
 above (Some pass) None end log seen call saw in_it by ok = absurd by

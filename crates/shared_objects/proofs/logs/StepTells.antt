@@ -20,7 +20,7 @@ use Rattle.task_steps.specs.Turns.{silent_step, step_by, resting_step}
 use Rattle.object_things.specs.Stamps.{PassBy}
 use Rattle.object_things.specs.Histories.{Call}
 use Rattle.shared_objects.specs.Calls.{struck}
-use Rattle.shared_objects.specs.Desks.{PassOn}
+use Rattle.shared_objects.specs.Desks.{PassGoesOn}
 use Rattle.shared_objects.specs.Logs.{is_event, is_stop, is_glance, events_in, seen_by, ShowsStep}
 use Rattle.shared_objects.proofs.steps.GlanceStays.{event_struck, glance_kinds}
 use Rattle.shared_objects.proofs.logs.CallsLead.{quiet_first}
@@ -36,7 +36,7 @@ seen_last : (pass after : PassState) (note : ℕ) (spent drew : Bool) (ticket : 
 seen_last pass after note spent drew None by = tt
 seen_last pass after note spent drew (Some n) by = sym (ap (λ (p : PassState). p.seen) by.2)
 
-pub seen_made : (pass after : Option PassState) (note : ℕ) (spent drew : Bool) (ticket : Option ℕ) → PassOn pass note spent drew ticket after → IfSome ticket (λ n. n ≡ seen_by after)
+pub seen_made : (pass after : Option PassState) (note : ℕ) (spent drew : Bool) (ticket : Option ℕ) → PassGoesOn pass note spent drew ticket after → IfSome ticket (λ n. n ≡ seen_by after)
 seen_made None after note spent drew ticket by = absurd by
 seen_made (Some pass) None note spent drew ticket by = absurd by
 seen_made (Some pass) (Some after) note spent drew ticket by = seen_last pass after note spent drew ticket by
