@@ -34,4 +34,4 @@ pub mod ListOrder
 pub mod Positions
 pub mod Soundness
 pub mod DoneAndRoundEvents
-pub mod Dones
+pub mod WritesToldDone

@@ -6,5 +6,5 @@ pub mod ObjectsAnswer
 pub mod NoneFails
 pub mod Unbroken
 pub mod Resizes
-pub mod Replies
-pub mod Answered
+pub mod OneReply
+pub mod AnswersInRuns

@@ -28,7 +28,7 @@ use Rattle.task_steps.specs.TaskViews.{TaskOf, ChosenBy}
 use Rattle.task_steps.specs.Turns.{Turns, Chosen}
 use Rattle.run_machine.proofs.Frames.{upd_same, upd_other, upd_own}
 use Rattle.task_steps.proofs.Named.{tasks_name_the_stack}
-use Rattle.task_core.proofs.opened.Seen.{steps_are_events}
+use Rattle.task_core.proofs.opened.StepsAreEvents.{steps_are_events}
 use Rattle.task_steps.proofs.Turned.{turns_home}
 use Rattle.block_core.proofs.moves.Sums.{same_or_not}
 use Rattle.work_text.specs.Generated.{word, behind}

@@ -25,7 +25,7 @@ use Rattle.task_steps.specs.Stage.{Stage, Owes}
 use Rattle.run_machine.specs.Tasks.{TaskState, request, look_of, lets, breach_of, is_broken}
 use Rattle.task_steps.specs.Turns.{step_by, step_of, resting_step, idle_step, Asks, Rested, Waited, Asked, Saw}
 use Rattle.run_machine.proofs.Idle.{IsFair, fair_task}
-use Rattle.task_core.proofs.opened.Seen.{has_seen, lets_ask, served, told_serves}
+use Rattle.task_core.proofs.opened.StepsAreEvents.{has_seen, lets_ask, served, told_serves}
 use Rattle.block_core.specs.Breaks.{GoesUnrefused, is_refusal}
 
 no_end : {breach : Breach} → Broken breach ≢ Ended

@@ -5,7 +5,7 @@ use Rattle.block_core.specs.Claim.{EveryRunIsAsClaimed, AcceptedTextsRunAsClaime
 use Rattle.block_core.proofs.bound.Bounded.{runs_are_bounded}
 use Rattle.block_core.proofs.bound.ExactSteps.{steps_without_misses}
 use Rattle.block_core.proofs.images.DoneWrites.{done_is_completed}
-use Rattle.block_core.proofs.sound.Dones.{unfinished_until_done, tally_has_statuses, none_left_undone}
+use Rattle.block_core.proofs.sound.WritesToldDone.{unfinished_until_done, tally_has_statuses, none_left_undone}
 use Rattle.block_core.proofs.stuck.RunsEnd.{runs_end_with_their_writes}
 use Rattle.block_core.proofs.unrefused.Unbroken.{no_task_breaks}
 use Rattle.block_core.proofs.status.Statuses.{statuses_are_given, ended_statuses_are_given}

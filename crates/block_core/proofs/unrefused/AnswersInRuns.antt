@@ -8,7 +8,7 @@ use Rattle.block_core.proofs.sound.EveryRun.{runs_whole, start_whole}
 use Rattle.block_core.proofs.unrefused.RoomKept.{run_roomy}
 use Rattle.block_core.proofs.unrefused.ObjectsAnswer.{ready}
 use Rattle.block_core.proofs.unrefused.Unbroken.{small, no_task_breaks}
-use Rattle.block_core.proofs.unrefused.Replies.{event_or_nothing}
+use Rattle.block_core.proofs.unrefused.OneReply.{event_or_nothing}
 
 pub replies_are_events : RepliesAreEvents
 replies_are_events s ledger events state good allowed naming run place here see reply new serves =

@@ -37,9 +37,9 @@ use Rattle.plain_core.specs.objects.Ledgers.{ledger_of}
 use Rattle.plain_core.specs.opening.Opening.{core_objects_of, CanOpen, IsOpenedCore, new_book, new_books, new_disk, new_disks, new_pool, new_pools}
 use Rattle.plain_core.specs.objects.Plain.{CoreObjects, HasPlacesForStack, HasSize, disk_or, no_core_pool, objects_of_core}
 use Rattle.task_core.specs.opened.NewTasks.{AreServableWrites}
-use Rattle.task_core.proofs.opened.Behind.{sum_le}
+use Rattle.task_core.proofs.opened.MeantAsAsked.{sum_le}
 use Rattle.task_core.proofs.opened.Setups.{no_writer}
-use Rattle.task_core.proofs.opened.Sharing.{share_served}
+use Rattle.task_core.proofs.opened.WritesSharedOut.{share_served}
 
 abbrev no_bios : List (Item Pad)
 no_bios = []

@@ -7,7 +7,7 @@ use Rattle.layout_model.specs.Writes.{IsWrite}
 use Rattle.decl_text.specs.Accepting.{shown_devices}
 use Rattle.work_text.specs.Fit.{IsPoolIn}
 use Rattle.work_text.specs.declared.Resize.{Resize}
-use Rattle.task_core.proofs.opened.Behind.{fit_work, of_stack, scripts_of_stack}
+use Rattle.task_core.proofs.opened.MeantAsAsked.{fit_work, of_stack, scripts_of_stack}
 use Rattle.plain_core.specs.opening.Readable.{AcceptedTextsCanOpen}
 
 pub can_open : AcceptedTextsCanOpen

@@ -20,7 +20,7 @@ use Rattle.task_core.specs.Plains.{objects_of, stage_of}
 use Rattle.task_steps.specs.Routed.{Routing, routing_setup}
 use Rattle.run_machine.specs.Scene.{has_set}
 use Rattle.task_steps.specs.Stage.{Stage, is_pool, has_mirror_in}
-use Rattle.task_core.proofs.opened.Behind.{no_set_keeps, no_slips_keep, scripts_alone}
+use Rattle.task_core.proofs.opened.MeantAsAsked.{no_set_keeps, no_slips_keep, scripts_alone}
 use Rattle.plain_core.specs.opening.Opening.{CanOpen, new_pool}
 use Rattle.plain_core.proofs.opening_lemmas.Readable.{can_open}
 

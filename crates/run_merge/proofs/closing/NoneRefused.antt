@@ -17,7 +17,7 @@ use Rattle.run_machine.proofs.Frames.{upd_same}
 use Rattle.block_core.specs.Replies.{IsEventOrNothing}
 use Rattle.block_core.specs.Runnable.{IsRunnable}
 use Rattle.block_core.specs.Scenarios.{IsNaming}
-use Rattle.block_core.proofs.unrefused.Answered.{replies_are_events}
+use Rattle.block_core.proofs.unrefused.AnswersInRuns.{replies_are_events}
 use Rattle.block_core.proofs.unrefused.Unbroken.{no_task_breaks}
 use Rattle.shared_objects.specs.Calls.{struck}
 use Rattle.run_merge.specs.Closing.{WasRefused}

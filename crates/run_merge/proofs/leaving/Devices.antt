@@ -17,7 +17,7 @@ use Rattle.run_machine.specs.Named as kinds
 use Rattle.run_machine.specs.Opened.{device_at}
 use Rattle.run_machine.specs.Scene.{is_device, is_disk, has_set, is_mirror, keeps_data}
 use Rattle.task_core.specs.Leaving.{falling_from, pools_at}
-use Rattle.task_core.proofs.opened.Filling.{filter_more}
+use Rattle.task_core.proofs.opened.OpenedInOrder.{filter_more}
 use Rattle.task_core.proofs.DisksOfKinds.{keeps_by}
 use Rattle.task_steps.specs.Routed.{Routing, routing_setup}
 use Rattle.task_steps.specs.Stage.{has_mirror_in}

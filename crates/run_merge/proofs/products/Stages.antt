@@ -13,7 +13,7 @@ use Rattle.block_core.specs.Rounds.{tops, tops_left, all_worth, unfinished_of}
 use Rattle.block_core.specs.Scenarios.{IsScenario}
 use Rattle.block_core.specs.Weights.{total_weight, one_if_same}
 use Rattle.block_core.proofs.sound.DoneOnce.{to_begin, stage}
-use Rattle.block_core.proofs.sound.Dones.{stage_is}
+use Rattle.block_core.proofs.sound.WritesToldDone.{stage_is}
 use Rattle.block_core.proofs.sound.Invariant.{Invariant}
 use Rattle.block_core.proofs.moves.SumsCompared.{under_in_all}
 use Rattle.block_core.proofs.start.TallyAtStart.{todo_numbered, unfinished_at_start}

@@ -34,7 +34,7 @@ use Rattle.task_core.specs.opened.Openings.{has_set_at}
 use Rattle.task_steps.specs.Stage.{has_mirror_in}
 use Rattle.task_steps.specs.Routed.{Routing, copies_bios, keeps, routing_setup}
 use Rattle.run_machine.specs.Scene.{has_set, is_mirror, keeps_data}
-use Rattle.task_core.proofs.opened.Sharing.{few_rounds}
+use Rattle.task_core.proofs.opened.WritesSharedOut.{few_rounds}
 use Rattle.task_core.proofs.opened.PoolsBehind.{bios_kept, slips_kept, disks_keep_none, others_have_none, data_by, mirror_by, bads_by, number_small}
 pub use Rattle.task_core.proofs.opened.PoolsBehind.{of_stack}
 pub use Rattle.task_core.proofs.opened.ScriptsBehind.{scripts_alone, scripts_of_stack}

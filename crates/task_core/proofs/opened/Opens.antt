@@ -46,12 +46,12 @@ use Rattle.task_steps.specs.TaskViews.{TaskOf}
 use Rattle.run_machine.specs.Tasks.{Todo, NoBio, Empty, Duty, Resizes, Starts, TaskState, Writer, Rescuer, Completer, Keeper, Keeps}
 use Rattle.run_machine.proofs.Passing.{below_all}
 use Rattle.task_steps.specs.Within.{IsItemWithin}
-use Rattle.task_core.proofs.opened.Behind.{fit_work, shared}
+use Rattle.task_core.proofs.opened.MeantAsAsked.{fit_work, shared}
 use Rattle.task_core.proofs.opened.ScriptsBehind.{all_flat}
 use Rattle.task_core.proofs.opened.PoolsBehind.{pool_known, pool_there}
 use Rattle.task_core.proofs.opened.NewPools.{widest_least}
 use Rattle.task_core.proofs.opened.Setups as shown
-use Rattle.task_core.proofs.opened.Sharing.{any_some, numbered_all, numbers_below}
+use Rattle.task_core.proofs.opened.WritesSharedOut.{any_some, numbered_all, numbers_below}
 
 -- the largest reserve is no less than each
 abbrev grown : PoolId × ℕ → ℕ → ℕ → ℕ

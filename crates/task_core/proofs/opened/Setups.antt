@@ -22,7 +22,7 @@ use Rattle.task_steps.specs.TaskViews.{TaskOf}
 use Rattle.task_core.specs.opened.NewTasks.{AreServableWrites, others_in, with_routing}
 use Rattle.task_core.specs.opened.OfOne.{states}
 use Rattle.task_core.specs.opened.OpenTasks.{AreTasksOf}
-use Rattle.task_core.proofs.opened.Sharing.{numbered_all}
+use Rattle.task_core.proofs.opened.WritesSharedOut.{numbered_all}
 
 is_other : (a b : ℕ) → a < b → (a == b) ≡ false
 is_other a b lt = grind (lt, arith, nat_tests)

@@ -22,7 +22,7 @@ use Rattle.run_machine.specs.Opened.{device_at, is_by, numbered, numbered_from, 
 use Rattle.run_machine.specs.Tasks.{Todo, TaskState, NoBio, Empty, Writer, Rescuer, Completer}
 use Rattle.run_machine.proofs.Passing.{filter_sum, none_passes}
 use Rattle.stack_base.proofs.NumberLemmas.{below_or_last}
-use Rattle.task_core.proofs.opened.Filling as fill
+use Rattle.task_core.proofs.opened.OpenedInOrder as fill
 
 -- how many there are, and which stands at a place
 pub numbered_long : (first : ℕ) (rounds : List ℕ) (writes : List Write) → length rounds ≡ length writes

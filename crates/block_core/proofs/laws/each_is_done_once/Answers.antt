@@ -1,4 +1,4 @@
-use Rattle.block_core.proofs.sound.Dones.{none_left_undone, tally_has_statuses, unfinished_until_done}
+use Rattle.block_core.proofs.sound.WritesToldDone.{none_left_undone, tally_has_statuses, unfinished_until_done}
 use Rattle.block_core.proofs.sound.EveryRun.{each_is_done_once}
 use Rattle.block_core.proofs.laws.each_is_done_once.Goals as goal
 

@@ -1,4 +1,4 @@
-use Rattle.block_core.proofs.unrefused.Answered.{replies_are_events}
+use Rattle.block_core.proofs.unrefused.AnswersInRuns.{replies_are_events}
 use Rattle.block_core.proofs.unrefused.Unbroken.{no_task_breaks}
 use Rattle.block_core.proofs.laws.no_task_breaks.Goals as goal
 

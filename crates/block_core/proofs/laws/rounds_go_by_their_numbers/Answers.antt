@@ -1,4 +1,4 @@
-use Rattle.block_core.proofs.sound.Dones.{rounds_start_in_turn, writes_are_done_in_their_round}
+use Rattle.block_core.proofs.sound.WritesToldDone.{rounds_start_in_turn, writes_are_done_in_their_round}
 use Rattle.block_core.proofs.laws.rounds_go_by_their_numbers.Goals as goal
 
 -- src/laws.rt

@@ -4,7 +4,7 @@ use Rattle.task_core.specs.Leaving.{IsReservedForRun}
 use Rattle.task_core.specs.opened.NewTasks.{reserves_in}
 use Rattle.task_core.specs.opened.Openings.{AreOpened}
 use Rattle.task_steps.specs.Routed.{Routing}
-use Rattle.task_core.proofs.opened.Behind.{shared}
+use Rattle.task_core.proofs.opened.MeantAsAsked.{shared}
 use Rattle.task_core.proofs.opened.Opens.{opened_of}
 use Rattle.task_core.proofs.opening.open.Goals as goal
 

@@ -14,7 +14,7 @@ use Rattle.task_core.specs.opened.NewTasks.{reserves_in}
 use Rattle.run_machine.specs.Opened.{device_at, reserve_of, script_at, in_round, rounds_in}
 use Rattle.task_core.specs.opened.Openings.{has_pool, has_set_at}
 use Rattle.task_steps.specs.Stage.{has_mirror_in}
-use Rattle.task_core.proofs.opened.Behind.{bads_are, reserves_small, rounds_few, sets_kept, slips_are_kept}
+use Rattle.task_core.proofs.opened.MeantAsAsked.{bads_are, reserves_small, rounds_few, sets_kept, slips_are_kept}
 use Rattle.task_core.proofs.opened.ScriptsBehind.{scripts_alone, scripts_small}
 use Rattle.task_core.proofs.opening.open_plain.Goals as goal
 

@@ -4,7 +4,7 @@ use Rattle.run_machine.specs.Opened.{left_in, rounds_in, writers_of}
 use Rattle.task_core.specs.opened.NewTasks.{others_in, shown_tasks, with_routing}
 use Rattle.task_core.specs.opened.OpenTasks.{AreTasksOf}
 use Rattle.task_steps.specs.Routed.{Routing, routing_setup}
-use Rattle.task_core.proofs.opened.Sharing.{few_rounds}
+use Rattle.task_core.proofs.opened.WritesSharedOut.{few_rounds}
 use Rattle.task_core.proofs.opening.open_tasks.Goals as goal
 
 pub left_of-requires : goal.left_of-requires

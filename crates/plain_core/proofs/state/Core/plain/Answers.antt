@@ -1,7 +1,7 @@
 use Rattle.std.proofs.Common.{◌≡◌, ◌∙◌, ap, length, map, arith}
 use Rattle.task_steps.specs.Routed.{Routing}
 use Rattle.task_core.proofs.opened.Setups.{places_are}
-use Rattle.task_core.proofs.opened.Sharing.{few_rounds}
+use Rattle.task_core.proofs.opened.WritesSharedOut.{few_rounds}
 use Rattle.run_machine.specs.Opened.{new_tally}
 use Rattle.plain_core.specs.opening.Opening.{new_core_objects}
 use Rattle.plain_core.specs.objects.Plain.{CoreObjects}

@@ -2,7 +2,7 @@ use Rattle.std.proofs.Common.{◌<◌, length, ◌∙◌, arith}
 use Rattle.task_core.specs.opened.Openings.{itself, IsNewBook}
 use Rattle.task_steps.specs.Stage.{has_book_in}
 use Rattle.task_core.specs.Plains.{book_number}
-use Rattle.task_core.proofs.opened.Filling.{one_more, not_itself}
+use Rattle.task_core.proofs.opened.OpenedInOrder.{one_more, not_itself}
 use Rattle.task_core.proofs.opening.objects.open_books.Goals as goal
 
 pub opening-preserved : goal.opening-preserved

@@ -3,7 +3,7 @@ use Rattle.stack_base.specs.declared.stack.Stack.{Stack}
 use Rattle.task_core.specs.opened.Openings.{itself, IsNewList}
 use Rattle.task_steps.specs.Stage.{has_rescuer_in}
 use Rattle.task_core.specs.Plains.{list_number}
-use Rattle.task_core.proofs.opened.Filling.{one_more, not_itself}
+use Rattle.task_core.proofs.opened.OpenedInOrder.{one_more, not_itself}
 use Rattle.task_core.proofs.opening.objects.open_lists.Goals as goal
 
 pub opening-preserved : goal.opening-preserved

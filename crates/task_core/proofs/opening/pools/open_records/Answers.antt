@@ -2,7 +2,7 @@ use Rattle.std.proofs.Common.{◌<◌, length, ◌∙◌, arith}
 use Rattle.task_core.specs.opened.Openings.{slip_index, IsNewRecords}
 use Rattle.task_steps.specs.Stage.{has_mirror_in}
 use Rattle.task_core.specs.Plains.{records_number}
-use Rattle.task_core.proofs.opened.Filling.{one_more}
+use Rattle.task_core.proofs.opened.OpenedInOrder.{one_more}
 use Rattle.task_core.proofs.opened.NewPools.{slips_apart}
 use Rattle.task_core.proofs.opening.pools.open_records.Goals as goal
 

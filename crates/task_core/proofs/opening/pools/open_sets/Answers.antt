@@ -6,7 +6,7 @@ use Rattle.stack_base.specs.declared.ids.SetId.TheVariants.{Fs}
 use Rattle.mempool_core.specs.Pool.{LedgerPool}
 use Rattle.task_core.specs.opened.Openings.{set_index, has_set_at, IsNewSet, AreSets, NextSet, IsOpenPool}
 use Rattle.task_core.specs.Plains.{set_number}
-use Rattle.task_core.proofs.opened.Filling.{none_made, one_more}
+use Rattle.task_core.proofs.opened.OpenedInOrder.{none_made, one_more}
 use Rattle.task_core.proofs.opened.NewPools.{sets_apart}
 use Rattle.task_core.proofs.opening.pools.open_sets.Goals as goal
 

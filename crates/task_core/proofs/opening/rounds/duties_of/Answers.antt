@@ -5,7 +5,7 @@ use Rattle.run_machine.specs.Scenario.{change_of}
 use Rattle.run_machine.specs.Tasks.{Starts}
 use Rattle.run_machine.specs.Opened.{changes_at, duties_in, from_round, in_round, rounds_in, starts_at}
 use Rattle.run_machine.proofs.FromRounds.{from_next}
-use Rattle.task_core.proofs.opened.Rounding.{duties_more, from_first, left_at}
+use Rattle.task_core.proofs.opened.DutiesByRound.{duties_more, from_first, left_at}
 use Rattle.task_core.proofs.opening.rounds.duties_of.Goals as goal
 
 pub passing-init : goal.passing-init

@@ -2,7 +2,7 @@ use Rattle.std.proofs.Common.{◌≡◌, ◌+◌, ◌<◌, ◌∙◌, ap, arith,
 use Rattle.std.specs.Prelude.{sum}
 use Rattle.std.proofs.lemmas.List.FromFn.{length-map-range_with_len}
 use Rattle.run_machine.specs.Opened.{in_round, rounds_in}
-use Rattle.task_core.proofs.opened.Rounding.{none_counted, sum_none, counted_more, had_count, round_inside, sum_more, entry_le}
+use Rattle.task_core.proofs.opened.DutiesByRound.{none_counted, sum_none, counted_more, had_count, round_inside, sum_more, entry_le}
 use Rattle.task_core.proofs.opening.rounds.left_of.Goals as goal
 
 pub counting-init : goal.counting-init

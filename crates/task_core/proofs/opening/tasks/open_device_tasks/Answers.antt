@@ -1,6 +1,6 @@
 use Rattle.task_core.specs.opened.NewTasks.{device_tasks}
 use Rattle.task_steps.specs.Routed.{routing_setup}
-use Rattle.task_core.proofs.opened.Sharing.{adds_more, device_split}
+use Rattle.task_core.proofs.opened.WritesSharedOut.{adds_more, device_split}
 use Rattle.task_core.proofs.opening.tasks.open_device_tasks.Goals as goal
 
 pub opening-preserved : goal.opening-preserved

@@ -3,7 +3,7 @@ use Rattle.layout_model.specs.Writes.{IsWrite}
 use Rattle.task_core.specs.opened.NewTasks.{writer_with, AddsTasks}
 use Rattle.run_machine.specs.Tasks.{Todo}
 use Rattle.run_machine.specs.Opened.{nodes_of}
-use Rattle.task_core.proofs.opened.Sharing.{few_writes, share_few, share_served, writer_there}
+use Rattle.task_core.proofs.opened.WritesSharedOut.{few_writes, share_few, share_served, writer_there}
 use Rattle.task_core.proofs.opening.writers.open_writer.Goals as goal
 
 pub todos_by-requires-clause-few : goal.todos_by-requires-clause-few

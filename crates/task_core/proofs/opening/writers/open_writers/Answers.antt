@@ -1,7 +1,7 @@
 use Rattle.run_machine.specs.Submissions.{rests}
 use Rattle.run_machine.specs.Tasks.{NoBio, Writer}
 use Rattle.run_machine.specs.Opened.{is_writer, todos_by, writers_of}
-use Rattle.task_core.proofs.opened.Sharing.{adds_more, kept_split, placed_more}
+use Rattle.task_core.proofs.opened.WritesSharedOut.{adds_more, kept_split, placed_more}
 use Rattle.task_core.proofs.opening.writers.open_writers.Goals as goal
 
 pub opening-preserved : goal.opening-preserved

@@ -1,5 +1,5 @@
 use Rattle.std.proofs.Common.{arith}
-use Rattle.task_core.proofs.opened.Sharing.{share_more, share_whole}
+use Rattle.task_core.proofs.opened.WritesSharedOut.{share_more, share_whole}
 use Rattle.task_core.proofs.opening.writers.todos_by.Goals as goal
 
 pub sharing-preserved : goal.sharing-preserved
