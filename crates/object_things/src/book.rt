@@ -22,10 +22,12 @@ use tick_clock::{Note, Pass};
 
 /// What is asked of a book, with the number of its writer.
 pub enum BookAsk {
+    /// A node is opened.
     Link {
         writer: u32,
         ask: Ask,
     },
+    /// The node at a place is told of an end.
     Drop {
         writer: u32,
         node: u32,
@@ -37,7 +39,9 @@ pub enum BookAsk {
 /// What a book says.
 #[derive(Drop)]
 pub enum BookSaid {
+    /// The place of the new node, or what was to go into it, with the reason.
     Linked(Result<Link, Unmade>),
+    /// What became of the node, or what was handed over, where there was no ticket.
     Dropped(Result<Dropped, Unmade>),
 }
 

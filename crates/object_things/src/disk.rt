@@ -18,17 +18,22 @@ use tick_clock::{Note, Pass};
 
 /// What is asked of a disk.
 pub enum DiskAsk {
+    /// A bio becomes the last one that waits.
     Push { el: BioElement },
     /// How many bios wait.
     Look { disk: DevId },
+    /// The bio at an index is completed, or the last one where fewer wait.
     Complete { disk: DevId, index: u64 },
 }
 
 /// What a disk says.
 #[derive(Drop)]
 pub enum DiskSaid {
+    /// The bio waits, or comes back where there was no ticket.
     Pushed(Result<(), BioElement>),
+    /// So many bios wait.
     Waiting(u64),
+    /// The index and the bio that was completed there, if one waited, or that there was no ticket.
     Completed(Result<Option<(u64, Done)>, NoTicket>),
 }
 

@@ -20,7 +20,7 @@ pub fn things_keep_histories()
 {}
 
 /// Once a draw at a thing found no ticket, none is drawn at it: no entry with a ticket follows one that was told so, and what is asked later finds
-/// the thing marked. A thing is marked only where some call was told so that no draw had failed before.
+/// the thing marked. A thing is marked only by a call that found no ticket where no draw had failed before.
 pub fn things_stay_spent()
     ensures pools { StaysSpent PoolServes PoolLooks ChoosesNone }
     ensures lists { StaysSpent ListServes ListLooks ChoosesNone }

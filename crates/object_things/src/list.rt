@@ -15,14 +15,18 @@ use tick_clock::{Note, Pass};
 
 /// What is asked of the list of a rescuer.
 pub enum ListAsk {
+    /// These bios go behind those that wait.
     Punt { dev: DevId, moved: BioList },
+    /// The first bio that waits is taken out.
     Pop { dev: DevId },
 }
 
 /// What it says.
 #[derive(Drop)]
 pub enum ListSaid {
+    /// The bios wait, or come back where there was no ticket.
     Punted(Result<(), BioList>),
+    /// The bio, if one waited, or that there was no ticket.
     Popped(Result<Option<BioElement>, NoTicket>),
 }
 

@@ -17,19 +17,25 @@ use tick_clock::{Note, Pass};
 
 /// What is asked of a pool, with its name.
 pub enum PoolAsk<P> {
+    /// An element is taken, from memory or of the spares, by a task that may wait or not.
     Take { pool: PoolId, waits: bool },
+    /// An element comes back.
     Give { pool: PoolId, el: Element<P> },
+    /// The pool is to keep this many spares.
     Resize { pool: PoolId, min: u32 },
 }
 
 /// What a pool says. A pool is of any body here, so what a take had goes with the name of the pool, by which the machine's reply is known.
 #[derive(Drop)]
 pub enum PoolSaid<P> {
+    /// What a take of this pool had, or that there was no ticket.
     Took {
         pool: PoolId,
         result: Result<Taken<P>, NoTicket>,
     },
+    /// The element is back, or comes back to the caller where there was no ticket.
     Gave(Result<(), Element<P>>),
+    /// How many elements are out, or that there was no ticket.
     Resized(Result<u64, NoTicket>),
 }
 

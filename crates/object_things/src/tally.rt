@@ -16,17 +16,24 @@ use tick_clock::{Note, Pass};
 
 /// What is asked of the tally.
 pub enum TallyAsk {
+    /// A write of the present round is done, with this status.
     Done { write: u32, status: Status },
+    /// The round behind the present one becomes the present one, if there is one.
     Next,
+    /// The present round.
     Round,
+    /// How many writes are unfinished.
     Left,
 }
 
 /// What the tally says.
 #[derive(Drop)]
 pub enum TallySaid {
+    /// It did what was asked, or found no ticket.
     Did(Result<(), NoTicket>),
+    /// The present round.
     Round(u32),
+    /// So many writes are unfinished.
     Left(u32),
 }
 

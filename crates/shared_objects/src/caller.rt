@@ -25,8 +25,8 @@ use stack_base::DevId;
 use std::sync::Wait;
 use task_core::place;
 
-/// The objects, as one task asks them: by its seats, which stay where they are, each call in a turn of its own, with a ticket where it is an
-/// event, or is refused one.
+/// The objects, as one task asks them: by its seats, which stay where they are, each call in a turn of its own. An event gets a ticket, or is
+/// told that there is none.
 #[derive(Drop)]
 pub(crate) struct Caller<'a, R: Wait> {
     pub(crate) rt: &'a R,

@@ -14,7 +14,7 @@ use crate::seats::TaskSeats;
 use std::sync::Wait;
 use task_steps::{Chooser, Step, Task};
 
-/// The objects, as one task asks them: by its seats, each call in a turn of its own, with a ticket where it is an event, or is refused one.
+/// The objects, as one task asks them: by its seats, each call in a turn of its own. An event gets a ticket, or is told that there is none.
 #[derive(Drop)]
 pub struct Desk<'a, R: Wait> {
     rt: &'a R,

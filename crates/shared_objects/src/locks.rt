@@ -32,7 +32,7 @@ pub struct Locks {
     pub disks: Vec<(DevId, SeatLock<DiskThing>)>,
     /// The books of writers.
     pub books: Vec<(u32, SeatLock<BookThing>)>,
-    /// The rounds, and the writes that are done.
+    /// The rounds: how many writes of each are left, and how each write ended.
     pub tally: SeatLock<TallyThing>,
     /// Whether each task is to note its events.
     pub trace: bool,

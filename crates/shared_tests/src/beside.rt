@@ -74,7 +74,7 @@ fn stepped(rt: &impl Wait, locks: &Locks, ran: Ran, desk: bool) -> Ran
     ensures { ran_key result ≡ ran_key ran }
 {
     if desk {
-        return turns::step_at_desk(rt, locks, ran);
+        return turns::stepped_at_desk(rt, locks, ran);
     }
     let mut ran = ran;
     ran.step(rt, locks, &mut Oldest);

@@ -43,7 +43,7 @@ fn completed(step: &Step) -> Option<u64> {
 }
 
 // What one step of a task comes to, at its desk.
-fn step_at_desk(rt: &impl Wait, shared: &Shared, ran: Ran) -> Step
+fn step_by_newest(rt: &impl Wait, shared: &Shared, ran: Ran) -> Step
     requires { ran.home ≡ shared.now.locks }
 {
     let (mut task, seats, _) = ran.parts();
@@ -61,7 +61,7 @@ fn chosen_at_desk(rt: &impl Wait, shared: Shared) -> Option<u64>
     let is_one = end_next(rt, &mut shared, true)?;
     let is_other = end_next(rt, &mut shared, true)?;
     let completer = take_next(&mut shared)?;
-    let step = step_at_desk(rt, &shared, completer);
+    let step = step_by_newest(rt, &shared, completer);
     if is_one && is_other {
         completed(&step)
     } else {

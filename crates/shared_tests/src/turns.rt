@@ -26,7 +26,7 @@ fn take_all(alloc: Global, shared: &mut Shared) -> Result<VecDeque<Ran>, AllocEr
 }
 
 /// Steps a task once, at its desk.
-pub(crate) fn step_at_desk<R: Wait>(rt: &R, locks: &Locks, ran: Ran) -> Ran
+pub(crate) fn stepped_at_desk<R: Wait>(rt: &R, locks: &Locks, ran: Ran) -> Ran
     requires { ran.home ≡ locks.now }
     ensures { ran_key result ≡ ran_key ran }
 {
@@ -49,7 +49,7 @@ fn turn<R: Wait>(
     requires { AreStillOut shared.old.told.value shared.old (ran ∷ out.old.items) }
     ensures { OnOk result (AreStillOut shared.old.told.value shared.new out.new.items) }
 {
-    let ran = step_at_desk(rt, shared.locks(), ran);
+    let ran = stepped_at_desk(rt, shared.locks(), ran);
     if ran.stopped() {
         shared.put_task(ran);
         return Ok(());

@@ -2,7 +2,7 @@ use Rattle.std.proofs.Common.{ap, sym, subst, ◌∙◌}
 use Rattle.shared_objects.specs.Holding.{DeskHolds}
 use Rattle.shared_objects.specs.Rans.{ran_key}
 use Rattle.shared_tests.proofs.AtDesks.{stands_again}
-use Rattle.shared_tests.proofs.turns.step_at_desk.Goals as goal
+use Rattle.shared_tests.proofs.turns.stepped_at_desk.Goals as goal
 
 pub of-requires : goal.of-requires
 of-requires g c =
