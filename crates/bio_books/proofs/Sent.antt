@@ -12,6 +12,7 @@ use Rattle.bio_records.proofs.bio.Bio.TheSendSync as bio
 use Rattle.bio_records.proofs.body.BioBody.TheLaws.TheKnot as knot
 use Rattle.bio_books.proofs.places.Places.TheSendSync as places
 use Rattle.bio_books.proofs.node.Role.TheSendSync as role
+use Rattle.bio_books.proofs.attachment.Attachment.TheSendSync as attachment
 use Rattle.bio_books.specs.contracts.node.Node as node
 use Rattle.bio_books.specs.contracts.book.Book as book
 
@@ -20,6 +21,7 @@ node_send = search (
   sendable,
   crosses,
   role.the_field_send,
+  attachment.the_send,
   status.the_field_send,
   segment.the_send,
   vector.the_send,

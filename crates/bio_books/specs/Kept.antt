@@ -4,7 +4,16 @@ use Rattle.slab.specs.Slab.{Slab, get, slab_len}
 use Rattle.elem_ledger.specs.declared.element.Element.{Element}
 use Rattle.bio_records.specs.declared.bio.Pad.{Pad}
 use Rattle.bio_records.specs.declared.body.BioBody.{BioBody}
-use Rattle.bio_books.specs.Views.{IsAlonePart}
+use Rattle.bio_books.specs.declared.attachment.Attachment.{Attachment}
+use Rattle.bio_books.specs.declared.attachment.Attachment.TheVariants as attachment
+use Rattle.bio_books.specs.Books.{Holding}
+use Rattle.bio_books.specs.Views.{bio_of, slip_of, vector_of, IsAlonePart}
+
+-- what a node holds that keeps this bio, and this beside it
+abbrev pub held_with : Option (Element (BioBody Pad)) → Attachment → Holding
+held_with bio attachment.Nothing = record { bio = bio_of bio; vector = None; slip = None }
+held_with bio (attachment.Vector element) = record { bio = bio_of bio; vector = vector_of (Some element); slip = None }
+held_with bio (attachment.Slip element) = record { bio = bio_of bio; vector = None; slip = slip_of (Some element) }
 
 -- an open node waits for an end, and the bio that it keeps is in no list
 pub record IsOpen (count : ℕ) (bio : Option (Element (BioBody Pad))) : Type 0 where

@@ -6,7 +6,8 @@ ghost use Rattle.bio_books.specs.Links.{Chains, Legs, Masters, Opens};
 ghost use Rattle.bio_books.specs.Drops.{Drops, IsEmpty};
 ghost use Rattle.bio_books.specs.Views.{bio_of, drop_outcome_of, linked_of, slip_item, vector_of, IsAlonePart, IsDroppedAlone, IsLinkAlone};
 
-use crate::node::{Back, ClosedNode, Keep, Lower, Node, Raise};
+use crate::node::changes::{Keep, Lower, Raise};
+use crate::node::{Back, ClosedNode, Node};
 use crate::places::Places;
 use bio_records::{BioElement, SlipElement, VecElement};
 use stack_base::Status;

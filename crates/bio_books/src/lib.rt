@@ -5,6 +5,7 @@
 //! stands. A part that names no open node is refused, and no node closes before each of its ends was told.
 #![tactic(auto)]
 
+mod attachment;
 mod book;
 pub mod laws;
 mod node;

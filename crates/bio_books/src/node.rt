@@ -1,11 +1,13 @@
 //! The nodes of a book.
-ghost use Rattle.std.specs.Prelude.{◌≡◌, ◌+◌, ◌-◌, ◌^◌, ◌<◌, ◌≤◌};
+ghost use Rattle.std.specs.Prelude.{◌≡◌, ◌≤◌, option_copied};
 ghost use Rattle.bio_records.specs.Items.{item_of, IsAlone};
-ghost use Rattle.bio_books.specs.Books.{child_node, closing, with_kept_part, kept_with, leg_node, lowered, master_node, nothing_held, parent_of, raised, told, top_node, unmastered};
-ghost use Rattle.bio_books.specs.Views.{bio_of, closed_node_of, holding_of, slip_item, vector_of, IsAlonePart};
+ghost use Rattle.bio_books.specs.Books.{child_node, closing, kept_with, leg_node, master_node, nothing_held, parent_of, told, top_node, unmastered};
+ghost use Rattle.bio_books.specs.Views.{bio_of, closed_node_of, holding_of, slip_item, slip_of, vector_of, IsAlonePart};
 ghost use Rattle.bio_books.specs.Drops.{closed_of};
 
-use crate::places::Change;
+pub mod changes;
+
+use crate::attachment::Attachment;
 use crate::statuses::{closing, kept_with};
 use bio_records::{BioElement, SlipElement, VecElement};
 use stack_base::Status;
@@ -49,23 +51,24 @@ pub enum Role {
 /// mark is its status, `io` until a leg has ended well: a mark of its own would say the same thing twice in every node.
 #[derive(Drop)]
 pub struct Node {
+    // In this order the least room is lost between them, and a node takes 72 bytes: a book touches one for each part of a write.
     role: Role,
     write: u32,
-    count: u64,
     status: Status,
-    held: Back,
+    count: u64,
+    bio: Option<BioElement>,
+    attachment: Attachment,
 }
 
 impl Model for Node {
     ghost use Rattle.bio_books.specs.Books.{Node as NodeState};
-    ghost use Rattle.bio_books.specs.Views.{holding_of};
-    ghost use Rattle.bio_books.specs.Kept.{IsOpen};
+    ghost use Rattle.bio_books.specs.Kept.{held_with, IsOpen};
 
     ghost Value = { NodeState };
 
-    ghost view = { λ n. record { role = n.role; write = n.write; count = n.count; status = n.status; held = holding_of n.held } };
+    ghost view = { λ n. record { role = n.role; write = n.write; count = n.count; status = n.status; held = held_with n.bio n.attachment } };
 
-    ghost invariant = { λ n. IsOpen n.count n.held.bio };
+    ghost invariant = { λ n. IsOpen n.count n.bio };
 }
 
 /// The place of the node that a node of a role is a child of, if it is one.
@@ -113,13 +116,10 @@ impl Node {
         Node {
             role: Role::Top,
             write,
-            count: 1,
             status: Status::Ok,
-            held: Back {
-                bio: None,
-                vector,
-                slip: None,
-            },
+            count: 1,
+            bio: None,
+            attachment: Attachment::of_vector(vector),
         }
     }
 
@@ -130,9 +130,10 @@ impl Node {
         Node {
             role: Role::Chain { parent },
             write,
-            count: 1,
             status: Status::Ok,
-            held: Back::nothing(),
+            count: 1,
+            bio: None,
+            attachment: Attachment::Nothing,
         }
     }
 
@@ -146,13 +147,10 @@ impl Node {
         Node {
             role: Role::Master { parent },
             write,
-            count: u64::from(legs),
             status: Status::Io,
-            held: Back {
-                bio: None,
-                vector: None,
-                slip: Some(slip),
-            },
+            count: u64::from(legs),
+            bio: None,
+            attachment: Attachment::Slip(slip),
         }
     }
 
@@ -163,9 +161,10 @@ impl Node {
         Node {
             role: Role::Leg { parent },
             write,
-            count: 1,
             status: Status::Ok,
-            held: Back::nothing(),
+            count: 1,
+            bio: None,
+            attachment: Attachment::Nothing,
         }
     }
 
@@ -183,12 +182,32 @@ impl Node {
         self.status
     }
 
-    /// The elements that it holds.
-    pub fn held(&self) -> &Back
-        ensures held { holding_of result.now ≡ self.now.held }
-        ensures alone { IsAlonePart result.now.bio }
+    /// The part that it keeps, if it keeps one.
+    pub fn bio(&self) -> Option<&BioElement>
+        ensures bio { bio_of (option_copied result) ≡ self.now.held.bio }
+        ensures alone { IsAlonePart (option_copied result) }
     {
-        &self.held
+        self.bio.as_ref()
+    }
+
+    /// The record of the mirror that it keeps, if it is a master.
+    pub fn slip(&self) -> Option<&SlipElement>
+        ensures { slip_of (option_copied result) ≡ self.now.held.slip }
+    {
+        match &self.attachment {
+            Attachment::Slip(element) => Some(element),
+            Attachment::Nothing | Attachment::Vector(_) => None,
+        }
+    }
+
+    /// The vector that it keeps, if it is the top node of a write that has one.
+    pub fn vector(&self) -> Option<&VecElement>
+        ensures { vector_of (option_copied result) ≡ self.now.held.vector }
+    {
+        match &self.attachment {
+            Attachment::Vector(element) => Some(element),
+            Attachment::Nothing | Attachment::Slip(_) => None,
+        }
     }
 
     /// How many ends it waits for.
@@ -214,7 +233,7 @@ impl Node {
     {
         self.status = kept_with(self.role, self.status, status);
         if part.is_some() {
-            self.held.bio = part;
+            self.bio = part;
         }
     }
 
@@ -223,8 +242,12 @@ impl Node {
         ensures held { holding_of result ≡ self.held }
         ensures alone { IsAlonePart result.bio }
     {
-        let Node { held, .. } = self;
-        held
+        let Node {
+            bio,
+            attachment,
+            ..
+        } = self;
+        attachment.into_held(bio)
     }
 
     /// What is left of it as it closes.
@@ -236,64 +259,15 @@ impl Node {
             role,
             write,
             status,
-            held,
+            bio,
+            attachment,
             ..
         } = self;
         ClosedNode {
-            held,
+            held: attachment.into_held(bio),
             parent: parent_of(role),
             write,
             status: closing(role, status),
         }
-    }
-}
-
-/// A node gets a child, and waits for it (`bio_inc_remaining`, `block/bio.c`).
-#[derive(Drop)]
-pub struct Raise;
-
-impl Change<Node> for Raise {
-    ghost applies = { λ _ node. node.count < 2 ^ 64 - 1 };
-
-    ghost after = { λ _. raised };
-
-    fn change(self, node: &mut Node) {
-        node.count += 1;
-    }
-}
-
-/// A node keeps a part.
-#[derive(Drop)]
-pub struct Keep {
-    pub part: BioElement,
-}
-
-impl Change<Node> for Keep {
-    ghost applies = { λ keep _. IsAlone keep.part };
-
-    ghost after = { λ keep. with_kept_part (item_of keep.part) };
-
-    fn change(self, node: &mut Node) {
-        node.held.bio = Some(self.part);
-    }
-}
-
-/// A node is told of an end that is not its last (`bio_remaining_done`, `block/bio.c`).
-#[derive(Drop)]
-pub struct Lower {
-    pub status: Status,
-    pub part: Option<BioElement>,
-}
-
-impl Change<Node> for Lower {
-    ghost applies = { λ end node. (1 < node.count) × IsAlonePart end.part };
-
-    ghost after = { λ end node. lowered (told node end.status (bio_of end.part)) };
-
-    #[inline(always)] // as `alter`
-    fn change(self, node: &mut Node) {
-        let Lower { status, part } = self;
-        node.tell(status, part);
-        node.count -= 1;
     }
 }

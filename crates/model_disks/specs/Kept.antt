@@ -26,10 +26,10 @@ pub record IsSoundDisk (sectors : ℕ) (bads : List Bad) (items : List (Item Pad
   pub bad : All (IsBadRange sectors) bads
   pub pending : All (IsWithin sectors) items
 
--- the first bios that wait, side by side in a window of this size, and the list of those behind them
-pub record IsWindow (size room : ℕ) (window : List (Element (BioBody Pad))) (rest : List (Item Pad)) : Type 0 where
-  pub alone : All IsAlone window
-  pub few : length window ≤ size
+-- the first of some bios, side by side in a front of this size, for which there is room, and those behind them
+pub record IsFront (size room : ℕ) (front : List (Element (BioBody Pad))) (rest : List (Item Pad)) : Type 0 where
+  pub alone : All IsAlone front
+  pub few : length front ≤ size
   pub fits : size ≤ room
-  -- the list is empty unless the window is full
-  pub full : length window < size → rest ≡ []
+  -- none is behind them unless the front is full
+  pub full : length front < size → rest ≡ []

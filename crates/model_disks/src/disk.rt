@@ -82,7 +82,7 @@ impl Disk {
             dev,
             bad: bad.to_vec(alloc)?,
             image: Image::zeros(alloc, sectors)?,
-            pending: Pending::new(alloc)?,
+            pending: Pending::new(alloc, sectors)?,
         })
     }
 

@@ -7,6 +7,7 @@
 #![tactic(auto)]
 
 mod append;
+mod backlog;
 mod disk;
 pub mod fault;
 mod flags;

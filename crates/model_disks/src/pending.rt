@@ -2,8 +2,9 @@
 ghost use Rattle.std.specs.Prelude.{◌≡◌, ◌++◌, ◌-◌, ◌^◌, ◌<◌, [], ◌∷◌, IfOk, Some, length, map, min, remove, reverse, slice_get};
 ghost use Rattle.bio_records.specs.Items.{item_of, plain_of, IsAlone};
 
+use crate::backlog::Backlog;
 use crate::walk::Waiting;
-use bio_records::{BioElement, BioList, Bios};
+use bio_records::{BioElement, Bios};
 use std::alloc::{AllocError, Global};
 use std::marker::Model;
 
@@ -12,8 +13,8 @@ const WINDOW: usize = 64;
 
 /// The bios that wait in a disk, in the order of their pushes, seen as a list.
 ///
-/// The first of them stand in a window, side by side, and those behind them in a list that is linked through their own boxes. To take one out of
-/// the window moves the pointers behind it, and touches no other bio's memory but that of the list's front, which comes in behind them.
+/// The first of them stand in a window, side by side, and those behind them in a backlog. To take one out of the window moves the pointers behind
+/// it, and the first of the backlog comes in behind them. No other bio's memory is touched, but that of the backlog's list where its ring is full.
 ///
 /// The window is a vector with reserved room, not an `ArrayVec`, which wants a blank for each empty place: an element is two words here, and a
 /// disk that is moved stays small.
@@ -21,21 +22,21 @@ pub struct Pending {
     // Its room is reserved at the opening. Each bio in it is in no list.
     window: Vec<BioElement>,
     // It is empty unless the window is full.
-    rest: BioList,
+    rest: Backlog,
 }
 
 impl Model for Pending {
     ghost use Rattle.std.specs.Prelude.{◌++◌, List, map, vec_capacity};
     ghost use Rattle.bio_records.specs.declared.bio.Pad.{Pad};
     ghost use Rattle.bio_records.specs.Items.{Item, item_of};
-    ghost use Rattle.model_disks.specs.Kept.{IsWindow};
+    ghost use Rattle.model_disks.specs.Kept.{IsFront};
     ghost use Rattle.model_disks.specs.declared.pending.TheConstants.{WINDOW};
 
     ghost Value = { List (Item Pad) };
 
     ghost view = { λ p. map item_of p.window.items ++ p.rest };
 
-    ghost invariant = { λ p. IsWindow WINDOW (vec_capacity p.window) p.window.items p.rest };
+    ghost invariant = { λ p. IsFront WINDOW (vec_capacity p.window) p.window.items p.rest };
 }
 
 // By hand, as that of `Disk`.
@@ -48,17 +49,17 @@ impl Drop for Pending {
 }
 
 impl Pending {
-    /// No bio.
+    /// No bio, with room for one for each of so many sectors behind the window. Where more come, they are linked through their own boxes.
     ///
     /// # Errors
     ///
-    /// Where there is no memory for the window.
-    pub fn new(alloc: Global) -> Result<Pending, AllocError>
+    /// Where there is no memory for that room.
+    pub fn new(alloc: Global, sectors: u64) -> Result<Pending, AllocError>
         ensures { IfOk result (λ pending. pending ≡ []) }
     {
         Ok(Pending {
             window: Vec::with_capacity(alloc, WINDOW)?,
-            rest: BioList::new(),
+            rest: Backlog::new(alloc, sectors)?,
         })
     }
 
@@ -81,12 +82,13 @@ impl Pending {
         }
     }
 
-    /// The bios, to be looked at: those of the window and of the list's front in their order, and those behind them, the last one first.
+    /// The bios, to be looked at: most of them in their order, and those behind them, the last one first.
     pub fn walk(&self) -> (Waiting<'_>, Bios<'_>)
         ensures { result.0 ++ reverse result.1 ≡ map plain_of self.now }
     {
-        let (front, back) = self.rest.walk();
-        (Waiting::new(&self.window, front), back)
+        let (ring, wrapped, list) = self.rest.as_parts();
+        let (front, back) = list.walk();
+        (Waiting::new(&self.window, ring, wrapped, front), back)
     }
 
     /// Takes the bio at a place out. The others keep their order.

@@ -6,11 +6,13 @@ ghost use Rattle.bio_records.specs.Items.{item_of, plain_body, plain_of};
 use bio_records::{BioBody, BioElement, Bios, Pad};
 use std::marker::Model;
 
-/// Some of the bios that wait in a disk, one after the other, seen as the list of those that are left: first those that stand side by side, and
-/// then those of a list.
+/// Some of the bios that wait in a disk, one after the other, seen as the list of those that are left: first those that stand side by side, in
+/// three parts, and then those of a list.
 #[derive(Drop)]
 pub struct Waiting<'a> {
     window: &'a [BioElement],
+    ring: &'a [BioElement],
+    wrapped: &'a [BioElement],
     rest: Bios<'a>,
 }
 
@@ -20,15 +22,25 @@ impl<'a> Model for Waiting<'a> {
 
     ghost Value = { List PlainBio };
 
-    ghost view = { λ w. map plain_of (map item_of w.window.now) ++ w.rest };
+    ghost view = { λ w. map plain_of (map item_of (w.window.now ++ w.ring.now ++ w.wrapped.now)) ++ w.rest };
 }
 
 impl<'a> Waiting<'a> {
-    /// The bios of a window, and then those of a list.
-    pub(crate) fn new(window: &'a [BioElement], rest: Bios<'a>) -> Waiting<'a>
-        ensures { result ≡ map plain_of (map item_of window.now) ++ rest.entry }
+    /// The bios of a window, of the two parts of a ring, and then those of a list.
+    pub(crate) fn new(
+        window: &'a [BioElement],
+        ring: &'a [BioElement],
+        wrapped: &'a [BioElement],
+        rest: Bios<'a>,
+    ) -> Waiting<'a>
+        ensures { result ≡ map plain_of (map item_of (window.now ++ ring.now ++ wrapped.now)) ++ rest.entry }
     {
-        Waiting { window, rest }
+        Waiting {
+            window,
+            ring,
+            wrapped,
+            rest,
+        }
     }
 }
 
@@ -40,12 +52,18 @@ impl<'a> Iterator for Waiting<'a> {
     ghost remaining = { item_count (λ rest. rest) };
 
     fn next(&mut self) -> Option<&'a BioBody<Pad>> {
-        match self.window.split_first() {
-            Some((first, others)) => {
-                self.window = others;
-                Some(&first.body)
-            }
-            None => self.rest.next(),
+        if let Some((first, others)) = self.window.split_first() {
+            self.window = others;
+            return Some(&first.body);
         }
+        if let Some((first, others)) = self.ring.split_first() {
+            self.ring = others;
+            return Some(&first.body);
+        }
+        if let Some((first, others)) = self.wrapped.split_first() {
+            self.wrapped = others;
+            return Some(&first.body);
+        }
+        self.rest.next()
     }
 }

@@ -136,11 +136,11 @@ fn shown(book: &Book, places: &Places, number: usize) -> Answer {
     let Some(node) = book.node(place_of(places, number)) else {
         return Answer::Stray;
     };
-    let write = match &node.held().bio {
+    let write = match node.bio() {
         Some(element) => Some(element.body.bio.write),
         None => None,
     };
-    let legs = match &node.held().slip {
+    let legs = match node.slip() {
         Some(element) => Some(element.body.legs),
         None => None,
     };

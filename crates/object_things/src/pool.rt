@@ -21,7 +21,7 @@ pub enum PoolAsk<P> {
     Take { pool: PoolId, waits: bool },
     /// An element comes back.
     Give { pool: PoolId, el: Element<P> },
-    /// The pool is to keep this many spares.
+    /// The reserve becomes this many elements, where none is out.
     Resize { pool: PoolId, min: u32 },
 }
 
@@ -35,7 +35,7 @@ pub enum PoolSaid<P> {
     },
     /// The element is back, or comes back to the caller where there was no ticket.
     Gave(Result<(), Element<P>>),
-    /// How many elements are out, or that there was no ticket.
+    /// How many elements are out (the reserve stays where any is), or that there was no ticket.
     Resized(Result<u64, NoTicket>),
 }
 

@@ -46,7 +46,7 @@ pub struct Closed {
     pub disks: Vec<Shut<DiskThing>>,
     /// The books of writers.
     pub books: Vec<(u32, Shut<BookThing>)>,
-    /// The rounds: how many writes of each are left, and how each write ended.
+    /// The rounds: how many writes of each are left, and how each write that is done ended.
     pub tally: Shut<TallyThing>,
     /// What was shared. It has no bytes here.
     pub told: Snapshot<Opened>,

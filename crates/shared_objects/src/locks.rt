@@ -32,7 +32,7 @@ pub struct Locks {
     pub disks: Vec<(DevId, SeatLock<DiskThing>)>,
     /// The books of writers.
     pub books: Vec<(u32, SeatLock<BookThing>)>,
-    /// The rounds: how many writes of each are left, and how each write ended.
+    /// The rounds: how many writes of each are left, and how each write that is done ended.
     pub tally: SeatLock<TallyThing>,
     /// Whether each task is to note its events.
     pub trace: bool,

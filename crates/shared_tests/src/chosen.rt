@@ -42,7 +42,7 @@ fn completed(step: &Step) -> Option<u64> {
     }
 }
 
-// What one step of a task comes to, at its desk.
+// What one step of a task comes to, at its desk, by a chooser that names the newest bio.
 fn step_by_newest(rt: &impl Wait, shared: &Shared, ran: Ran) -> Step
     requires { ran.home ≡ shared.now.locks }
 {

@@ -1,10 +1,10 @@
 -- A bio that is taken out of the window, or out of the list behind it.
-use Rattle.std.proofs.Common.{◌≡◌, ◌++◌, ◌-◌, length, map, sym, ap, ◌∙◌, arith}
+use Rattle.std.proofs.Common.{◌≡◌, ◌++◌, ◌-◌, length, map, refl, sym, ap, ◌∙◌, arith}
 use Rattle.std.specs.Prelude.{remove, slice_get}
 use Rattle.std.specs.Vec.{vec_capacity}
 use Rattle.bio_records.specs.Items.{item_of}
 use Rattle.model_disks.specs.declared.pending.TheConstants.{WINDOW}
-use Rattle.model_disks.proofs.PendingLemmas.{taken_far, stands_near, taken_near, moved_up, window_moved_up}
+use Rattle.model_disks.proofs.PendingLemmas.{taken_far, stands_near, taken_near, moved_up, front_moved_up}
 use Rattle.model_disks.proofs.pending.Pending.take_at.Goals as goal
 
 pub returns-then-index-near-clause-rest : goal.returns-then-index-near-clause-rest
@@ -18,9 +18,9 @@ returns-then-index-near-clause-rest c =
 pub invariant_of-self-in-Some : goal.invariant_of-self-in-Some
 invariant_of-self-in-Some c =
     let was = c.self.inside in
-    window_moved_up WINDOW (vec_capacity was.window) (vec_capacity c.push_reserved.new.self) was.window.items c.remove-el.new.self.items
+    front_moved_up WINDOW (vec_capacity was.window) WINDOW (vec_capacity c.push_reserved.new.self) was.window.items c.remove-el.new.self.items
     c.push_reserved.new.self.items was.rest c.pop.new.self c.args.index c.in-Some.next c.self.invariant (omega arith)
-    c.remove-el.ensures.items c.push_reserved.ensures.items c.in-Some.ensures.0 c.in-Some.ensures.1 (omega arith)
+    c.remove-el.ensures.items c.push_reserved.ensures.items c.in-Some.ensures.0 c.in-Some.ensures.1 refl (omega arith)
 
 pub returns-in-Some-clause-taken : goal.returns-in-Some-clause-taken
 returns-in-Some-clause-taken c =
