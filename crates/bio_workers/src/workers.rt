@@ -64,6 +64,7 @@ impl<'a, G: Gate> Work<Ran> for Crew<'a, G> {
         task.number()
     }
 
+    #[inline(never)] // a visit calls it at two places, and what the step came to is known here, where it was made
     fn step<R: Wait>(&self, rt: &R, task: &mut Ran) -> WorkOutcome {
         let id = task.id();
         self.gate.before(id);

@@ -50,6 +50,7 @@ impl<'a, R: Wait> Desk<'a, R> {
     }
 
     /// The next step of the task whose desk it is. What the desk tells of it is kept in the task's calls.
+    #[inline(always)] // as `Caller::step`
     pub fn step<C: Chooser>(&mut self, task: &mut Task, chooser: &mut C) -> Step
         requires holds { DeskHolds self.old.locks.now self.old.seats }
         requires routing { task.old.routing ≡ (stage_at self.old.locks.now).routing }

@@ -100,6 +100,7 @@ impl Ran {
     }
 
     /// Steps the task once, where it stands, at the locks that its seats are of. Where that is wanted, it notes its event, with the ticket.
+    #[inline(always)] // as `Caller::step`
     pub fn step<R: Wait, C: Chooser>(&mut self, rt: &R, locks: &Locks, chooser: &mut C) -> Step
         requires home { self.old.home ≡ locks.now }
         ensures turns { TurnsWith locks.now self.old.task self.old.seats self.new.task self.new.seats result }

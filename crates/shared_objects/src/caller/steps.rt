@@ -10,6 +10,7 @@ use task_steps::{Chooser, Step, Task};
 
 impl<'a, R: Wait> Caller<'a, R> {
     // The next step of the task whose seats they are.
+    #[inline(always)] // what the step came to is then in registers where its event is noted, and is not read from where it was just written
     pub(crate) fn step<C: Chooser>(&mut self, task: &mut Task, chooser: &mut C) -> Step
         requires holds { DeskHolds self.old.locks.now self.old.seats.now }
         requires routing { task.old.routing ≡ (stage_at self.old.locks.now).routing }
