@@ -2,13 +2,17 @@
 use std::sync::Wait;
 use std::sync::atomic::{AtomicU64, Ordering};
 
-/// A bell: who changed something rings, and who found nothing to do waits until it rings.
+/// A bell: who changed something rings. Who found nothing to do listens, looks round once more, and waits until it rings.
 ///
-/// No clause says that anybody is woken. Why no ring is lost: a change is rung after it was made, and a worker reads the bell (`heard`)
-/// before it looks round (every step on a word stands in one order of all threads).
+/// It rings only where somebody listens: an event that nobody waits for is one look at a word, which no thread changes then, and no step that all
+/// processors must see.
 ///
-/// - A change that was rung before `heard` was read was made before the worker looked round, so it was seen.
-/// - A change that is rung later makes `rings` another number than `heard`. The ringer then reads `waiters`.
+/// No clause says that anybody is woken. Why no ring is lost: a change is rung after it was made, and a worker listens before it looks round
+/// (every step on a word, those of an object's lock too, stands in one order of all threads).
+///
+/// - Where the ringer finds that a worker does not listen, that worker begins to listen later than the change, so it sees it when it looks round.
+/// - Where it finds that the worker listens, it makes `rings` another number. A worker that read the bell later looks round later than the change.
+///   For one that read it before, that is another number than it heard. The ringer then reads `sleepers`.
 ///   Where it finds some, it wakes all that sleep, and who is about to sleep finds another number.
 ///   Where it finds none, the worker counts itself only after that read, hence after the ring: so it finds another number, and does not sleep.
 ///
@@ -21,8 +25,10 @@ use std::sync::atomic::{AtomicU64, Ordering};
 pub struct Bell {
     // How often it rang, modulo 2^64.
     rings: AtomicU64,
-    // How many workers sleep, or are about to.
-    waiters: AtomicU64,
+    // How many workers listen.
+    listeners: AtomicU64,
+    // How many of them sleep, or are about to.
+    sleepers: AtomicU64,
 }
 
 impl Bell {
@@ -30,29 +36,43 @@ impl Bell {
     pub fn new() -> Bell {
         Bell {
             rings: AtomicU64::new(0),
-            waiters: AtomicU64::new(0),
+            listeners: AtomicU64::new(0),
+            sleepers: AtomicU64::new(0),
         }
     }
 
-    /// How often it rang so far. A worker reads it before it looks round.
-    pub fn heard(&self) -> u64 {
+    /// Begins to listen, and tells how often it rang so far. A worker does so before it looks round once more.
+    pub fn listen(&self) -> u64 {
+        self.listeners.fetch_add(1, Ordering::SeqCst);
         self.rings.load(Ordering::SeqCst)
     }
 
-    /// Rings, and wakes all that wait. It makes no system call where none does.
+    /// Listens no more.
+    pub fn leave(&self) {
+        self.listeners.fetch_sub(1, Ordering::SeqCst);
+    }
+
+    /// Rings where somebody listens, and wakes all that wait. It makes no system call where none does.
     pub fn ring(&self) {
+        if self.listeners.load(Ordering::SeqCst) != 0 {
+            self.ring_out();
+        }
+    }
+
+    // Rings, and wakes all that wait.
+    fn ring_out(&self) {
         self.rings.fetch_add(1, Ordering::SeqCst);
-        if self.waiters.load(Ordering::SeqCst) != 0 {
+        if self.sleepers.load(Ordering::SeqCst) != 0 {
             self.rings.wake_all();
         }
     }
 
-    /// Waits until it has rung more often than was heard. It may return for no reason, so who calls it looks round again.
+    /// Waits until it has rung more often than was heard, by one who listens. It may return for no reason, so who calls it looks round again.
     pub fn wait<R: Wait>(&self, rt: &R, heard: u64) {
-        self.waiters.fetch_add(1, Ordering::SeqCst);
-        if self.heard() == heard {
+        self.sleepers.fetch_add(1, Ordering::SeqCst);
+        if self.rings.load(Ordering::SeqCst) == heard {
             self.rings.park(rt, (heard % (1 << 32)) as u32);
         }
-        self.waiters.fetch_sub(1, Ordering::SeqCst);
+        self.sleepers.fetch_sub(1, Ordering::SeqCst);
     }
 }

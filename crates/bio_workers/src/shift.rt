@@ -41,8 +41,21 @@ impl<'a, W> Shift<'a, W> {
         came
     }
 
-    // Sweeps until no task goes on. It sleeps only where a whole sweep since it read the bell met nothing, and some task may go on once
-    // others did.
+    // Sweeps once more, and listens meanwhile. It sleeps only where that sweep too met nothing, and some task may go on once others did.
+    fn look_again<T: Drop, R: Wait>(&self, rt: &R, tasks: &mut Few<T>)
+    where
+        W: Work<T>,
+        requires { All (W.can self.now.work.now) (map W.key tasks.old) }
+        ensures { map W.key tasks.new ≡ map W.key tasks.old }
+    {
+        let heard = self.bell.listen();
+        if self.sweep(rt, tasks) == WorkOutcome::Nothing {
+            self.bell.wait(rt, heard);
+        }
+        self.bell.leave();
+    }
+
+    // Sweeps until no task goes on. Who met nothing looks once more before it sleeps.
     fn finish<T: Drop, R: Wait>(&self, rt: &R, tasks: &mut Few<T>)
     where
         W: Work<T>,
@@ -51,10 +64,9 @@ impl<'a, W> Shift<'a, W> {
         ensures over { All W.is_over tasks.new }
     {
         for _ in rt.forever() {
-            let heard = self.bell.heard();
             match self.sweep(rt, tasks) {
                 WorkOutcome::Happened => {}
-                WorkOutcome::Nothing => self.bell.wait(rt, heard),
+                WorkOutcome::Nothing => self.look_again(rt, tasks),
                 WorkOutcome::Over => return,
             }
         }
